@@ -1,0 +1,114 @@
+-- A call's inputs, and what the two tracks take of them (document 01, "Sizes and lent parts" and "Taken and left").
+use Prim.Native.Nat.{ℕ, zero, suc, _+_, _-_, _*_, _/_, min}
+use mathlib.Core.Bool.{Bool, true, false, _&&_, cond}
+use mathlib.Core.List.{List, [], _∷_, map}
+use lib.ListN.{length, getD, take, drop}
+use lib.Dec.{eqb}
+use lib.Ieee.{Float, nan, inf, fin}
+use Rattle.definition.specs.Num.{0ᶠ, 1ᶠ, matrix}
+use Rattle.definition.specs.Dense.{product, transpose, symmetrise}
+use Rattle.definition.specs.Run.{anyOf, count, chunks}
+use Rattle.definition.specs.Cov.{System, Cov}
+use Rattle.definition.specs.Mean.{Frame}
+
+-- the sizes, the design once (zOnce) or as a list (zList), H, T, R, Q; the flags and P* of the start
+pub record Model : Type 0 where
+  pub p : ℕ
+  pub m : ℕ
+  pub r : ℕ
+  pub n : ℕ
+  pub zOnce : List Float
+  pub zList : List Float
+  pub h : List Float
+  pub t : List Float
+  pub rr : List Float
+  pub q : List Float
+  pub flags : List ℕ
+  pub pStar : List Float
+
+-- what only the means go by: c, d and a1
+pub record Offsets : Type 0 where
+  pub c : List Float
+  pub d : List Float
+  pub a1 : List Float
+
+-- all that the refusals and the covariances see of a reading
+pub data Kind : Type 0 where
+  gap infinite finite : Kind
+
+unfoldable pub kindOf : Float → Kind
+kindOf nan = gap
+kindOf (inf s) = infinite
+kindOf (fin s m e) = finite
+
+abbrev pub isGap : Kind → Bool
+isGap gap = true
+isGap infinite = false
+isGap finite = false
+
+abbrev pub isInfinity : Kind → Bool
+isInfinity gap = false
+isInfinity infinite = true
+isInfinity finite = false
+
+-- the readings by period: which are gaps
+unfoldable pub gapRows : ℕ → ℕ → List Kind → List (List Bool)
+gapRows n p ks = chunks n p (map isGap ks)
+
+-- ---- the design of period t: the constant one, or entry t of the list, or the last once the list has run out
+
+unfoldable pub designFrom : ℕ → ℕ → List Float → List Float → ℕ → List Float
+designFrom p m zOnce zList t =
+    let k = p * m in
+    let part = take k (drop (min t (length zList / k - 1) * k) zList) in
+    cond (eqb (length zList) 0) zOnce part
+
+-- ---- R Q R' as (R Q) R', symmetrised
+
+unfoldable pub noiseOf : ℕ → ℕ → List Float → List Float → List Float
+noiseOf m r rr q = symmetrise m (product m r m (product m r r rr q) (transpose m r rr))
+
+unfoldable pub noise : Model → List Float
+noise x = noiseOf (x .m) (x .r) (x .rr) (x .q)
+
+-- ---- what the covariances go by, and the means
+
+unfoldable pub systemFrom : ℕ → ℕ → List Float → List Float → List Float → List Float → List Float → System
+systemFrom p m zOnce zList h t rqr =
+    record { p = p; m = m; designAt = designFrom p m zOnce zList; transitionAt = λ k. t; h = h; rqr = rqr }
+
+unfoldable pub frameFrom : ℕ → ℕ → List Float → List Float → List Float → Frame
+frameFrom p m zOnce zList t = record { m = m; designAt = designFrom p m zOnce zList; transitionAt = λ k. t }
+
+unfoldable pub systemOf : Model → System
+systemOf x = systemFrom (x .p) (x .m) (x .zOnce) (x .zList) (x .h) (x .t) (noise x)
+
+unfoldable pub frameOf : Model → Frame
+frameOf x = frameFrom (x .p) (x .m) (x .zOnce) (x .zList) (x .t)
+
+-- ---- the start: P* as given; P∞ is 1 on the diagonal at each flag; column j of its root belongs to the j-th flagged state (diffuse_root)
+
+abbrev pub isFlagged : List ℕ → ℕ → Bool
+isFlagged flags i = eqb (getD flags i 0) 1
+
+unfoldable pub flagsBefore : List ℕ → ℕ → ℕ
+flagsBefore flags i = count (eqb 1) (take i flags)
+
+unfoldable pub startInfAt : List ℕ → ℕ → ℕ → Float
+startInfAt flags i j = cond (eqb i j && isFlagged flags i) 1ᶠ 0ᶠ
+
+unfoldable pub startInf : ℕ → List ℕ → List Float
+startInf m flags = matrix m m (startInfAt flags)
+
+unfoldable pub startRootAt : List ℕ → ℕ → ℕ → Float
+startRootAt flags i j = cond (isFlagged flags i && eqb (flagsBefore flags i) j) 1ᶠ 0ᶠ
+
+unfoldable pub startRoot : ℕ → List ℕ → List Float
+startRoot m flags = matrix m m (startRootAt flags)
+
+unfoldable pub startFrom : ℕ → List Float → List ℕ → Cov
+startFrom m pStar flags =
+    record { star = pStar; pinf = startInf m flags; root = startRoot m flags; unres = startInf m flags; live = anyOf (eqb 1) flags }
+
+unfoldable pub startOf : Model → Cov
+startOf x = startFrom (x .m) (x .pStar) (x .flags)

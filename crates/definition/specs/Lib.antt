@@ -1,0 +1,13 @@
+pub mod Num
+pub mod Run
+pub mod Dense
+pub mod Root
+pub mod Log
+pub mod Star
+pub mod Cov
+pub mod Mean
+pub mod Smooth
+pub mod Inputs
+pub mod Refusals
+pub mod Parts
+pub mod Outcome

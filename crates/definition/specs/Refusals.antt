@@ -1,0 +1,122 @@
+-- Document 01's refusals 1 to 11: each one's condition, and the number of the first that applies. (12 is Outcome's: it is judged after the run.)
+-- A zero is either zero, and is not below 0.
+use Prim.Native.Nat.{ℕ, zero, suc, _+_, _*_, _/_}
+use mathlib.Core.Bool.{Bool, true, false, not, _&&_, _||_, cond}
+use mathlib.Core.List.{List, [], _∷_}
+use lib.ListN.{length, getD}
+use lib.Dec.{leb, ltb, eqb}
+use lib.Ieee.{Float, eq}
+use Rattle.definition.specs.Num.{_>ᶠ_, 0ᶠ, isZero, isFinite, at, ent}
+use Rattle.definition.specs.Run.{anyOf, anyTo}
+use Rattle.definition.specs.Inputs.{Model, Offsets, isFlagged, noise}
+
+-- 1 Dimension: p, m, r or n outside its range
+abbrev pub beyond : ℕ → ℕ → Bool
+beyond top k = eqb k 0 || ltb top k
+
+unfoldable pub outside : ℕ → ℕ → ℕ → ℕ → Bool
+outside p m r n = beyond 8 p || beyond 8 m || beyond 8 r || beyond 4096 n
+
+-- 2 Length. Exactly one design list is non-empty: the constant one, of p m numbers, or 1 to 4096 listed ones
+unfoldable pub designFits : ℕ → ℕ → ℕ → Bool
+designFits pm once list =
+    (eqb once pm && eqb list 0) || (eqb once 0 && eqb list (list / pm * pm) && not (eqb (list / pm) 0) && leb (list / pm) 4096)
+
+-- the inputs' lengths: Z, Zs, H, T, R, Q, c, d, a1, P*, flags
+unfoldable pub inputsFit : Model → Offsets → Bool
+inputsFit x o =
+    let p = x .p in
+    let m = x .m in
+    let r = x .r in
+    designFits (p * m) (length (x .zOnce)) (length (x .zList)) && eqb (length (x .h)) (p * p) && eqb (length (x .t)) (m * m)
+    && eqb (length (x .rr)) (m * r) && eqb (length (x .q)) (r * r) && eqb (length (o .c)) m && eqb (length (o .d)) p
+    && eqb (length (o .a1)) m && eqb (length (x .pStar)) (m * m) && eqb (length (x .flags)) m
+
+-- `readings`: how many there are; `room`: each output is at least as long as needed
+unfoldable pub badLength : Model → Offsets → ℕ → Bool → Bool
+badLength x o readings room = not (inputsFit x o && eqb readings (x .n * x .p) && room)
+
+-- 3 NonFiniteSystem and 6 NonFiniteStart
+abbrev pub unfit : Float → Bool
+unfit x = not (isFinite x)
+
+abbrev pub notFinite : List Float → Bool
+notFinite a = anyOf unfit a
+
+unfoldable pub badSystem : Model → Bool
+badSystem x = notFinite (x .zOnce) || notFinite (x .zList) || notFinite (x .h) || notFinite (x .t) || notFinite (x .rr) || notFinite (x .q)
+
+unfoldable pub badStart : Model → Offsets → Bool
+badStart x o = notFinite (o .c) || notFinite (o .d) || notFinite (o .a1) || notFinite (x .pStar)
+
+-- 4 NotPsd: a diagonal entry of H or Q is below 0
+unfoldable pub negativeAt : ℕ → List Float → ℕ → Bool
+negativeAt k a i = 0ᶠ >ᶠ ent k a i i
+
+unfoldable pub negative : ℕ → List Float → Bool
+negative k a = anyTo k (negativeAt k a)
+
+unfoldable pub notPsd : Model → Bool
+notPsd x = negative (x .p) (x .h) || negative (x .r) (x .q)
+
+-- 5 QNotDiagonal and 8 NonDiagonalH: an entry off the diagonal is not 0
+unfoldable pub offAt : ℕ → List Float → ℕ → ℕ → Bool
+offAt k a i j = not (eqb i j) && not (isZero (ent k a i j))
+
+unfoldable pub offRow : ℕ → List Float → ℕ → Bool
+offRow k a i = anyTo k (offAt k a i)
+
+unfoldable pub offDiagonal : ℕ → List Float → Bool
+offDiagonal k a = anyTo k (offRow k a)
+
+-- 7 StartShape: a flag above 1; P* not mirrored as numbers, or with a negative diagonal entry; a flagged state with non-zero a1 or a non-zero
+-- P* row or column. (Each place (i, j) is looked at, so where P* is mirrored a flagged row is a flagged column too.)
+unfoldable pub shapeAt : ℕ → List Float → List ℕ → ℕ → ℕ → Bool
+shapeAt m p flags i j =
+    not (eq (ent m p i j) (ent m p j i)) || (isFlagged flags i && not (isZero (ent m p i j) && isZero (ent m p j i)))
+
+unfoldable pub shapeRow : ℕ → List Float → List ℕ → ℕ → Bool
+shapeRow m p flags i = anyTo m (shapeAt m p flags i)
+
+unfoldable pub shapeOf : ℕ → List Float → List ℕ → List Float → ℕ → Bool
+shapeOf m p flags a1 i = negativeAt m p i || (isFlagged flags i && not (isZero (at a1 i))) || shapeRow m p flags i
+
+abbrev pub badFlag : ℕ → Bool
+badFlag b = ltb 1 b
+
+unfoldable pub startShape : ℕ → List Float → List ℕ → List Float → Bool
+startShape m p flags a1 = anyOf badFlag flags || anyTo m (shapeOf m p flags a1)
+
+-- 10 MixedDriven: T at (unflagged, flagged) is not 0
+unfoldable pub drivenAt : ℕ → List Float → List ℕ → ℕ → ℕ → Bool
+drivenAt m t flags i j = not (isFlagged flags i) && isFlagged flags j && not (isZero (ent m t i j))
+
+unfoldable pub drivenRow : ℕ → List Float → List ℕ → ℕ → Bool
+drivenRow m t flags i = anyTo m (drivenAt m t flags i)
+
+unfoldable pub mixedDriven : ℕ → List Float → List ℕ → Bool
+mixedDriven m t flags = anyTo m (drivenRow m t flags)
+
+-- the number of the first test that holds; 0 for none
+unfoldable pub firstOf : List (ℕ × Bool) → ℕ
+firstOf [] = 0
+firstOf (e ∷ es) = let rest = firstOf es in cond (e .1) (e .0) rest
+
+-- The table of document 01, in its order. Of the readings: how many, and whether one is infinite (9 InfiniteReading); 11 is NonFiniteNoise.
+unfoldable pub tests : Model → Offsets → ℕ → Bool → Bool → List (ℕ × Bool)
+tests x o readings infinity room =
+    (1, outside (x .p) (x .m) (x .r) (x .n))
+    ∷ (2, badLength x o readings room)
+    ∷ (3, badSystem x)
+    ∷ (4, notPsd x)
+    ∷ (5, offDiagonal (x .r) (x .q))
+    ∷ (6, badStart x o)
+    ∷ (7, startShape (x .m) (x .pStar) (x .flags) (o .a1))
+    ∷ (8, offDiagonal (x .p) (x .h))
+    ∷ (9, infinity)
+    ∷ (10, mixedDriven (x .m) (x .t) (x .flags))
+    ∷ (11, notFinite (noise x))
+    ∷ []
+
+unfoldable pub refusal : Model → Offsets → ℕ → Bool → Bool → ℕ
+refusal x o readings infinity room = firstOf (tests x o readings infinity room)
