@@ -1,0 +1,6 @@
+pub mod Lists
+pub mod Swap
+pub mod Same
+pub mod Compared
+pub mod Halves
+pub mod Signs

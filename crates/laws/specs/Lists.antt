@@ -1,0 +1,183 @@
+-- Laws of lists: going through one with a state, one place changed, cut in parts and joined; tables, matrices and sums by their entries.
+use mathlib.Core.Path.{_≡_, refl, sym, ap, ap₂, _∙_}
+use Prim.Native.Nat.{ℕ, zero, suc, _+_, _-_, _*_, _/_, _%_, _≤_, _<_}
+use native.Mathlib.Nat.{mul-le-mul, mul-le-mul-right, mod-lt, div-lt-iff-lt-mul, mul-add-div-right, div-eq-of-lt, mul-add-mod-self-right, mod-eq-of-lt, zero-mul, zero-add, suc-mul, add-zero, add-suc, suc-add, not-suc-le-zero, le-of-suc-le-suc}
+use native.Mathlib.Omega.{arith}
+use mathlib.Core.Bool.{Bool, true, false, cond, _||_}
+use mathlib.Core.List.{List, [], _∷_, _++_, map}
+use lib.ListN.{length, getD, set, take, drop, length-set, length-append, length-take, length-drop, List·getD-append}
+use lib.Ieee.{Float, nan}
+use Rattle.definition.specs.Num.{_⊕_, sumTo, tabFrom, tabulate, matrix, at, ent}
+use lib.Seq.{take-suc, take-suc-set, take-set-lt, drop-set-lt, take-set-le, drop-set-add, getD-append-add}
+use Rattle.definition.specs.Run.{scan, scanBack, pairs, chunks, join, count, anyOf}
+
+module _ {A B S : Type 0} (f : ℕ → S → A → B × S) where
+  -- Place k holds x′ instead: nothing changes, where the step from what stood there gives the same. P is what is known of its output.
+  pub scan-set : (P : B → Type 0) (xs : List A) (k t : ℕ) (s : S) (a : A) (b : B) (x′ : A) → ((u : ℕ) (r : S) → P (f u r (getD xs k a) .0) → f u r x′ ≡ f u r (getD xs k a)) → P (getD (scan f t s xs .0) k b) → scan f t s (set xs k x′) ≡ scan f t s xs
+  unfolding scan
+  scan-set P [] k t s a b x′ step h = refl
+  scan-set P (x ∷ xs) zero t s a b x′ step h = ap (λ (r : B × S). (r .0 ∷ scan f (suc t) (r .1) xs .0, scan f (suc t) (r .1) xs .1)) (step t s h)
+  scan-set P (x ∷ xs) (suc k) t s a b x′ step h = ap (λ (r : List B × S). (f t s x .0 ∷ r .0, r .1)) (scan-set P xs k (suc t) (f t s x .1) a b x′ step h)
+
+  pub length-scan : (xs : List A) (t : ℕ) (s : S) → length (scan f t s xs .0) ≡ length xs
+  unfolding scan
+  length-scan [] t s = refl
+  length-scan (x ∷ xs) t s = ap suc (length-scan xs (suc t) (f t s x .1))
+
+  -- cut after xs, and gone on with: the same run
+  pub scan-append : (xs ys : List A) (t : ℕ) (s : S) → scan f t s (xs ++ ys) ≡ (scan f t s xs .0 ++ scan f (t + length xs) (scan f t s xs .1) ys .0, scan f (t + length xs) (scan f t s xs .1) ys .1)
+  unfolding scan
+  scan-append [] ys t s = rw add-zero
+  scan-append (x ∷ xs) ys t s = rw add-suc (ap (λ (r : List B × S). (f t s x .0 ∷ r .0, r .1)) (rw suc-add at (scan-append xs ys (suc t) (f t s x .1))))
+
+  -- from the back, the later places know nothing of the earlier
+  pub scanBack-append : (xs ys : List A) (t : ℕ) (s : S) → scanBack f t s (xs ++ ys) ≡ (scanBack f t (scanBack f (t + length xs) s ys .1) xs .0 ++ scanBack f (t + length xs) s ys .0, scanBack f t (scanBack f (t + length xs) s ys .1) xs .1)
+  unfolding scanBack
+  scanBack-append [] ys t s = rw add-zero
+  scanBack-append (x ∷ xs) ys t s = rw add-suc (ap (λ (r : List B × S). (f t (r .1) x .0 ∷ r .0, f t (r .1) x .1)) (rw suc-add at (scanBack-append xs ys (suc t) s)))
+
+module _ {A B : Type 0} where
+  pub map-set : (g : A → B) (l : List A) (k : ℕ) (a : A) → map g (set l k a) ≡ set (map g l) k (g a)
+  map-set g [] k a = refl
+  map-set g (x ∷ l) zero a = refl
+  map-set g (x ∷ l) (suc k) a = ap (λ (r : List B). g x ∷ r) (map-set g l k a)
+
+  pub pairs-set : (xs : List A) (ys : List B) (k : ℕ) (a : A) (b : B) → pairs xs (set ys k b) ≡ set (pairs xs ys) k (getD xs k a, b)
+  unfolding pairs
+  pairs-set [] ys k a b = refl
+  pairs-set (x ∷ xs) [] k a b = refl
+  pairs-set (x ∷ xs) (y ∷ ys) zero a b = refl
+  pairs-set (x ∷ xs) (y ∷ ys) (suc k) a b = ap (λ (r : List (A × B)). (x, y) ∷ r) (pairs-set xs ys k a b)
+
+  pub pairs-at : (xs : List A) (ys : List B) (k : ℕ) (a : A) (b : B) (d : A × B) → k < length xs → k < length ys → getD (pairs xs ys) k d ≡ (getD xs k a, getD ys k b)
+  unfolding pairs
+  pairs-at [] ys k a b d h g = absurd (not-suc-le-zero h)
+  pairs-at (x ∷ xs) [] k a b d h g = absurd (not-suc-le-zero g)
+  pairs-at (x ∷ xs) (y ∷ ys) zero a b d h g = refl
+  pairs-at (x ∷ xs) (y ∷ ys) (suc k) a b d h g = pairs-at xs ys k a b d (le-of-suc-le-suc h) (le-of-suc-le-suc g)
+
+module _ {A : Type 0} where
+  pub chunks-set : (n p : ℕ) (l : List A) (t i : ℕ) (a : A) → i < p → chunks n p (set l (t * p + i) a) ≡ set (chunks n p l) t (set (getD (chunks n p l) t []) i a)
+  unfolding chunks
+  chunks-set zero p l t i a h = refl
+  chunks-set (suc n) p l zero i a h = rw (zero-mul, zero-add, take-set-lt p l i a h, drop-set-lt p l i a h)
+  chunks-set (suc n) p l (suc t) i a h =
+      let e : suc t * p + i ≡ p + (t * p + i) = omega arith in
+      rw e (ap₂ (λ (u : List A) (r : List (List A)). u ∷ r) (take-set-le p l (p + (t * p + i)) a (omega arith)) (ap (chunks n p) (drop-set-add p l (t * p + i) a) ∙ chunks-set n p (drop p l) t i a h))
+
+  pub length-chunks : (n p : ℕ) (l : List A) → length (chunks n p l) ≡ n
+  unfolding chunks
+  length-chunks zero p l = refl
+  length-chunks (suc n) p l = ap suc (length-chunks n p (drop p l))
+
+  -- each part has p places
+  abbrev pub Each : ℕ → List (List A) → Type 0
+  Each p [] = Unit {0}
+  Each p (l ∷ ls) = (length l ≡ p) × Each p ls
+
+  pub chunks-each : (n p : ℕ) (l : List A) → length l ≡ n * p → Each p (chunks n p l)
+  unfolding chunks
+  chunks-each zero p l e = tt
+  chunks-each (suc n) p l e = (simp length-take (omega arith), chunks-each n p (drop p l) (simp length-drop (omega arith)))
+
+  pub join-at : (p : ℕ) (ls : List (List A)) (t i : ℕ) (d : A) → Each p ls → t < length ls → i < p → getD (join ls) (t * p + i) d ≡ getD (getD ls t []) i d
+  unfolding join
+  join-at p [] t i d each h g = absurd (not-suc-le-zero h)
+  join-at p (l ∷ ls) zero i d each h g = rw (zero-mul, zero-add) (List·getD-append l (join ls) d i (rw (each .0) g))
+  join-at p (l ∷ ls) (suc t) i d each h g =
+      let e : suc t * p + i ≡ length l + (t * p + i) = rw (each .0) (omega arith) in
+      rw e (getD-append-add l (join ls) (t * p + i) d ∙ join-at p ls t i d (each .1) (le-of-suc-le-suc h) g)
+
+  pub length-join : (p : ℕ) (ls : List (List A)) → Each p ls → length (join ls) ≡ length ls * p
+  unfolding join
+  length-join p [] each = sym (zero-mul p)
+  length-join p (l ∷ ls) each = length-append l (join ls) ∙ ap₂ _+_ (each .0) (length-join p ls (each .1)) ∙ omega arith
+
+  pub each-at : (p : ℕ) (ls : List (List A)) (t : ℕ) → Each p ls → t < length ls → length (getD ls t []) ≡ p
+  each-at p [] t each h = absurd (not-suc-le-zero h)
+  each-at p (l ∷ ls) zero each h = each .0
+  each-at p (l ∷ ls) (suc t) each h = each-at p ls t (each .1) (le-of-suc-le-suc h)
+
+  pub count-set : (q : A → Bool) (l : List A) (k : ℕ) (a d : A) → k < length l → q (getD l k d) ≡ true → q a ≡ false → suc (count q (set l k a)) ≡ count q l
+  unfolding count
+  count-set q [] k a d h e g = absurd (not-suc-le-zero h)
+  count-set q (x ∷ l) zero a d h e g = rw (e, g) (omega arith)
+  count-set q (x ∷ l) (suc k) a d h e g = let ih = count-set q l k a d (le-of-suc-le-suc h) e g in omega arith
+
+  pub anyOf-set : (q : A → Bool) (l : List A) (k : ℕ) (a d : A) → q a ≡ q (getD l k d) → anyOf q (set l k a) ≡ anyOf q l
+  unfolding anyOf
+  anyOf-set q [] k a d e = refl
+  anyOf-set q (x ∷ l) zero a d e = ap (λ (b : Bool). b || anyOf q l) e
+  anyOf-set q (x ∷ l) (suc k) a d e = ap (λ (b : Bool). q x || b) (anyOf-set q l k a d e)
+
+pub place-lt : (n p t i : ℕ) → t < n → i < p → t * p + i < n * p
+place-lt n p t i h g = omega (arith, mul-le-mul-right p h)
+
+-- ---- vectors and matrices, once over the size
+
+module _ {A : Type 0} where
+  pub tab-at : (n k i : ℕ) (f : ℕ → A) (d : A) → i < n → getD (tabFrom k n f) i d ≡ f (k + i)
+  unfolding tabFrom
+  tab-at zero k i f d h = absurd (not-suc-le-zero h)
+  tab-at (suc n) k zero f d h = rw add-zero
+  tab-at (suc n) k (suc i) f d h = tab-at n (suc k) i f d (le-of-suc-le-suc h) ∙ ap f (omega arith)
+
+  pub length-tab : (n k : ℕ) (f : ℕ → A) → length (tabFrom k n f) ≡ n
+  unfolding tabFrom
+  length-tab zero k f = refl
+  length-tab (suc n) k f = ap suc (length-tab n (suc k) f)
+
+pub vector-at : (n i : ℕ) (f : ℕ → Float) → i < n → at (tabulate n f) i ≡ f i
+vector-at n i f h = tab-at n 0 i f nan h ∙ ap f (zero-add i)
+
+pub matrix-at : (r c i j : ℕ) (f : ℕ → ℕ → Float) → i < r → j < c → ent c (matrix r c f) i j ≡ f i j
+matrix-at r c i j f h g =
+    let z : 0 < c = omega arith in
+    let q : (i * c + j) / c ≡ i = mul-add-div-right z i j ∙ ap (λ (k : ℕ). i + k) (div-eq-of-lt g) ∙ add-zero i in
+    let w : (i * c + j) % c ≡ j = mul-add-mod-self-right i c j ∙ mod-eq-of-lt g in
+    vector-at (r * c) (i * c + j) (λ k. f (k / c) (k % c)) (place-lt r c i j h g) ∙ ap₂ f q w
+
+-- a loop that fills place k with f k: what stands below k is the table so far
+module _ {A : Type 0} where
+  pub tab-snoc : (n k : ℕ) (f : ℕ → A) → tabFrom k (suc n) f ≡ tabFrom k n f ++ (f (k + n) ∷ [])
+  unfolding tabFrom
+  tab-snoc zero k f = rw add-zero
+  tab-snoc (suc n) k f = ap (λ (l : List A). f k ∷ l) (rw (suc-add, ← add-suc) at (tab-snoc n (suc k) f))
+
+  pub tab-step : (l : List A) (k : ℕ) (f : ℕ → A) (a : A) → k < length l → take k l ≡ tabFrom 0 k f → a ≡ f k → take (suc k) (set l k a) ≡ tabFrom 0 (suc k) f
+  tab-step l k f a h e g = take-suc-set l k a h ∙ ap₂ (λ (u : List A) (w : A). u ++ (w ∷ [])) e g ∙ sym (rw zero-add at (tab-snoc k 0 f))
+
+-- sizes up to 8
+pub square-le : (m : ℕ) → m ≤ 8 → m * m ≤ 64
+square-le m h = mul-le-mul h h
+
+pub row-lt : (m k : ℕ) → 0 < m → m ≤ 8 → k < m * m → k / m < 8
+row-lt m k z h g = (div-lt-iff-lt-mul z) .1 (omega (arith, mul-le-mul-right m h))
+
+pub column-lt : (m k : ℕ) → 0 < m → m ≤ 8 → k % m < 8
+column-lt m k z h = omega (arith, mod-lt k z)
+
+-- ---- what a table, a matrix or a sum reads is what its entries read
+
+pub tab-cong : {A : Type 0} (n k : ℕ) (f g : ℕ → A) → ((i : ℕ) → k ≤ i → i < k + n → f i ≡ g i) → tabFrom k n f ≡ tabFrom k n g
+unfolding tabFrom
+tab-cong zero k f g h = refl
+tab-cong (suc n) k f g h = ap₂ (λ (a : _) (l : List _). a ∷ l) (h k (omega arith) (omega arith)) (tab-cong n (suc k) f g (λ i u v. h i (omega arith) (omega arith)))
+
+pub matrix-cong : (r c : ℕ) (f g : ℕ → ℕ → Float) → 0 < c → ((i j : ℕ) → i < r → j < c → f i j ≡ g i j) → matrix r c f ≡ matrix r c g
+matrix-cong r c f g z h = tab-cong (r * c) 0 (λ k. f (k / c) (k % c)) (λ k. g (k / c) (k % c)) (λ k u v. h (k / c) (k % c) ((div-lt-iff-lt-mul z) .1 (omega arith)) (mod-lt k z))
+
+pub sumTo-cong : (k : ℕ) (f g : ℕ → Float) → ((i : ℕ) → i < k → f i ≡ g i) → sumTo k f ≡ sumTo k g
+unfolding sumTo
+sumTo-cong zero f g h = refl
+sumTo-cong (suc k) f g h = ap₂ _⊕_ (sumTo-cong k f g (λ i u. h i (omega arith))) (h k (omega arith))
+
+-- one period further: the state of a loop over the periods
+module _ {A B S : Type 0} (f : ℕ → S → A → B × S) where
+  pub scan-next : (xs : List A) (t : ℕ) (s : S) (d : A) → t < length xs → scan f 0 s (take (suc t) xs) ≡ (scan f 0 s (take t xs) .0 ++ (f t (scan f 0 s (take t xs) .1) (getD xs t d) .0 ∷ []), f t (scan f 0 s (take t xs) .1) (getD xs t d) .1)
+  unfolding scan
+  scan-next xs t s d h = let e : 0 + length (take t xs) ≡ t = simp length-take (omega arith) in ap (scan f 0 s) (take-suc xs t d h) ∙ rw e at (scan-append f (take t xs) (getD xs t d ∷ []) 0 s)
+
+-- the loop's end
+pub tab-end : {A : Type 0} (l : List A) (k n : ℕ) (f : ℕ → A) → k ≡ n → take k l ≡ tabFrom 0 k f → take n l ≡ tabFrom 0 n f
+tab-end l k n f e h = rw e at h

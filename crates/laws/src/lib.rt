@@ -1,0 +1,1 @@
+// Laws about the definition and about doubles, in specs/, cited by proofs. No code.
