@@ -1,4 +1,10 @@
 pub mod Lists
+pub mod Passes
+pub mod Flat
+pub mod ReadBack
+pub mod Shapes
+pub mod Backward
+pub mod Numbered
 pub mod Swap
 pub mod Same
 pub mod Compared

@@ -1,0 +1,49 @@
+-- The flat form read back: the decisions, and what the way back looks at, off the lent lists that a pass wrote.
+use Prim.Native.Nat.{ℕ, zero, suc, _+_, _*_}
+use mathlib.Core.List.{List}
+use lib.ListN.{getD}
+use lib.Dec.{ltb}
+use lib.Ieee.{Float}
+use Rattle.definition.specs.Num.{tabulate, at}
+use Rattle.definition.specs.Smooth.{Look, MeanLook}
+use Rattle.definition.specs.Cov.{Decision, skipped, usual, diffuse}
+
+pub record Flat : Type 0 where
+  pub kinds : List ℕ
+  pub fStars : List Float
+  pub fInfs : List Float
+  pub mStars : List Float
+  pub mInfs : List Float
+
+unfoldable pub decisionOf : ℕ → Float → Float → List Float → List Float → Decision
+decisionOf zero f g a b = skipped
+decisionOf (suc zero) f g a b = usual f a
+decisionOf (suc (suc k)) f g a b = diffuse f g a b
+
+-- the record at place k of the flat lists; the p of period t; and those of n periods
+unfoldable pub readBack : ℕ → Flat → ℕ → Decision
+readBack m r k =
+    decisionOf (getD (r .kinds) k 0) (at (r .fStars) k) (at (r .fInfs) k) (tabulate m (λ j. at (r .mStars) (k * m + j))) (tabulate m (λ j. at (r .mInfs) (k * m + j)))
+
+unfoldable pub decisionsAt : ℕ → ℕ → Flat → ℕ → List Decision
+decisionsAt p m r t = tabulate p (λ i. readBack m r (t * p + i))
+
+unfoldable pub decisionRows : ℕ → ℕ → ℕ → Flat → List (List Decision)
+decisionRows n p m r = tabulate n (decisionsAt p m r)
+
+-- ---- the way back: a block of a part, and what stands in the parts of period t. It is diffuse where t is below the count of diffuse periods
+unfoldable pub blockAt : ℕ → List Float → ℕ → List Float
+blockAt k l t = tabulate k (λ j. at l (t * k + j))
+
+unfoldable pub lookAt : ℕ → ℕ → ℕ → List Float → List Float → Flat → ℕ → Look
+lookAt p m dd pc pi r t = record { diffuse = ltb t dd; pred = blockAt (m * m) pc t; predInf = blockAt (m * m) pi t; decisions = decisionsAt p m r t }
+
+unfoldable pub looks : ℕ → ℕ → ℕ → ℕ → List Float → List Float → Flat → List Look
+looks n p m dd pc pi r = tabulate n (lookAt p m dd pc pi r)
+
+-- and of its means: the predicted one and the innovations
+unfoldable pub meanLookAt : ℕ → ℕ → List Float → List Float → ℕ → MeanLook
+meanLookAt p m pm vs t = record { pred = blockAt m pm t; vs = blockAt p vs t }
+
+unfoldable pub meanLooks : ℕ → ℕ → ℕ → List Float → List Float → List MeanLook
+meanLooks n p m pm vs = tabulate n (meanLookAt p m pm vs)

@@ -1,0 +1,177 @@
+-- Shapes of the covariance run: each period decides on p elements, with vectors of m; each matrix has m * m places; the diffuse periods come first.
+use mathlib.Core.Path.{_≡_, refl, sym, ap, _∙_}
+use Prim.Native.Nat.{ℕ, zero, suc, _+_, _*_, _≤_, _<_}
+use native.Mathlib.Nat.{zero-add, not-suc-le-zero, le-of-suc-le-suc}
+use native.Mathlib.Omega.{arith}
+use mathlib.Core.Bool.{Bool, true, false, cond, _&&_}
+use mathlib.Core.List.{List, [], _∷_, map}
+use lib.ListN.{length, getD, length-map, length-replicate}
+use lib.Dec.{ltb}
+use lib.Ieee.{Float}
+use borrow.Author.Tests.{lt-ltb, le-ltb, ltb-true, ltb-false}
+use Rattle.definition.specs.Num.{0ᶠ, zeros}
+use Rattle.definition.specs.Dense.{dot, matVec, matTVec, symmetrise}
+use Rattle.definition.specs.Run.{scan, chunks, count}
+use Rattle.definition.specs.Cov.{System, Cov, Fixed, Inner, Decision, skipped, usual, diffuse, CovPeriod, usually, usualTest, diffusely, diffuseTest, fStarOf, fInfOf, judge, verdict, elementOf, isLive, entered, ended, stepped, stepStar, stepInf, periodOf, period, covRun}
+use Rattle.definition.specs.Inputs.{Kind, isGap, gapRows}
+use Rattle.definition.specs.Parts.{mStarOf, mInfOf}
+use Rattle.laws.specs.Lists.{Each, chunks-each, length-tab, length-scan, length-chunks}
+use Rattle.laws.specs.ReadBack.{AllOf, Shaped, Whole, scan-all}
+
+-- ---- the decisions
+
+skipped-shaped : (m : ℕ) → Shaped m skipped
+skipped-shaped m = record { star = length-replicate m 0ᶠ; inf = length-replicate m 0ᶠ }
+
+matVec-long : (m : ℕ) (a x : List Float) → length (matVec m a x) ≡ m
+unfolding matVec
+matVec-long m a x = length-tab m 0 _
+
+cond-shaped : (m : ℕ) (b : Bool) (d e : Decision) → Shaped m d → Shaped m e → Shaped m (cond b d e)
+cond-shaped m true d e h g = h
+cond-shaped m false d e h g = g
+
+usually-shaped : (m : ℕ) (z : List Float) (h : Float) (live : Bool) (pre sd : List Float) (again : Float) (fresh : Bool) (star : List Float) (f : Float) (m* : List Float)
+    → length m* ≡ m → Shaped m (usually m z h live pre sd again fresh star f m*)
+unfolding usually
+usually-shaped m z h live pre sd again fresh star f m* e =
+    cond-shaped m (usualTest m z h live pre sd again fresh star f) (usual f m*) skipped (record { star = e; inf = length-replicate m 0ᶠ }) (skipped-shaped m)
+
+diffusely-shaped : (m : ℕ) (z : List Float) (h : Float) (pre sd : List Float) (again : Float) (fresh : Bool) (unres star pinf root : List Float) (f : Float) (m* : List Float)
+    → length m* ≡ m → Shaped m (diffusely m z h pre sd again fresh unres star pinf root f m*)
+unfolding diffusely
+diffusely-shaped m z h pre sd again fresh unres star pinf root f m* e =
+    let m∞ = matVec m pinf z in
+    let f∞ = fInfOf m z m∞ in
+    let u = matTVec m root z in
+    cond-shaped
+    m
+    (diffuseTest m z pinf unres f∞ (dot m u u))
+    (diffuse f f∞ m* m∞)
+    (usually m z h true pre sd again fresh star f m*)
+    (record { star = e; inf = matVec-long m pinf z })
+    (usually-shaped m z h true pre sd again fresh star f m* e)
+
+judge-shaped : (m : ℕ) (z : List Float) (h : Float) (live : Bool) (pre sd : List Float) (again : Float) (fresh : Bool) (unres star pinf root : List Float)
+    → Shaped m (judge m z h live pre sd again fresh unres star pinf root)
+unfolding judge
+judge-shaped m z h live pre sd again fresh unres star pinf root =
+    let m* = matVec m star z in
+    let f = fStarOf m z h m* in
+    let e = matVec-long m star z in
+    cond-shaped
+    m
+    live
+    (diffusely m z h pre sd again fresh unres star pinf root f m*)
+    (usually m z h false pre sd again fresh star f m*)
+    (diffusely-shaped m z h pre sd again fresh unres star pinf root f m* e)
+    (usually-shaped m z h false pre sd again fresh star f m* e)
+
+verdict-shaped : (p m : ℕ) (h : List Float) (f : Fixed) (i : ℕ) (s : Inner) (gap : Bool) → Shaped m (verdict p m h f i s gap)
+unfolding verdict
+verdict-shaped p m h f i s true = skipped-shaped m
+verdict-shaped p m h f i s false = judge-shaped m _ _ (f .diffuse) (f .pre) _ _ _ (f .unres) (s .star) (s .pinf) (s .root)
+
+all-true : {A : Type 0} (l : List A) → AllOf (λ x. Unit {0}) l
+all-true [] = tt
+all-true (x ∷ l) = (tt, all-true l)
+
+period-whole : (y : System) (p t : ℕ) (c : Cov) (gaps : List Bool) → length gaps ≡ p → Whole p (y .m) (period y t c gaps .0 .decisions)
+unfolding periodOf ended elementOf
+period-whole y p t c gaps e =
+    record {
+      many = length-scan _ gaps 0 _ ∙ e;
+      shaped = scan-all _ (λ x. Unit {0}) (Shaped (y .m)) (λ i s g u. verdict-shaped (y .p) (y .m) (y .h) _ i s g) gaps 0 _ (all-true gaps);
+    }
+
+each-all : (p : ℕ) (gs : List (List Bool)) → Each p gs → AllOf (λ g. length g ≡ p) gs
+each-all p [] h = tt
+each-all p (g ∷ gs) h = (h .0, each-all p gs (h .1))
+
+module _ (y : System) (c : Cov) (ks : List Kind) (n p : ℕ) where
+  pub run-whole : length ks ≡ n * p → AllOf (λ c. Whole p (y .m) (c .decisions)) (covRun y 0 c (gapRows n p ks) .0)
+  unfolding covRun gapRows
+  run-whole e = scan-all (period y) (λ g. length g ≡ p) (λ c. Whole p (y .m) (c .decisions)) (λ t c g h. period-whole y p t c g h) (chunks n p (map isGap ks)) 0 c (each-all p (chunks n p (map isGap ks)) (chunks-each n p (map isGap ks) (length-map ks isGap ∙ e)))
+
+  pub run-length : length (covRun y 0 c (gapRows n p ks) .0) ≡ n
+  unfolding covRun gapRows
+  run-length = length-scan (period y) (chunks n p (map isGap ks)) 0 c ∙ length-chunks n p (map isGap ks)
+
+-- ---- diffuse periods come first
+pub record First (f : ℕ → Cov → List Bool → CovPeriod × Cov) : Type 0 where
+  pub ends : (t : ℕ) (c : Cov) (g : List Bool) → f t c g .0 .diffuse ≡ false → f t c g .1 .live ≡ false
+  pub stays : (t : ℕ) (c : Cov) (g : List Bool) → c .live ≡ false → f t c g .0 .diffuse ≡ false
+
+ltb-suc : (i n : ℕ) (b : Bool) → ltb i n ≡ b → ltb (suc i) (1 + n) ≡ b
+ltb-suc i n true e = lt-ltb (suc i) (1 + n) (omega (arith, ltb-true i n e))
+ltb-suc i n false e = le-ltb (suc i) (1 + n) (omega (arith, ltb-false i n e))
+
+counts-one : (b : Bool) (n i : ℕ) → b ≡ true → (ltb 0 (cond b 1 0 + n) ≡ true) × (ltb (suc i) (cond b 1 0 + n) ≡ ltb i n)
+counts-one true n i e = (lt-ltb 0 (1 + n) (omega arith), ltb-suc i n (ltb i n) refl)
+counts-one false n i e = absurd (let z : _≡_ {A = ℕ} 0 1 = cc in omega arith)
+
+module _ (f : ℕ → Cov → List Bool → CovPeriod × Cov) (law : First f) (d : CovPeriod) where
+  none-after : (xs : List (List Bool)) (t : ℕ) (c : Cov) → c .live ≡ false → count (λ q. q .diffuse) (scan f t c xs .0) ≡ 0
+  unfolding scan count
+  none-after [] t c e = refl
+  none-after (x ∷ xs) t c e = let e0 = law .stays t c x e in rw (e0, zero-add) (none-after xs (suc t) (f t c x .1) (law .ends t c x e0))
+
+  none-at : (xs : List (List Bool)) (t : ℕ) (c : Cov) (i : ℕ) → c .live ≡ false → i < length xs → getD (scan f t c xs .0) i d .diffuse ≡ false
+  unfolding scan
+  none-at [] t c i e h = absurd (not-suc-le-zero h)
+  none-at (x ∷ xs) t c zero e h = law .stays t c x e
+  none-at (x ∷ xs) t c (suc i) e h = none-at xs (suc t) (f t c x .1) i (law .ends t c x (law .stays t c x e)) (le-of-suc-le-suc h)
+
+  one-step : (x : List Bool) (xs : List (List Bool)) (t : ℕ) (c : Cov) → ((i : ℕ) → i < length xs → ltb i (count (λ q. q .diffuse) (scan f (suc t) (f t c x .1) xs .0)) ≡ getD (scan f (suc t) (f t c x .1) xs .0) i d .diffuse) → (b : Bool) → f t c x .0 .diffuse ≡ b → (i : ℕ) → i < suc (length xs) → ltb i (cond (f t c x .0 .diffuse) 1 0 + count (λ q. q .diffuse) (scan f (suc t) (f t c x .1) xs .0)) ≡ getD (f t c x .0 ∷ scan f (suc t) (f t c x .1) xs .0) i d .diffuse
+  one-step x xs t c rec true e zero h = counts-one (f t c x .0 .diffuse) (count (λ q. q .diffuse) (scan f (suc t) (f t c x .1) xs .0)) 0 e .0 ∙ sym e
+  one-step x xs t c rec true e (suc i) h = counts-one (f t c x .0 .diffuse) (count (λ q. q .diffuse) (scan f (suc t) (f t c x .1) xs .0)) i e .1 ∙ rec i (le-of-suc-le-suc h)
+  one-step x xs t c rec false e zero h = rw (e, none-after xs (suc t) (f t c x .1) (law .ends t c x e)) (le-ltb 0 0 (omega arith))
+  one-step x xs t c rec false e (suc i) h = rw (e, none-after xs (suc t) (f t c x .1) (law .ends t c x e)) (le-ltb (suc i) 0 (omega arith) ∙ sym (none-at xs (suc t) (f t c x .1) i (law .ends t c x e) (le-of-suc-le-suc h)))
+
+  pub first-ones : (xs : List (List Bool)) (t : ℕ) (c : Cov) (i : ℕ) → i < length xs → ltb i (count (λ q. q .diffuse) (scan f t c xs .0)) ≡ getD (scan f t c xs .0) i d .diffuse
+  unfolding scan count
+  first-ones [] t c i h = absurd (not-suc-le-zero h)
+  first-ones (x ∷ xs) t c i h = one-step x xs t c (λ j g. first-ones xs (suc t) (f t c x .1) j g) (f t c x .0 .diffuse) refl i h
+
+pub period-first : (y : System) → First (period y)
+unfolding periodOf ended stepped isLive
+period-first y = record { ends = λ t c g e. e; stays = λ t c g e. rw e refl }
+
+-- ---- each predicted matrix has m * m places
+pub record Sized (m : ℕ) (c : Cov) : Type 0 where
+  pub star : length (c .star) ≡ m * m
+  pub pinf : length (c .pinf) ≡ m * m
+
+pub record SizedP (m : ℕ) (c : CovPeriod) : Type 0 where
+  pub pred : length (c .pred) ≡ m * m
+  pub predInf : length (c .predInf) ≡ m * m
+
+pub record Keeps (m : ℕ) (f : ℕ → Cov → List Bool → CovPeriod × Cov) : Type 0 where
+  pub leaves : (t : ℕ) (c : Cov) (g : List Bool) → Sized m c → SizedP m (f t c g .0)
+  pub goes-on : (t : ℕ) (c : Cov) (g : List Bool) → Sized m c → Sized m (f t c g .1)
+
+module _ (m : ℕ) (f : ℕ → Cov → List Bool → CovPeriod × Cov) (law : Keeps m f) where
+  pub run-sized : (xs : List (List Bool)) (t : ℕ) (c : Cov) → Sized m c → AllOf (SizedP m) (scan f t c xs .0)
+  unfolding scan
+  run-sized [] t c h = tt
+  run-sized (x ∷ xs) t c h = (law .leaves t c x h, run-sized xs (suc t) (f t c x .1) (law .goes-on t c x h))
+
+cond-long : (b : Bool) (u v : List Float) (k : ℕ) → length u ≡ k → length v ≡ k → length (cond b u v) ≡ k
+cond-long true u v k e g = e
+cond-long false u v k e g = g
+
+entered-long : (m : ℕ) (b : Bool) (a : List Float) → length a ≡ m * m → length (entered m b a) ≡ m * m
+unfolding entered
+entered-long m b a e = cond-long b a (zeros (m * m)) (m * m) e (length-replicate (m * m) 0ᶠ)
+
+symmetrise-long : (m : ℕ) (a : List Float) → length (symmetrise m a) ≡ m * m
+unfolding symmetrise
+symmetrise-long m a = length-tab (m * m) 0 _
+
+pub period-keeps : (y : System) → Keeps (y .m) (period y)
+unfolding periodOf ended stepped stepStar stepInf
+period-keeps y =
+    record {
+      leaves = λ t c g h. record { pred = h .star; predInf = entered-long (y .m) _ (c .pinf) (h .pinf) };
+      goes-on = λ t c g h. record { star = symmetrise-long (y .m) _; pinf = symmetrise-long (y .m) _ };
+    }
