@@ -10,3 +10,4 @@ pub mod Same
 pub mod Compared
 pub mod Halves
 pub mod Signs
+pub mod Any

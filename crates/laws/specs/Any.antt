@@ -1,0 +1,87 @@
+-- Whether a test holds somewhere: laws of `anyTo` (at a place below k) and `anyOf` (of an entry of a list), as a loop that goes through the places
+-- needs them. `found` is what the loop has found so far.
+use mathlib.Core.Path.{_≡_, refl, sym, ap, ap₂, _∙_}
+use mathlib.Core.Logic.{⊎-elim}
+use Prim.Native.Nat.{ℕ, zero, suc, _+_, _≤_, _<_}
+use native.Mathlib.Omega.{arith}
+use native.Mathlib.Numerals.{add-one}
+use native.Mathlib.Nat.{eq-or-lt-of-le, le-of-suc-le-suc, not-suc-le-zero}
+use mathlib.Core.Bool.{Bool, true, false, _||_}
+use mathlib.Core.List.{List, [], _∷_, map}
+use lib.ListN.{length, getD, take}
+use lib.Seq.{take-suc, take-length}
+use Rattle.definition.specs.Run.{anyOf, anyTo}
+
+pub or-assoc : (a b c : Bool) → ((a || b) || c) ≡ (a || (b || c))
+or-assoc true b c = refl
+or-assoc false b c = refl
+
+pub or-false : (a : Bool) → (a || false) ≡ a
+or-false true = refl
+or-false false = refl
+
+-- neither half of a test that is false holds
+pub either-false : (a b : Bool) → (a || b) ≡ false → (a ≡ false) × (b ≡ false)
+either-false true b e = absurd (let z : _≡_ {A = ℕ} 0 1 = cc in omega arith)
+either-false false b e = (refl, e)
+
+-- ---- at a place below k
+
+pub any-none : (q : ℕ → Bool) → false ≡ anyTo 0 q
+unfolding anyTo
+any-none q = refl
+
+pub any-next : (q : ℕ → Bool) (k : ℕ) (found here : Bool) → found ≡ anyTo k q → here ≡ q k → (found || here) ≡ anyTo (k + 1) q
+unfolding anyTo
+any-next q k found here e h = rw add-one (ap₂ _||_ e h)
+
+pub any-end : (q : ℕ → Bool) {k n : ℕ} {found : Bool} → found ≡ anyTo k q → k ≤ n → n ≤ k → found ≡ anyTo n q
+any-end q {k} {n} {found} e a b = let s : k ≡ n = omega arith in cc
+
+pub any-cong : (q q′ : ℕ → Bool) (k : ℕ) → ((i : ℕ) → i < k → q i ≡ q′ i) → anyTo k q ≡ anyTo k q′
+unfolding anyTo
+any-cong q q′ zero h = refl
+any-cong q q′ (suc k) h = ap₂ _||_ (any-cong q q′ k (λ i b. h i (omega arith))) (h k (omega arith))
+
+-- what holds nowhere below n does not hold at i
+pub any-false : (q : ℕ → Bool) (n i : ℕ) → anyTo n q ≡ false → i < n → q i ≡ false
+unfolding anyTo
+any-false q zero i e h = absurd (not-suc-le-zero h)
+any-false q (suc n) i e h =
+    let s = either-false (anyTo n q) (q n) e in
+    ⊎-elim (λ (w : i ≡ n). ap q w ∙ s .1) (λ (w : i < n). any-false q n i (s .0) w) (eq-or-lt-of-le (le-of-suc-le-suc h))
+
+-- ---- of an entry of a list
+
+module _ {A : Type 0} where
+  pub of-none : (q : A → Bool) (l : List A) → false ≡ anyOf q (take 0 l)
+  unfolding anyOf
+  of-none q l = refl
+
+  pub of-snoc : (q : A → Bool) (l : List A) (k : ℕ) (d : A) → k < length l → anyOf q (take (suc k) l) ≡ (anyOf q (take k l) || q (getD l k d))
+  unfolding anyOf
+  of-snoc q [] k d h = absurd (not-suc-le-zero h)
+  of-snoc q (x ∷ l) zero d h = or-false (q x)
+  of-snoc q (x ∷ l) (suc k) d h = ap (λ (b : Bool). q x || b) (of-snoc q l k d (le-of-suc-le-suc h)) ∙ sym (or-assoc (q x) (anyOf q (take k l)) (q (getD l k d)))
+
+  pub of-next : (q : A → Bool) (l : List A) (k : ℕ) (d : A) (found here : Bool) → k < length l → found ≡ anyOf q (take k l) → here ≡ q (getD l k d) → (found || here) ≡ anyOf q (take (k + 1) l)
+  of-next q l k d found here b e h = rw add-one (ap₂ _||_ e h ∙ sym (of-snoc q l k d b))
+
+  pub of-end : (q : A → Bool) (l : List A) {k : ℕ} {found : Bool} → found ≡ anyOf q (take k l) → k ≤ length l → length l ≤ k → found ≡ anyOf q l
+  of-end q l {k} {found} e a b = let s : k ≡ length l = omega arith in e ∙ ap (λ (i : ℕ). anyOf q (take i l)) s ∙ ap (anyOf q) (take-length l)
+
+  pub of-cong : (q q′ : A → Bool) (l : List A) → ((x : A) → q x ≡ q′ x) → anyOf q l ≡ anyOf q′ l
+  unfolding anyOf
+  of-cong q q′ [] h = refl
+  of-cong q q′ (x ∷ l) h = ap₂ _||_ (h x) (of-cong q q′ l h)
+
+  pub of-false : (q : A → Bool) (l : List A) (i : ℕ) (d : A) → anyOf q l ≡ false → i < length l → q (getD l i d) ≡ false
+  unfolding anyOf
+  of-false q [] i d e h = absurd (not-suc-le-zero h)
+  of-false q (x ∷ l) zero d e h = either-false (q x) (anyOf q l) e .0
+  of-false q (x ∷ l) (suc i) d e h = of-false q l i d (either-false (q x) (anyOf q l) e .1) (le-of-suc-le-suc h)
+
+pub of-map : {A B : Type 0} (q : B → Bool) (f : A → B) (l : List A) → anyOf q (map f l) ≡ anyOf (λ (x : A). q (f x)) l
+unfolding anyOf
+of-map q f [] = refl
+of-map q f (x ∷ l) = ap (λ (b : Bool). q (f x) || b) (of-map q f l)
