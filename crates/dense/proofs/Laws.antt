@@ -1,0 +1,252 @@
+-- Places in a matrix, and lists that loops store into, for every size; and from these to the definition's tables.
+use Prim.Native.Nat.{ℕ, zero, suc, _+_, _*_, _/_, _%_, _≤_, _<_, _-_}
+use mathlib.Core.Path.{_≡_, refl, sym, ap, _∙_, subst}
+use mathlib.Core.List.{List}
+use mathlib.Core.Logic.{_⊎_, inl, inr, ⊎-elim}
+use mathlib.Core.Bool.{Bool, true, false, cond}
+use lib.Dec.{ltb}
+use borrow.Author.Tests.{ltb-true, ltb-false}
+use native.Mathlib.Omega.{arith}
+use native.Mathlib.Numerals.{add-one}
+use native.Mathlib.Nat.{mul-le-mul, mul-le-mul-right, suc-mul, mul-zero, div-add-mod', mod-lt, div-lt-iff-lt-mul}
+use lib.ListN.{length, getD, set, take, length-set}
+use lib.Seq.{getD-set-same, getD-set-other, ext-getD, getD-take, length-take-le}
+use lib.Ieee.{Float, nan}
+use mir.Val.{Fits}
+use mir.Syntax.{w64}
+use Rattle.definition.specs.Num.{tabFrom, tabulate, matrix, at, ent, sumTo, sumBut, sumFrom, _⊕_, 0ᶠ}
+use Rattle.definition.specs.Dense.{transpose, transposeAt}
+use Rattle.laws.specs.Lists.{vector-at, matrix-at, length-tab}
+use Rattle.dense.specs.Views.{vec, rect}
+
+-- old with entry a + j replaced by g j, for each j below n
+unfoldable pub row : {A : Type 0} → (ℕ → A) → ℕ → ℕ → List A → List A
+row g a zero old = old
+row g a (suc j) old = set (row g a j old) (a + j) (g j)
+
+-- old with entry i * c + j replaced by f i j, for each i below r and each j below c
+unfoldable pub grid : {A : Type 0} → (ℕ → ℕ → A) → ℕ → ℕ → List A → List A
+grid f c zero old = old
+grid f c (suc i) old = row (f i) (i * c) c (grid f c i old)
+
+pub lt-or-le : (a b : ℕ) → (a < b) ⊎ (b ≤ a)
+lt-or-le a b = by-test (ltb a b) refl
+  where
+    by-test : (t : Bool) → ltb a b ≡ t → (a < b) ⊎ (b ≤ a)
+    by-test true e = inl (ltb-true a b e)
+    by-test false e = inr (ltb-false a b e)
+
+-- block i of c places ends within n blocks
+pub room : (i n c : ℕ) → i < n → i * c + c ≤ n * c
+room i n c h = omega (arith, suc-mul i c, mul-le-mul-right {m = suc i} {n = n} c h)
+
+-- a place of a matrix with at most 8 rows and 8 columns is below 64
+pub cell : {r c i j : ℕ} → r ≤ 8 → c ≤ 8 → i < r → j < c → i * c + j < 64
+cell {r} {c} {i} {j} hr hc hi hj = omega (arith, room i r c hi, mul-le-mul {n₁ = r} {m₁ = c} {n₂ = 8} {m₂ = 8} hr hc)
+
+-- such a matrix has at most 64 places
+pub area : {r c : ℕ} → r ≤ 8 → c ≤ 8 → r * c ≤ 64
+area h g = mul-le-mul h g
+
+-- numbers below 2^18 fit, and so does one times the size of a double
+pub fits : {x : ℕ} → x ≤ 262144 → Fits w64 x
+fits h = omega arith
+
+pub fits8 : {x : ℕ} → x ≤ 262144 → Fits w64 (x * 8)
+fits8 h = omega arith
+
+module _ {A : Type 0} where
+  pub row-none : (g : ℕ → A) (a : ℕ) (l out : List A) → out ≡ l → out ≡ row g a 0 l
+  unfolding row
+  row-none g a l out e = e
+
+  pub row-end : (g : ℕ → A) (a : ℕ) (l : List A) {n r : ℕ} {out : List A} → out ≡ row g a n l → n ≤ r → r ≤ n → out ≡ row g a r l
+  row-end g a l {n} {r} {out} h p q = let e : n ≡ r = omega arith in cc
+
+  pub grid-none : (f : ℕ → ℕ → A) (c : ℕ) (l out : List A) → out ≡ l → out ≡ grid f c 0 l
+  unfolding grid
+  grid-none f c l out e = e
+
+  pub grid-end : (f : ℕ → ℕ → A) (c : ℕ) (l : List A) {n r : ℕ} {out : List A} → out ≡ grid f c n l → n ≤ r → r ≤ n → out ≡ grid f c r l
+  grid-end f c l {n} {r} {out} h a b = let e : n ≡ r = omega arith in cc
+
+  pub length-row : (g : ℕ → A) (a n : ℕ) (l : List A) → length (row g a n l) ≡ length l
+  unfolding row
+  length-row g a zero l = refl
+  length-row g a (suc n) l = length-set (row g a n l) (a + n) (g n) ∙ length-row g a n l
+
+  pub length-grid : (f : ℕ → ℕ → A) (c n : ℕ) (l : List A) → length (grid f c n l) ≡ length l
+  unfolding grid
+  length-grid f c zero l = refl
+  length-grid f c (suc n) l = length-row (f n) (n * c) c (grid f c n l) ∙ length-grid f c n l
+
+  -- one store more, as the code counts; k is the place as the code has it
+  pub row-next : (g : ℕ → A) (a n : ℕ) (l out : List A) (v : A) (k : ℕ) → k ≡ a + n → out ≡ row g a n l → v ≡ g n → set out k v ≡ row g a (n + 1) l
+  unfolding row
+  row-next g a n l out v k q h e = rw add-one (cc)
+
+  -- the same in a list that is filled from its start
+  pub vec-next : (g : ℕ → A) (n : ℕ) (l out : List A) (v : A) → out ≡ row g 0 n l → v ≡ g n → set out n v ≡ row g 0 (n + 1) l
+  vec-next g n l out v h e = row-next g 0 n l out v n (omega arith) h e
+
+  -- one row more
+  pub grid-next : (f : ℕ → ℕ → A) (c n k : ℕ) (l mid out : List A) → out ≡ row (f n) (n * c) k mid → mid ≡ grid f c n l → k ≤ c → c ≤ k → out ≡ grid f c (n + 1) l
+  unfolding grid
+  grid-next f c n k l mid out h e a b = let q : k ≡ c = omega arith in rw add-one (cc)
+
+  -- a place that no store reached
+  pub row-after : (g : ℕ → A) (a n : ℕ) (l : List A) (k : ℕ) (d : A) → a + n ≤ k → getD (row g a n l) k d ≡ getD l k d
+  unfolding row
+  row-after g a zero l k d h = refl
+  row-after g a (suc n) l k d h =
+      getD-set-other (row g a n l) (a + n) k (g n) d (λ e. omega arith) ∙ row-after g a n l k d (omega arith)
+
+  pub row-before : (g : ℕ → A) (a n : ℕ) (l : List A) (k : ℕ) (d : A) → k < a → getD (row g a n l) k d ≡ getD l k d
+  unfolding row
+  row-before g a zero l k d h = refl
+  row-before g a (suc n) l k d h =
+      getD-set-other (row g a n l) (a + n) k (g n) d (λ e. omega arith) ∙ row-before g a n l k d h
+
+  pub grid-after : (f : ℕ → ℕ → A) (c n : ℕ) (l : List A) (k : ℕ) (d : A) → n * c ≤ k → getD (grid f c n l) k d ≡ getD l k d
+  unfolding grid
+  grid-after f c zero l k d h = refl
+  grid-after f c (suc n) l k d h =
+      row-after (f n) (n * c) c (grid f c n l) k d (omega (arith, suc-mul n c))
+      ∙ grid-after f c n l k d (omega (arith, suc-mul n c))
+
+  -- a place that a store reached; k is the place as the code has it
+  pub row-at : (g : ℕ → A) (a n : ℕ) (l : List A) (j : ℕ) (d : A) (k : ℕ) → k ≡ a + j → j < n → a + n ≤ length l → getD (row g a n l) k d ≡ g j
+  unfolding row
+  row-at g a zero l j d k p h b = absurd (omega arith)
+  row-at g a (suc n) l j d k p h b =
+      ⊎-elim
+      (λ (e : j < n). getD-set-other (row g a n l) (a + n) k (g n) d (λ q. omega arith) ∙ row-at g a n l j d k p e (omega arith))
+      (λ (e : n ≤ j).
+      let q : j ≡ n = omega arith in
+      let r : k ≡ a + n = omega arith in
+      ap (λ (i : ℕ). getD (set (row g a n l) (a + n) (g n)) i d) r
+      ∙ getD-set-same (row g a n l) (a + n) (g n) d (omega (arith, length-row g a n l))
+      ∙ sym (ap g q))
+      (lt-or-le j n)
+
+  pub grid-at : (f : ℕ → ℕ → A) (c n : ℕ) (l : List A) (i j : ℕ) (d : A) → i < n → j < c → n * c ≤ length l → getD (grid f c n l) (i * c + j) d ≡ f i j
+  unfolding grid
+  grid-at f c zero l i j d hi hj b = absurd (omega arith)
+  grid-at f c (suc n) l i j d hi hj b =
+      ⊎-elim
+      (λ (e : i < n).
+      row-before (f n) (n * c) c (grid f c n l) (i * c + j) d (omega (arith, room i n c e))
+      ∙ grid-at f c n l i j d e hj (omega (arith, suc-mul n c)))
+      (λ (e : n ≤ i).
+      let q : i ≡ n = omega arith in
+      ap (λ (k : ℕ). getD (row (f n) (n * c) c (grid f c n l)) (k * c + j) d) q
+      ∙ row-at (f n) (n * c) c (grid f c n l) j d (n * c + j) refl hj (omega (arith, suc-mul n c, length-grid f c n l))
+      ∙ sym (ap (λ (k : ℕ). f k j) q))
+      (lt-or-le i n)
+
+-- ---- the places in use
+
+pub vec-at : (k i : ℕ) (a : List Float) → i < k → at (vec k a) i ≡ at a i
+unfolding vec
+vec-at k i a h = getD-take k a i nan h
+
+pub rect-at : (r c i j : ℕ) (a : List Float) → i < r → j < c → ent c (rect r c a) i j ≡ ent c a i j
+unfolding rect
+rect-at r c i j a hi hj = getD-take (r * c) a (i * c + j) nan (omega (arith, room i r c hi))
+
+pub transpose-at : (r c i j : ℕ) (a : List Float) → i < c → j < r → ent r (transpose r c a) i j ≡ ent c a j i
+unfolding transpose transposeAt
+transpose-at r c i j a hi hj = matrix-at c r i j (transposeAt c a) hi hj
+
+-- a vector that was filled, and a matrix
+pub vec-row : (g : ℕ → Float) (m : ℕ) (l out : List Float) → m ≤ length l → out ≡ row g 0 m l → vec m out ≡ tabulate m g
+unfolding vec
+vec-row g m l out h e =
+    let n : length out ≡ length l = ap length e ∙ length-row g 0 m l in
+    let k : length (take m out) ≡ m = length-take-le m out (omega arith) in
+    ext-getD nan (take m out) (tabulate m g) (k ∙ sym (length-tab m 0 g))
+    (λ i b.
+    let q : i < m = omega arith in
+    getD-take m out i nan q ∙ ap (λ (x : List Float). getD x i nan) e ∙ row-at g 0 m l i nan i (omega arith) q (omega arith) ∙ sym (vector-at m i g q))
+
+pub rect-grid : (f : ℕ → ℕ → Float) (r c : ℕ) (l out : List Float) → r * c ≤ length l → out ≡ grid f c r l → rect r c out ≡ matrix r c f
+unfolding rect tabFrom
+rect-grid f r zero l out h e = rw mul-zero
+rect-grid f r (suc d) l out h e =
+    let c = suc d in
+    let n : length out ≡ length l = ap length e ∙ length-grid f c r l in
+    let k : length (take (r * c) out) ≡ r * c = length-take-le (r * c) out (omega arith) in
+    ext-getD nan (take (r * c) out) (matrix r c f) (k ∙ sym (length-tab (r * c) 0 (λ k. f (k / c) (k % c))))
+    (λ x b.
+    let q : x < r * c = omega arith in
+    let hi : x / c < r = div-lt-iff-lt-mul {k = c} (omega arith) .1 q in
+    let hj : x % c < c = mod-lt x (omega arith) in
+    getD-take (r * c) out x nan q ∙ ap (λ (y : List Float). getD y x nan) e
+    ∙ subst (λ (y : ℕ). getD (grid f c r l) y nan ≡ at (matrix r c f) y) (div-add-mod' x c)
+    (grid-at f c r l (x / c) (x % c) nan hi hj h ∙ sym (matrix-at r c (x / c) (x % c) f hi hj)))
+
+-- ---- a matrix that is changed in place, row by row: what a row reads of itself is still the old
+
+pub row-fresh : (g : ℕ → Float) (r c i j : ℕ) (mid out : List Float) → i < r → j < c → out ≡ row g (i * c) j mid → ent c (rect r c out) i j ≡ ent c (rect r c mid) i j
+row-fresh g r c i j mid out hi hj e =
+    rect-at r c i j out hi hj
+    ∙ ap (λ (x : List Float). getD x (i * c + j) nan) e
+    ∙ row-after g (i * c) j mid (i * c + j) nan (omega arith)
+    ∙ sym (rect-at r c i j mid hi hj)
+
+pub grid-fresh : (f : ℕ → ℕ → Float) (r c i j : ℕ) (l mid : List Float) → i < r → j < c → mid ≡ grid f c i l → ent c (rect r c mid) i j ≡ ent c (rect r c l) i j
+grid-fresh f r c i j l mid hi hj e =
+    rect-at r c i j mid hi hj
+    ∙ ap (λ (x : List Float). getD x (i * c + j) nan) e
+    ∙ grid-after f c i l (i * c + j) nan (omega arith)
+    ∙ sym (rect-at r c i j l hi hj)
+
+pub row-cong : (g h : ℕ → Float) (a n : ℕ) (l : List Float) → ((j : ℕ) → j < n → g j ≡ h j) → row g a n l ≡ row h a n l
+unfolding row
+row-cong g h a zero l e = refl
+row-cong g h a (suc n) l e = rw (row-cong g h a n l (λ j b. e j (omega arith)), e n (omega arith)) refl
+
+-- one row more; f is an entry, made of the matrix as it is
+pub in-place-next : (f : List Float → ℕ → ℕ → Float) (r c n k : ℕ) (l mid out : List Float) → n < r
+    → ((j : ℕ) → j < c → ent c (rect r c mid) n j ≡ ent c (rect r c l) n j → f (rect r c mid) n j ≡ f (rect r c l) n j)
+    → out ≡ row (f (rect r c mid) n) (n * c) k mid → mid ≡ grid (f (rect r c l)) c n l → k ≤ c → c ≤ k → out ≡ grid (f (rect r c l)) c (n + 1) l
+in-place-next f r c n k l mid out hn same h e a b =
+    let q : k ≡ c = omega arith in
+    grid-next (f (rect r c l)) c n c l mid out
+    (h ∙ rw q (row-cong (f (rect r c mid) n) (f (rect r c l) n) (n * c) c mid (λ j hj. same j hj (grid-fresh (f (rect r c l)) r c n j l mid hn hj e))))
+    e (omega arith) (omega arith)
+
+-- ---- sums
+
+pub sum-none : (f : ℕ → Float) → 0ᶠ ≡ sumTo 0 f
+unfolding sumTo
+sum-none f = refl
+
+pub sum-next : (f : ℕ → Float) (k : ℕ) (s x : Float) → s ≡ sumTo k f → x ≡ f k → s ⊕ x ≡ sumTo (k + 1) f
+unfolding sumTo
+sum-next f k s x h e = rw add-one (cc)
+
+pub sum-end : (f : ℕ → Float) {k n : ℕ} {s : Float} → s ≡ sumTo k f → k ≤ n → n ≤ k → s ≡ sumTo n f
+sum-end f {k} {n} {s} h a b = let e : k ≡ n = omega arith in cc
+
+pub but-none : (o : ℕ → Bool) (f : ℕ → Float) → 0ᶠ ≡ sumBut 0 o f
+unfolding sumBut
+but-none o f = refl
+
+pub but-next : (o : ℕ → Bool) (f : ℕ → Float) (k : ℕ) (s r x : Float) (t : Bool) → s ≡ sumBut k o f → t ≡ o k → x ≡ f k → r ≡ cond t s (s ⊕ x) → r ≡ sumBut (k + 1) o f
+unfolding sumBut
+but-next o f k s r x t h p e q = rw add-one (cc)
+
+pub but-end : (o : ℕ → Bool) (f : ℕ → Float) {k n : ℕ} {s : Float} → s ≡ sumBut k o f → k ≤ n → n ≤ k → s ≡ sumBut n o f
+but-end o f {k} {n} {s} h a b = let e : k ≡ n = omega arith in cc
+
+pub from-none : (f : ℕ → Float) (s : Float) → s ≡ sumFrom s 0 f
+unfolding sumFrom
+from-none f s = refl
+
+pub from-next : (f : ℕ → Float) (k : ℕ) (r s x : Float) → s ≡ sumFrom r k f → x ≡ f k → s ⊕ x ≡ sumFrom r (k + 1) f
+unfolding sumFrom
+from-next f k r s x h e = rw add-one (cc)
+
+pub from-end : (f : ℕ → Float) (r : Float) {k n : ℕ} {s : Float} → s ≡ sumFrom r k f → k ≤ n → n ≤ k → s ≡ sumFrom r n f
+from-end f r {k} {n} {s} h a b = let e : k ≡ n = omega arith in cc

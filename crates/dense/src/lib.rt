@@ -1,0 +1,357 @@
+// dense.rs: vectors in [f64; 8] and matrices in [f64; 64], row by row. A contract speaks of the places in use:
+// `vec m` of a vector, `mat m` of a square matrix, `rect r c` of one of r rows and c columns.
+ghost use mathlib.Core.Path.{_≡_};
+ghost use mathlib.Core.Bool.{cond};
+ghost use Prim.Native.Nat.{_≤_, _<_, _+_, _*_};
+ghost use lib.ListN.{set, length};
+ghost use Rattle.definition.specs.Num.{isZero, absOf, _⊕_, _⊗_, at, ent, sumFrom};
+ghost use Rattle.definition.specs.Dense.{
+  dot,
+  over,
+  overAt,
+  matVec,
+  matVecAt,
+  matTVec,
+  matTVecAt,
+  lessOf,
+  outerSub,
+  product,
+  productAt,
+  transpose,
+  plus,
+  plusAt,
+  sandwich,
+  symmetrise,
+  symAt,
+  absQuadForm,
+  absColumn,
+  absTerm,
+  sqTerm,
+  frobSq,
+  row,
+  rowAt,
+};
+ghost use Rattle.dense.specs.Views.{vec, mat, rect};
+ghost use Rattle.dense.specs.Places.{Within, Cell, Sizes, Entry};
+
+// A reference to an array that is lent as a slice tells its length.
+pub fn sized(a: &[f64; 64])
+    ensures { λ _. ⌜ length (now (a .entry)) ≡ 64 ⌝ }
+{
+    let s: &[f64] = a;
+}
+
+pub fn nth(x: &[f64; 8], m: usize, i: usize) -> f64
+    requires { ⌜ (m ≤ 8) × (i < m) ⌝ }
+    ensures { λ r. ⌜ r ≡ at (vec m (now (x .entry))) i ⌝ }
+{
+    x[i]
+}
+
+pub fn get(a: &[f64; 64], m: usize, i: usize, j: usize) -> f64
+    requires { ⌜ Within m i j ⌝ }
+    ensures { λ r. ⌜ r ≡ ent m (mat m (now (a .entry))) i j ⌝ }
+{
+    cell(a, m, m, i, j)
+}
+
+pub fn put(a: &mut [f64; 64], m: usize, i: usize, j: usize, v: f64)
+    requires { ⌜ Within m i j ⌝ }
+    ensures { λ _. ⌜ now (a .exit) ≡ set (now (a .entry)) (i * m + j) v ⌝ }
+{
+    set_cell(a, m, m, i, j, v);
+}
+
+// Entry (i, j) of a matrix of r rows and c columns.
+pub fn cell(a: &[f64; 64], r: usize, c: usize, i: usize, j: usize) -> f64
+    requires { ⌜ Cell r c i j ⌝ }
+    ensures { λ x. ⌜ x ≡ ent c (rect r c (now (a .entry))) i j ⌝ }
+{
+    a[i * c + j]
+}
+
+pub fn set_cell(a: &mut [f64; 64], r: usize, c: usize, i: usize, j: usize, v: f64)
+    requires { ⌜ Cell r c i j ⌝ }
+    ensures { λ _. ⌜ now (a .exit) ≡ set (now (a .entry)) (i * c + j) v ⌝ }
+{
+    a[i * c + j] = v;
+}
+
+pub fn dot(a: &[f64; 8], b: &[f64; 8], m: usize) -> f64
+    requires { ⌜ m ≤ 8 ⌝ }
+    ensures { λ r. ⌜ r ≡ dot m (vec m (now (a .entry))) (vec m (now (b .entry))) ⌝ }
+{
+    let mut s = 0.0;
+    for i in 0..m {
+        s = s + nth(a, m, i) * nth(b, m, i);
+    }
+    s
+}
+
+// Each entry of x over s.
+pub fn over(x: &[f64; 8], s: f64, m: usize) -> [f64; 8]
+    requires { ⌜ m ≤ 8 ⌝ }
+    ensures { λ r. ⌜ vec m r ≡ over m (vec m (now (x .entry))) s ⌝ }
+{
+    let mut out = [0.0; 8];
+    for i in 0..m {
+        out[i] = nth(x, m, i) / s;
+    }
+    out
+}
+
+// s + a x, or s where x equals 0.
+fn more(s: f64, a: f64, x: f64) -> f64
+    ensures { λ r. ⌜ r ≡ cond (isZero x) s (s ⊕ a ⊗ x) ⌝ }
+{
+    if x == 0.0 { s } else { s + a * x }
+}
+
+fn mat_vec_at(a: &[f64; 64], x: &[f64; 8], m: usize, i: usize) -> f64
+    requires { ⌜ (m ≤ 8) × (i < m) ⌝ }
+    ensures { λ r. ⌜ r ≡ matVecAt m (mat m (now (a .entry))) (vec m (now (x .entry))) i ⌝ }
+{
+    let mut s = 0.0;
+    for j in 0..m {
+        s = more(s, get(a, m, i, j), nth(x, m, j));
+    }
+    s
+}
+
+// M x, a column whose multiplier equals 0 left out.
+pub fn mat_vec(a: &[f64; 64], x: &[f64; 8], m: usize) -> [f64; 8]
+    requires { ⌜ m ≤ 8 ⌝ }
+    ensures { λ r. ⌜ vec m r ≡ matVec m (mat m (now (a .entry))) (vec m (now (x .entry))) ⌝ }
+{
+    let mut out = [0.0; 8];
+    for i in 0..m {
+        out[i] = mat_vec_at(a, x, m, i);
+    }
+    out
+}
+
+// x less a b, or x where b equals 0.
+fn less(x: f64, a: f64, b: f64) -> f64
+    ensures { λ r. ⌜ r ≡ lessOf x a b ⌝ }
+{
+    if b == 0.0 { x } else { x - a * b }
+}
+
+// P - a b', a column whose multiplier equals 0 left out.
+pub fn outer_sub(p: &mut [f64; 64], a: &[f64; 8], b: &[f64; 8], m: usize)
+    requires { ⌜ m ≤ 8 ⌝ }
+    ensures { λ _. ⌜ mat m (now (p .exit)) ≡ outerSub m (mat m (now (p .entry))) (vec m (now (a .entry))) (vec m (now (b .entry))) ⌝ }
+{
+    sized(p);
+    for i in 0..m {
+        for j in 0..m {
+            let v = less(get(p, m, i, j), nth(a, m, i), nth(b, m, j));
+            put(p, m, i, j, v);
+        }
+    }
+}
+
+fn mat_t_vec_at(a: &[f64; 64], x: &[f64; 8], m: usize, j: usize) -> f64
+    requires { ⌜ (m ≤ 8) × (j < m) ⌝ }
+    ensures { λ r. ⌜ r ≡ matTVecAt m (mat m (now (a .entry))) (vec m (now (x .entry))) j ⌝ }
+{
+    let mut s = 0.0;
+    for i in 0..m {
+        s = s + get(a, m, i, j) * nth(x, m, i);
+    }
+    s
+}
+
+// M' x.
+pub fn mat_t_vec(a: &[f64; 64], x: &[f64; 8], m: usize) -> [f64; 8]
+    requires { ⌜ m ≤ 8 ⌝ }
+    ensures { λ r. ⌜ vec m r ≡ matTVec m (mat m (now (a .entry))) (vec m (now (x .entry))) ⌝ }
+{
+    let mut out = [0.0; 8];
+    for j in 0..m {
+        out[j] = mat_t_vec_at(a, x, m, j);
+    }
+    out
+}
+
+// Entry (i, j) of (M + M') / 2: the upper entry first; the diagonal stays.
+fn mirrored(p: &[f64; 64], m: usize, i: usize, j: usize) -> f64
+    requires { ⌜ Within m i j ⌝ }
+    ensures { λ r. ⌜ r ≡ symAt m (mat m (now (p .entry))) i j ⌝ }
+{
+    if i < j {
+        0.5 * (get(p, m, i, j) + get(p, m, j, i))
+    } else if j < i {
+        0.5 * (get(p, m, j, i) + get(p, m, i, j))
+    } else {
+        get(p, m, i, j)
+    }
+}
+
+pub fn symmetrize_in_place(p: &mut [f64; 64], m: usize)
+    requires { ⌜ m ≤ 8 ⌝ }
+    ensures { λ _. ⌜ mat m (now (p .exit)) ≡ symmetrise m (mat m (now (p .entry))) ⌝ }
+{
+    sized(p);
+    let q = *p;
+    for i in 0..m {
+        for j in 0..m {
+            let v = mirrored(&q, m, i, j);
+            put(p, m, i, j, v);
+        }
+    }
+}
+
+fn product_at(a: &[f64; 64], b: &[f64; 64], r: usize, k: usize, c: usize, i: usize, j: usize) -> f64
+    requires { ⌜ Entry r k c i j ⌝ }
+    ensures { λ x. ⌜ x ≡ productAt k c (rect r k (now (a .entry))) (rect k c (now (b .entry))) i j ⌝ }
+{
+    let mut s = 0.0;
+    for l in 0..k {
+        s = s + cell(a, r, k, i, l) * cell(b, k, c, l, j);
+    }
+    s
+}
+
+// A B, of r rows, k inner places and c columns.
+pub fn product(a: &[f64; 64], b: &[f64; 64], r: usize, k: usize, c: usize) -> [f64; 64]
+    requires { ⌜ Sizes r k c ⌝ }
+    ensures { λ x. ⌜ rect r c x ≡ product r k c (rect r k (now (a .entry))) (rect k c (now (b .entry))) ⌝ }
+{
+    let mut out = [0.0; 64];
+    for i in 0..r {
+        for j in 0..c {
+            let v = product_at(a, b, r, k, c, i, j);
+            set_cell(&mut out, r, c, i, j, v);
+        }
+    }
+    out
+}
+
+fn product_t_at(
+    a: &[f64; 64],
+    b: &[f64; 64],
+    r: usize,
+    k: usize,
+    c: usize,
+    i: usize,
+    j: usize,
+) -> f64
+    requires { ⌜ Entry r k c i j ⌝ }
+    ensures { λ x. ⌜ x ≡ productAt k c (rect r k (now (a .entry))) (transpose c k (rect c k (now (b .entry)))) i j ⌝ }
+{
+    let mut s = 0.0;
+    for l in 0..k {
+        s = s + cell(a, r, k, i, l) * cell(b, c, k, j, l);
+    }
+    s
+}
+
+// A B', of r rows, k inner places and c columns: B has c rows and k columns.
+pub fn product_t(a: &[f64; 64], b: &[f64; 64], r: usize, k: usize, c: usize) -> [f64; 64]
+    requires { ⌜ Sizes r k c ⌝ }
+    ensures { λ x. ⌜ rect r c x ≡ product r k c (rect r k (now (a .entry))) (transpose c k (rect c k (now (b .entry)))) ⌝ }
+{
+    let mut out = [0.0; 64];
+    for i in 0..r {
+        for j in 0..c {
+            let v = product_t_at(a, b, r, k, c, i, j);
+            set_cell(&mut out, r, c, i, j, v);
+        }
+    }
+    out
+}
+
+// T P T'.
+pub fn sandwich(t: &[f64; 64], p: &[f64; 64], m: usize) -> [f64; 64]
+    requires { ⌜ m ≤ 8 ⌝ }
+    ensures { λ r. ⌜ mat m r ≡ sandwich m (mat m (now (t .entry))) (mat m (now (p .entry))) ⌝ }
+{
+    let tp = product(t, p, m, m, m);
+    product_t(&tp, t, m, m, m)
+}
+
+// P + Q, in place.
+pub fn add(p: &mut [f64; 64], q: &[f64; 64], m: usize)
+    requires { ⌜ m ≤ 8 ⌝ }
+    ensures { λ _. ⌜ mat m (now (p .exit)) ≡ plus m (mat m (now (p .entry))) (mat m (now (q .entry))) ⌝ }
+{
+    sized(p);
+    for i in 0..m {
+        for j in 0..m {
+            let v = get(p, m, i, j) + get(q, m, i, j);
+            put(p, m, i, j, v);
+        }
+    }
+}
+
+// s and the terms of column j of |z|' |M| |z|.
+fn abs_column(s: f64, z: &[f64; 8], a: &[f64; 64], m: usize, j: usize) -> f64
+    requires { ⌜ (m ≤ 8) × (j < m) ⌝ }
+    ensures { λ r. ⌜ r ≡ sumFrom s m (absTerm m (vec m (now (z .entry))) (mat m (now (a .entry))) j) ⌝ }
+{
+    let zj = float::abs(nth(z, m, j));
+    let mut s = s;
+    for i in 0..m {
+        s = s + float::abs(nth(z, m, i)) * zj * float::abs(get(a, m, i, j));
+    }
+    s
+}
+
+fn abs_column_kept(s: f64, z: &[f64; 8], a: &[f64; 64], m: usize, j: usize) -> f64
+    requires { ⌜ (m ≤ 8) × (j < m) ⌝ }
+    ensures { λ r. ⌜ r ≡ absColumn m (vec m (now (z .entry))) (mat m (now (a .entry))) j s ⌝ }
+{
+    if nth(z, m, j) == 0.0 {
+        return s;
+    }
+    abs_column(s, z, a, m, j)
+}
+
+// |z|' |M| |z|, column by column, leaving out the columns at which z is 0.
+pub fn abs_quad_form(z: &[f64; 8], a: &[f64; 64], m: usize) -> f64
+    requires { ⌜ m ≤ 8 ⌝ }
+    ensures { λ r. ⌜ r ≡ absQuadForm m (vec m (now (z .entry))) (mat m (now (a .entry))) ⌝ }
+{
+    let mut s = 0.0;
+    for j in 0..m {
+        s = abs_column_kept(s, z, a, m, j);
+    }
+    s
+}
+
+fn sq_column(s: f64, a: &[f64; 64], m: usize, j: usize) -> f64
+    requires { ⌜ (m ≤ 8) × (j < m) ⌝ }
+    ensures { λ r. ⌜ r ≡ sumFrom s m (sqTerm m (mat m (now (a .entry))) j) ⌝ }
+{
+    let mut s = s;
+    for i in 0..m {
+        let x = get(a, m, i, j);
+        s = s + x * x;
+    }
+    s
+}
+
+// The sum of the squares, column by column.
+pub fn frob_sq(a: &[f64; 64], m: usize) -> f64
+    requires { ⌜ m ≤ 8 ⌝ }
+    ensures { λ r. ⌜ r ≡ frobSq m (mat m (now (a .entry))) ⌝ }
+{
+    let mut s = 0.0;
+    for j in 0..m {
+        s = sq_column(s, a, m, j);
+    }
+    s
+}
+
+// Row i of a matrix of p rows and m columns.
+pub fn row_to_vec(a: &[f64; 64], p: usize, m: usize, i: usize) -> [f64; 8]
+    requires { ⌜ (p ≤ 8) × ((m ≤ 8) × (i < p)) ⌝ }
+    ensures { λ r. ⌜ vec m r ≡ row m (rect p m (now (a .entry))) i ⌝ }
+{
+    let mut out = [0.0; 8];
+    for j in 0..m {
+        out[j] = a[i * m + j];
+    }
+    out
+}
