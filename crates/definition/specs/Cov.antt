@@ -2,11 +2,11 @@
 -- `filter_univariate` takes the steps, with document 01's tests ("One period forward"). Of the readings it sees which are gaps, and it sees no
 -- mean and no intercept. The Rust works out v and the mean in between; they reach nothing here, so the order of these operations and their
 -- operands are the Rust's, bit for bit.
-use Prim.Native.Nat.{ℕ, zero, suc, _+_, _*_}
-use mathlib.Core.Bool.{Bool, true, false, not, _&&_, _||_, cond}
+use Prim.Native.Nat.{ℕ, _*_}
+use mathlib.Core.Bool.{Bool, true, false, _&&_, _||_, cond}
 use mathlib.Core.List.{List, [], _∷_, _++_}
 use lib.Ieee.{Float, neg}
-use Rattle.definition.specs.Num.{_⊕_, _⊖_, _⊗_, _⊘_, _>ᶠ_, _≤ᶠ_, 0ᶠ, rank-tol, cancel-tol, suspect-tol, absOf, max0, tabulate, zeros, at, ent, sumTo}
+use Rattle.definition.specs.Num.{_⊕_, _⊗_, _⊘_, _>ᶠ_, _≤ᶠ_, rank-tol, cancel-tol, suspect-tol, absOf, max0, tabulate, zeros, at, ent, sumTo}
 use Rattle.definition.specs.Dense.{dot, over, matVec, matTVec, outerSub, mul, plus, sandwich, symmetrise, frobSq, absQuadForm, row}
 use Rattle.definition.specs.Root.{sqrtOf}
 use Rattle.definition.specs.Star.{againOf}

@@ -1,7 +1,7 @@
 -- A call's inputs, and what the two tracks take of them (document 01, "Sizes and lent parts" and "Taken and left").
-use Prim.Native.Nat.{ℕ, zero, suc, _+_, _-_, _*_, _/_, min}
+use Prim.Native.Nat.{ℕ, _-_, _*_, _/_, min}
 use mathlib.Core.Bool.{Bool, true, false, _&&_, cond}
-use mathlib.Core.List.{List, [], _∷_, map}
+use mathlib.Core.List.{List, map}
 use lib.ListN.{length, getD, take, drop}
 use lib.Dec.{eqb}
 use lib.Ieee.{Float, nan, inf, fin}

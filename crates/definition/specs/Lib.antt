@@ -11,3 +11,4 @@ pub mod Inputs
 pub mod Refusals
 pub mod Parts
 pub mod Outcome
+pub mod Opened

@@ -1,6 +1,6 @@
 -- Document 01's natural logarithm, an ordered list of operations on doubles ("Arithmetic", last point).
 use Prim.Native.Nat.{ℕ, zero, suc, _+_, _-_, _*_, _^_}
-use mathlib.Core.Bool.{Bool, true, false, cond}
+use mathlib.Core.Bool.{true, false, cond}
 use lib.IntN.{ℤ, pos, negsuc}
 use lib.Ieee.{Float, nan, inf, fin, binary64, minus, size, round, add, sub, mul, div, lt, ofInt, ofBits}
 use Rattle.definition.specs.Root.{count}

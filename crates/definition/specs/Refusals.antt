@@ -1,9 +1,9 @@
 -- Document 01's refusals 1 to 11: each one's condition, and the number of the first that applies. (12 is Outcome's: it is judged after the run.)
 -- A zero is either zero, and is not below 0.
-use Prim.Native.Nat.{ℕ, zero, suc, _+_, _*_, _/_}
-use mathlib.Core.Bool.{Bool, true, false, not, _&&_, _||_, cond}
+use Prim.Native.Nat.{ℕ, _*_, _/_}
+use mathlib.Core.Bool.{Bool, not, _&&_, _||_, cond}
 use mathlib.Core.List.{List, [], _∷_}
-use lib.ListN.{length, getD}
+use lib.ListN.{length}
 use lib.Dec.{leb, ltb, eqb}
 use lib.Ieee.{Float, eq}
 use Rattle.definition.specs.Num.{_>ᶠ_, 0ᶠ, isZero, isFinite, at, ent}

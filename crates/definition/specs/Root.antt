@@ -2,7 +2,7 @@
 -- Document 01, "Arithmetic": correctly rounded; +infinity, NaN and both zeros give themselves, all below 0 gives NaN.
 -- There are no real numbers here, so what is compared with the real root is compared by its square.
 use Prim.Native.Nat.{ℕ, zero, suc, _+_, _-_, _*_, _/_, _^_, compare}
-use mathlib.Core.Bool.{Bool, true, false, cond}
+use mathlib.Core.Bool.{true, false, cond}
 use lib.Dec.{leb}
 use lib.Ieee.{Float, nan, inf, fin, Format, binary64, prec, low, size, nearest, units}
 use lib.Ieee.Positive.{num, den}

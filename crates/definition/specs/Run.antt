@@ -1,7 +1,7 @@
 -- Going through a list with a state, from the front and from the back; lists cut into parts and joined; counts and tests.
 -- Place k of the list is place t + k of the run.
 use Prim.Native.Nat.{ℕ, zero, suc, _+_}
-use mathlib.Core.Bool.{Bool, true, false, cond, _||_}
+use mathlib.Core.Bool.{Bool, false, cond, _||_}
 use mathlib.Core.List.{List, [], _∷_, _++_}
 use lib.ListN.{length, take, drop}
 

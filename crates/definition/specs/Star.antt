@@ -4,7 +4,7 @@
 -- the same: each accepted element downdates a kept root just as a replay would, in the same order, and a skipped element touches neither.
 -- (The Rust replays the period's usual updates alone; a period in which the root is asked has no others, since a suspect of a diffuse period is
 -- accepted without it.)
-use Prim.Native.Nat.{ℕ, zero, suc, _+_, _*_}
+use Prim.Native.Nat.{ℕ, zero, suc, _+_}
 use mathlib.Core.Bool.{Bool, true, false, not, _&&_, _||_, cond}
 use mathlib.Core.List.{List, [], _∷_, _++_}
 use lib.ListN.{length, getD, set, replicate}
