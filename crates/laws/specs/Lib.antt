@@ -4,10 +4,11 @@ pub mod Flat
 pub mod ReadBack
 pub mod Shapes
 pub mod Backward
+pub mod Any
 pub mod Numbered
+pub mod Accepted
 pub mod Swap
 pub mod Same
 pub mod Compared
 pub mod Halves
 pub mod Signs
-pub mod Any
