@@ -1,4 +1,10 @@
-// What the language lacks on f64: the magnitude, the larger of a value and 0, the tests.
+// What the language lacks on f64: the magnitude, the larger of a value and 0, the tests, the square root, the logarithm.
+mod log;
+mod parts;
+mod root;
+
+pub use log::ln;
+pub use root::sqrt;
 ghost use mathlib.Core.Path.{_≡_};
 ghost use lib.Ieee.{isNan};
 ghost use Rattle.definition.specs.Num.{absOf, max0, isInfinite, isFinite};

@@ -12,3 +12,4 @@ pub mod Same
 pub mod Compared
 pub mod Halves
 pub mod Signs
+pub mod Squares

@@ -1,0 +1,17 @@
+-- What the inner functions of the square root and the logarithm promise. Definitions only.
+use mathlib.Core.Path.{_≡_}
+use Prim.Native.Nat.{ℕ, _+_, _-_, _*_, _^_, _≤_, _<_}
+use lib.Ieee.{Float, binary64}
+use Rattle.definition.specs.Root.{count}
+
+-- x, which is finite and above zero, taken apart: d has 53 digits, and x is d / 2 ^ 52 times 2 ^ (j - 1074)
+pub record Parted (x : Float) (d j : ℕ) : Type 0 where
+  pub least : 2 ^ 52 ≤ d
+  pub most : d < 2 ^ 53
+  pub small : j < 2098
+  pub value : count binary64 x * 2 ^ 52 ≡ d * 2 ^ j
+
+-- q is the whole number that is nearest to the root of m * 2 ^ 52
+pub record Close (m q : ℕ) : Type 0 where
+  pub over : q * (q - 1) < m * 2 ^ 52
+  pub under : m * 2 ^ 52 ≤ q * (q + 1)
