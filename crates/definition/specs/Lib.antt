@@ -11,4 +11,5 @@ pub mod Inputs
 pub mod Refusals
 pub mod Parts
 pub mod Outcome
-pub mod Opened
+pub mod Computed
+pub mod Edges

@@ -1,9 +1,9 @@
 -- Document 01's bench figures: the starred ones, A to L, and those below them, as one table under one theorem, by computation.
 -- Each row is what the definition gives, and what 01 says; doubles by their bits.
 use Prim.Native.Nat.{ℕ, _^_, _/_}
-use mathlib.Core.Bool.{Bool, true, false, _&&_}
+use mathlib.Core.Bool.{true, false}
 use mathlib.Core.List.{List, [], _∷_, map}
-use lib.Dec.{T, eqb}
+use lib.Dec.{T}
 use lib.ListN.{length, getD, replicate}
 use lib.IntN.{pos}
 use lib.Ieee.{Float, nan, inf, binary64, ofInt, toBits}
@@ -16,7 +16,7 @@ use Rattle.definition.specs.Refusals.{refusal}
 use Rattle.definition.specs.Parts.{predCov, predInf, filtCov, fStar, fInf, predMean, filtMean, innovations, kindNo}
 use Rattle.definition.specs.Outcome.{CovParts, MeanParts, CovOutcome, MeanOutcome, SmoothedCov, SmoothedMean, kindsNeed, covNeed, meanNeed, smoothedCovNeed, smoothedMeanNeed, covOf, decisionsOf, outcome, smoothOutcome}
 use Rattle.definition.specs.Run.{join}
-use Rattle.definition.specs.Opened.{opened}
+use Rattle.definition.specs.Computed.{hold, opened}
 
 -- a whole number, and a quarter of one
 abbrev num : ℕ → Float
@@ -216,16 +216,6 @@ figures =
     ∷ (refusalOf 4096 ∷ refusalOf 4097 ∷ [], 0 ∷ 1 ∷ [])
     ∷ []
 
-abbrev same : List ℕ → List ℕ → Bool
-same [] [] = true
-same [] (b ∷ bs) = false
-same (a ∷ ls) [] = false
-same (a ∷ ls) (b ∷ bs) = eqb a b && same ls bs
-
-abbrev holds : List (List ℕ × List ℕ) → Bool
-holds [] = true
-holds (e ∷ es) = same (e .0) (e .1) && holds es
-
-pub table : T (holds figures)
+pub table : T (hold figures)
 unfolding opened
 table = tt

@@ -1,4 +1,8 @@
--- Every definition of this crate, opened at once: a theorem by computation says `unfolding opened`. One line a file.
+-- For theorems by computation: every definition of this crate opened at once (such a theorem says `unfolding opened`), and rows of numbers compared.
+use Prim.Native.Nat.{ℕ}
+use mathlib.Core.Bool.{Bool, true, false, _&&_}
+use mathlib.Core.List.{List, [], _∷_}
+use lib.Dec.{eqb}
 use Rattle.definition.specs.Num
 use Rattle.definition.specs.Run
 use Rattle.definition.specs.Dense
@@ -13,6 +17,19 @@ use Rattle.definition.specs.Refusals
 use Rattle.definition.specs.Parts
 use Rattle.definition.specs.Outcome
 use lib.Ieee.{add, sub, mul, div, neg, lt, le, eq, ne, ofInt, ofBits, toBits, size, round, units}
+
+-- rows of what was worked out and what it should be
+abbrev pub same : List ℕ → List ℕ → Bool
+same [] [] = true
+same [] (b ∷ bs) = false
+same (a ∷ ls) [] = false
+same (a ∷ ls) (b ∷ bs) = eqb a b && same ls bs
+
+abbrev pub hold : List (List ℕ × List ℕ) → Bool
+hold [] = true
+hold (r ∷ rs) = same (r .0) (r .1) && hold rs
+
+-- ---- opened, file by file
 
 unfoldable ieee : Unit {0}
 unfolding add sub mul div neg lt le eq ne ofInt ofBits toBits size round units
