@@ -13,3 +13,4 @@ pub mod Parts
 pub mod Outcome
 pub mod Computed
 pub mod Edges
+pub mod Tracks
