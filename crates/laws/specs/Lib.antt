@@ -13,3 +13,4 @@ pub mod Compared
 pub mod Halves
 pub mod Signs
 pub mod Squares
+pub mod RootLaws
