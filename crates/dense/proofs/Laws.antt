@@ -1,23 +1,24 @@
 -- Places in a matrix, and lists that loops store into, for every size; and from these to the definition's tables.
 use Prim.Native.Nat.{ℕ, zero, suc, _+_, _*_, _/_, _%_, _≤_, _<_, _-_}
 use mathlib.Core.Path.{_≡_, refl, sym, ap, _∙_, subst}
-use mathlib.Core.List.{List}
+use mathlib.Core.List.{List, _∷_}
 use mathlib.Core.Logic.{_⊎_, inl, inr, ⊎-elim}
 use mathlib.Core.Bool.{Bool, true, false, cond}
 use lib.Dec.{ltb}
 use borrow.Author.Tests.{ltb-true, ltb-false}
 use native.Mathlib.Omega.{arith}
 use native.Mathlib.Numerals.{add-one}
-use native.Mathlib.Nat.{mul-le-mul, mul-le-mul-right, suc-mul, mul-zero, div-add-mod', mod-lt, div-lt-iff-lt-mul}
-use lib.ListN.{length, getD, set, take, length-set}
-use lib.Seq.{getD-set-same, getD-set-other, ext-getD, getD-take, length-take-le}
+use native.Mathlib.Nat.{mul-le-mul, mul-le-mul-right, suc-mul, mul-zero, div-add-mod', mod-lt, div-lt-iff-lt-mul, not-suc-le-zero, le-of-suc-le-suc}
+use lib.ListN.{length, getD, set, take, replicate, length-set}
+use lib.Seq.{getD-set-same, getD-set-other, ext-getD, getD-take, length-take-le, take-all}
 use lib.Ieee.{Float, nan}
 use mir.Val.{Fits}
 use mir.Syntax.{w64}
-use Rattle.definition.specs.Num.{tabFrom, tabulate, matrix, at, ent, sumTo, sumBut, sumFrom, _⊕_, 0ᶠ}
+use Rattle.definition.specs.Num.{tabFrom, tabulate, matrix, at, ent, zeros, sumTo, sumBut, sumFrom, _⊕_, 0ᶠ}
 use Rattle.definition.specs.Dense.{transpose, transposeAt}
-use Rattle.laws.specs.Lists.{vector-at, matrix-at, length-tab}
+use Rattle.laws.specs.Lists.{vector-at, matrix-at, length-tab, tab-cong}
 use Rattle.dense.specs.Views.{vec, rect}
+use Rattle.dense.specs.Places.{Saved}
 
 -- old with entry a + j replaced by g j, for each j below n
 unfoldable pub row : {A : Type 0} → (ℕ → A) → ℕ → ℕ → List A → List A
@@ -215,6 +216,92 @@ in-place-next f r c n k l mid out hn same h e a b =
     grid-next (f (rect r c l)) c n c l mid out
     (h ∙ rw q (row-cong (f (rect r c mid) n) (f (rect r c l) n) (n * c) c mid (λ j hj. same j hj (grid-fresh (f (rect r c l)) r c n j l mid hn hj e))))
     e (omega arith) (omega arith)
+
+-- ---- two lists place by place: the left one is changed in place
+
+unfoldable pub both : (Float → Float → Float) → List Float → List Float → ℕ → Float
+both op p q k = op (at p k) (at q k)
+
+pub both-next : (op : Float → Float → Float) (p q out : List Float) (k : ℕ) → out ≡ row (both op p q) 0 k p → set out k (op (at out k) (at q k)) ≡ row (both op p q) 0 (k + 1) p
+unfolding both
+both-next op p q out k e =
+    let old : at out k ≡ at p k = ap (λ (x : List Float). at x k) e ∙ row-after (both op p q) 0 k p k nan (omega arith) in
+    vec-next (both op p q) k p out (op (at out k) (at q k)) e (ap (λ (x : Float). op x (at q k)) old)
+
+pub both-vec : (op : Float → Float → Float) (m : ℕ) (p q out : List Float) → m ≤ length p → out ≡ row (both op p q) 0 m p → vec m out ≡ tabulate m (both op (vec m p) (vec m q))
+unfolding both
+both-vec op m p q out h e =
+    vec-row (both op p q) m p out h e
+    ∙ tab-cong m 0 (both op p q) (both op (vec m p) (vec m q)) (λ i a b.
+    let g : i < m = omega arith in
+    let l = vec-at m i p g in
+    let r = vec-at m i q g in
+    cc)
+
+-- entry k of all, by its row and its column
+pub flat-at : (c k : ℕ) (a : List Float) → ent c a (k / c) (k % c) ≡ at a k
+flat-at c k a = ap (λ (x : ℕ). at a x) (div-add-mod' k c)
+
+pub both-rect : (op : Float → Float → Float) (r c : ℕ) (p q out : List Float) → r * c ≤ length p → out ≡ row (both op p q) 0 (r * c) p → rect r c out ≡ matrix r c (λ i j. op (ent c (rect r c p) i j) (ent c (rect r c q) i j))
+unfolding both vec rect
+both-rect op r c p q out h e =
+    both-vec op (r * c) p q out h e
+    ∙ tab-cong (r * c) 0 (both op (vec (r * c) p) (vec (r * c) q)) (λ k. op (ent c (rect r c p) (k / c) (k % c)) (ent c (rect r c q) (k / c) (k % c))) (λ k a b.
+    let l = flat-at c k (rect r c p) in
+    let g = flat-at c k (rect r c q) in
+    cc)
+
+-- ---- moves: n places of a, from the first on
+
+unfoldable pub copied : {A : Type 0} → A → List A → ℕ → A
+copied d a k = getD a k d
+
+pub copied-next : {A : Type 0} (d : A) (a l out : List A) (k : ℕ) → out ≡ row (copied d a) 0 k l → set out k (getD a k d) ≡ row (copied d a) 0 (k + 1) l
+unfolding copied
+copied-next d a l out k e = vec-next (copied d a) k l out (getD a k d) e refl
+
+pub take-copied : {A : Type 0} (d : A) (a l out : List A) (n : ℕ) → n ≤ length a → n ≤ length l → out ≡ row (copied d a) 0 n l → take n out ≡ take n a
+unfolding copied
+take-copied d a l out n h g e =
+    let k : length out ≡ length l = ap length e ∙ length-row (copied d a) 0 n l in
+    ext-getD d (take n out) (take n a) (length-take-le n out (omega arith) ∙ sym (length-take-le n a h))
+    (λ i b.
+    let q : i < n = omega (arith, length-take-le n out (omega arith)) in
+    getD-take n out i d q ∙ ap (λ (x : List _). getD x i d) e ∙ row-at (copied d a) 0 n l i d i (omega arith) q (omega arith) ∙ sym (getD-take n a i d q))
+
+-- a part that was loaded, and one that was saved to
+pub loaded : (a l out : List Float) (n : ℕ) → n ≡ length a → n ≤ length l → out ≡ row (copied nan a) 0 n l → vec (length a) out ≡ a
+unfolding vec
+loaded a l out n h g e = ap (λ (k : ℕ). take k out) (sym h) ∙ take-copied nan a l out n (omega arith) g e ∙ take-all n a (omega arith)
+
+pub saved : {A : Type 0} (d : A) (a l out : List A) (n : ℕ) → n ≡ length l → n ≤ length a → out ≡ row (copied d a) 0 n l → Saved (length l) a out
+saved d a l out n h g e =
+    let k : length out ≡ length l = ap length e ∙ length-row (copied d a) 0 n l in
+    record { holds = sym (take-all n out (omega arith)) ∙ take-copied d a l out n g (omega arith) e ∙ ap (λ (x : ℕ). take x a) h; kept = k }
+
+-- the same for a caller that knows the part's length
+pub loaded-rect : (r c n : ℕ) (a : List Float) {s : List Float} → n ≡ r * c → vec n a ≡ s → rect r c a ≡ s
+unfolding vec rect
+loaded-rect r c n a h e = ap (λ (k : ℕ). take k a) (sym h) ∙ e
+
+pub saved-vec : (k : ℕ) {n : ℕ} {a out : List Float} → n ≡ k → Saved n a out → out ≡ vec k a
+unfolding vec
+saved-vec k {n} {a} h s = s .holds ∙ ap (λ (x : ℕ). take x a) h
+
+pub saved-rect : (r c : ℕ) {n : ℕ} {a out : List Float} → n ≡ r * c → Saved n a out → out ≡ rect r c a
+unfolding vec rect
+saved-rect r c h s = saved-vec (r * c) h s
+
+-- an array that is all +0.0
+pub vec-zeros : (k n : ℕ) → k ≤ n → vec k (replicate n 0ᶠ) ≡ zeros k
+unfolding vec
+vec-zeros zero n h = refl
+vec-zeros (suc k) zero h = absurd (not-suc-le-zero h)
+vec-zeros (suc k) (suc n) h = ap (λ (l : List Float). 0ᶠ ∷ l) (vec-zeros k n (le-of-suc-le-suc h))
+
+pub rect-zeros : (r c n : ℕ) → r * c ≤ n → rect r c (replicate n 0ᶠ) ≡ zeros (r * c)
+unfolding rect vec
+rect-zeros r c n h = vec-zeros (r * c) n h
 
 -- ---- sums
 

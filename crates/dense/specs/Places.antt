@@ -1,5 +1,8 @@
--- Where the kernels may read and write.
+-- Where the kernels may read and write, and what the moves leave.
 use Prim.Native.Nat.{ℕ, _≤_, _<_}
+use mathlib.Core.Path.{_≡_}
+use mathlib.Core.List.{List}
+use lib.ListN.{length, take}
 
 -- i and j are a row and a column of a matrix of m by m, at most 8 by 8
 pub record Within (m i j : ℕ) : Type 0 where
@@ -25,3 +28,8 @@ pub record Entry (r k c i j : ℕ) : Type 0 where
   pub sizes : Sizes r k c
   pub row : i < r
   pub column : j < c
+
+-- a part of n places holds the first n of an array, and is as long as it was
+pub record Saved {A : Type 0} (n : ℕ) (a out : List A) : Type 0 where
+  pub holds : out ≡ take n a
+  pub kept : length out ≡ n

@@ -5,40 +5,29 @@ ghost use mathlib.Core.Bool.{cond};
 ghost use Prim.Native.Nat.{_≤_, _<_, _+_, _*_};
 ghost use lib.ListN.{set, length};
 ghost use Rattle.definition.specs.Num.{isZero, absOf, _⊕_, _⊗_, at, ent, sumFrom};
-ghost use Rattle.definition.specs.Dense.{
-  dot,
-  over,
-  overAt,
-  matVec,
-  matVecAt,
-  matTVec,
-  matTVecAt,
-  lessOf,
-  outerSub,
-  product,
-  productAt,
-  transpose,
-  plus,
-  plusAt,
-  sandwich,
-  symmetrise,
-  symAt,
-  absQuadForm,
-  absColumn,
-  absTerm,
-  sqTerm,
-  frobSq,
-  row,
-  rowAt,
-};
+ghost use Rattle.definition.specs.Dense.{dot, axpy, over, scaled, row, matVec, matVecAt, matTVec, matTVecAt};
+ghost use Rattle.definition.specs.Dense.{lessOf, outerSub, outerScaled, product, productAt, transpose, sandwich, quad};
+ghost use Rattle.definition.specs.Dense.{plus, minus, symmetrise, symAt, sqTerm, frobSq, absTerm, absColumn, absQuadForm};
 ghost use Rattle.dense.specs.Views.{vec, mat, rect};
-ghost use Rattle.dense.specs.Places.{Within, Cell, Sizes, Entry};
+ghost use Rattle.dense.specs.Places.{Within, Cell, Sizes, Entry, Saved};
 
 // A reference to an array that is lent as a slice tells its length.
 pub fn sized(a: &[f64; 64])
     ensures { λ _. ⌜ length (now (a .entry)) ≡ 64 ⌝ }
 {
     let s: &[f64] = a;
+}
+
+pub fn sized8(a: &[f64; 8])
+    ensures { λ _. ⌜ length (now (a .entry)) ≡ 8 ⌝ }
+{
+    let s: &[f64] = a;
+}
+
+pub fn sized_bytes(a: &[u8; 8])
+    ensures { λ _. ⌜ length (now (a .entry)) ≡ 8 ⌝ }
+{
+    let s: &[u8] = a;
 }
 
 pub fn nth(x: &[f64; 8], m: usize, i: usize) -> f64
@@ -86,6 +75,29 @@ pub fn dot(a: &[f64; 8], b: &[f64; 8], m: usize) -> f64
         s = s + nth(a, m, i) * nth(b, m, i);
     }
     s
+}
+
+// y + s x, in place, nothing left out.
+pub fn axpy(y: &mut [f64; 8], s: f64, x: &[f64; 8], m: usize)
+    requires { ⌜ m ≤ 8 ⌝ }
+    ensures { λ _. ⌜ vec m (now (y .exit)) ≡ axpy m (vec m (now (y .entry))) s (vec m (now (x .entry))) ⌝ }
+{
+    sized8(y);
+    for i in 0..m {
+        y[i] = y[i] + s * x[i];
+    }
+}
+
+// Each entry of x times s.
+pub fn scaled(x: &[f64; 8], s: f64, m: usize) -> [f64; 8]
+    requires { ⌜ m ≤ 8 ⌝ }
+    ensures { λ r. ⌜ vec m r ≡ scaled m (vec m (now (x .entry))) s ⌝ }
+{
+    let mut out = [0.0; 8];
+    for i in 0..m {
+        out[i] = nth(x, m, i) * s;
+    }
+    out
 }
 
 // Each entry of x over s.
@@ -149,6 +161,21 @@ pub fn outer_sub(p: &mut [f64; 64], a: &[f64; 8], b: &[f64; 8], m: usize)
             put(p, m, i, j, v);
         }
     }
+}
+
+// s a b', as (s a) b'.
+pub fn outer_scaled(a: &[f64; 8], b: &[f64; 8], s: f64, m: usize) -> [f64; 64]
+    requires { ⌜ m ≤ 8 ⌝ }
+    ensures { λ r. ⌜ mat m r ≡ outerScaled m (vec m (now (a .entry))) (vec m (now (b .entry))) s ⌝ }
+{
+    let mut out = [0.0; 64];
+    for i in 0..m {
+        for j in 0..m {
+            let v = s * nth(a, m, i) * nth(b, m, j);
+            put(&mut out, m, i, j, v);
+        }
+    }
+    out
 }
 
 fn mat_t_vec_at(a: &[f64; 64], x: &[f64; 8], m: usize, j: usize) -> f64
@@ -262,6 +289,55 @@ pub fn product_t(a: &[f64; 64], b: &[f64; 64], r: usize, k: usize, c: usize) -> 
     out
 }
 
+fn t_product_at(
+    a: &[f64; 64],
+    b: &[f64; 64],
+    r: usize,
+    k: usize,
+    c: usize,
+    i: usize,
+    j: usize,
+) -> f64
+    requires { ⌜ Entry r k c i j ⌝ }
+    ensures { λ x. ⌜ x ≡ productAt k c (transpose k r (rect k r (now (a .entry)))) (rect k c (now (b .entry))) i j ⌝ }
+{
+    let mut s = 0.0;
+    for l in 0..k {
+        s = s + cell(a, k, r, l, i) * cell(b, k, c, l, j);
+    }
+    s
+}
+
+// A' B, of r rows, k inner places and c columns: A has k rows and r columns.
+pub fn t_product(a: &[f64; 64], b: &[f64; 64], r: usize, k: usize, c: usize) -> [f64; 64]
+    requires { ⌜ Sizes r k c ⌝ }
+    ensures { λ x. ⌜ rect r c x ≡ product r k c (transpose k r (rect k r (now (a .entry)))) (rect k c (now (b .entry))) ⌝ }
+{
+    let mut out = [0.0; 64];
+    for i in 0..r {
+        for j in 0..c {
+            let v = t_product_at(a, b, r, k, c, i, j);
+            set_cell(&mut out, r, c, i, j, v);
+        }
+    }
+    out
+}
+
+// A', of an A of r rows and c columns.
+pub fn transpose(a: &[f64; 64], r: usize, c: usize) -> [f64; 64]
+    requires { ⌜ (r ≤ 8) × (c ≤ 8) ⌝ }
+    ensures { λ x. ⌜ rect c r x ≡ transpose r c (rect r c (now (a .entry))) ⌝ }
+{
+    let mut out = [0.0; 64];
+    for i in 0..c {
+        for j in 0..r {
+            let v = cell(a, r, c, j, i);
+            set_cell(&mut out, c, r, i, j, v);
+        }
+    }
+    out
+}
+
 // T P T'.
 pub fn sandwich(t: &[f64; 64], p: &[f64; 64], m: usize) -> [f64; 64]
     requires { ⌜ m ≤ 8 ⌝ }
@@ -271,17 +347,34 @@ pub fn sandwich(t: &[f64; 64], p: &[f64; 64], m: usize) -> [f64; 64]
     product_t(&tp, t, m, m, m)
 }
 
+// A' N B, as (A' N) B.
+pub fn quad(a: &[f64; 64], n: &[f64; 64], b: &[f64; 64], m: usize) -> [f64; 64]
+    requires { ⌜ m ≤ 8 ⌝ }
+    ensures { λ r. ⌜ mat m r ≡ quad m (mat m (now (a .entry))) (mat m (now (n .entry))) (mat m (now (b .entry))) ⌝ }
+{
+    let an = t_product(a, n, m, m, m);
+    product(&an, b, m, m, m)
+}
+
 // P + Q, in place.
 pub fn add(p: &mut [f64; 64], q: &[f64; 64], m: usize)
     requires { ⌜ m ≤ 8 ⌝ }
     ensures { λ _. ⌜ mat m (now (p .exit)) ≡ plus m (mat m (now (p .entry))) (mat m (now (q .entry))) ⌝ }
 {
     sized(p);
-    for i in 0..m {
-        for j in 0..m {
-            let v = get(p, m, i, j) + get(q, m, i, j);
-            put(p, m, i, j, v);
-        }
+    for k in 0..m * m {
+        p[k] = p[k] + q[k];
+    }
+}
+
+// P - Q, in place.
+pub fn sub(p: &mut [f64; 64], q: &[f64; 64], m: usize)
+    requires { ⌜ m ≤ 8 ⌝ }
+    ensures { λ _. ⌜ mat m (now (p .exit)) ≡ minus m (mat m (now (p .entry))) (mat m (now (q .entry))) ⌝ }
+{
+    sized(p);
+    for k in 0..m * m {
+        p[k] = p[k] - q[k];
     }
 }
 
@@ -354,4 +447,63 @@ pub fn row_to_vec(a: &[f64; 64], p: usize, m: usize, i: usize) -> [f64; 8]
         out[j] = a[i * m + j];
     }
     out
+}
+
+// ---- between a lent part and an array
+
+// A part of at most 8 places, in an array.
+pub fn load8(s: &[f64]) -> [f64; 8]
+    requires { ⌜ length (now s) ≤ 8 ⌝ }
+    ensures { λ r. ⌜ vec (length (now (s .entry))) r ≡ now (s .entry) ⌝ }
+{
+    let mut out = [0.0; 8];
+    for i in 0..s.len() {
+        out[i] = s[i];
+    }
+    out
+}
+
+// A part of at most 64 places, in an array.
+pub fn load64(s: &[f64]) -> [f64; 64]
+    requires { ⌜ length (now s) ≤ 64 ⌝ }
+    ensures { λ r. ⌜ vec (length (now (s .entry))) r ≡ now (s .entry) ⌝ }
+{
+    let mut out = [0.0; 64];
+    for i in 0..s.len() {
+        out[i] = s[i];
+    }
+    out
+}
+
+// The first places of an array, into a part of at most 8.
+pub fn save8(out: &mut [f64], a: &[f64; 8])
+    requires { ⌜ length (now out) ≤ 8 ⌝ }
+    ensures { λ _. ⌜ Saved (length (now (out .entry))) (now (a .entry)) (now (out .exit)) ⌝ }
+{
+    sized8(a);
+    for i in 0..out.len() {
+        out[i] = a[i];
+    }
+}
+
+// The same of an array of 64.
+pub fn save64(out: &mut [f64], a: &[f64; 64])
+    requires { ⌜ length (now out) ≤ 64 ⌝ }
+    ensures { λ _. ⌜ Saved (length (now (out .entry))) (now (a .entry)) (now (out .exit)) ⌝ }
+{
+    sized(a);
+    for i in 0..out.len() {
+        out[i] = a[i];
+    }
+}
+
+// The same of 8 bytes.
+pub fn save_bytes(out: &mut [u8], a: &[u8; 8])
+    requires { ⌜ length (now out) ≤ 8 ⌝ }
+    ensures { λ _. ⌜ Saved (length (now (out .entry))) (now (a .entry)) (now (out .exit)) ⌝ }
+{
+    sized_bytes(a);
+    for i in 0..out.len() {
+        out[i] = a[i];
+    }
 }

@@ -1,64 +1,36 @@
 use Rattle.dense.proofs.add.Statement.{statement}
 use Rattle.dense.proofs.add.Tie as tie
 use native.Mathlib.Omega.{arith}
-use mathlib.Core.Path.{_≡_, refl, sym, ap, _∙_}
-use mathlib.Core.List.{List}
-use Prim.Native.Nat.{ℕ, _≤_, _<_, _*_, _-_, _+_}
-use lib.Ieee.{Float, ofBits}
+use mathlib.Core.Path.{_≡_, refl}
+use Prim.Native.Nat.{_≤_, _*_, _-_}
+use lib.Ieee.{binary64, add}
 use lib.ListN.{length}
-use Rattle.dense.proofs.Laws as laws
-use Rattle.definition.specs.Num.{ent, _⊕_}
 use Rattle.definition.specs.Dense.{plus, plusAt}
-use Rattle.dense.specs.Views.{mat}
-use Rattle.laws.specs.Lists.{square-le}
-
-abbrev Inv-loop2 : tie.InvT-loop2
-Inv-loop2 p₀ q m i j₀ p j = (j ≤ m) × (p ≡ laws.row (plusAt m (mat m p₀) (mat m q) i) (i * m) j p₀)
-
-abbrev μ-loop2 : tie.MeasureT-loop2
-μ-loop2 p₀ q m i j₀ p j = m - j
+use Rattle.dense.proofs.Laws as laws
 
 abbrev Inv-loop : tie.InvT-loop
-Inv-loop p₀ q m i₀ p i = (i ≤ m) × (p ≡ laws.grid (plusAt m (mat m p₀) (mat m q)) m i p₀)
+Inv-loop p₀ q m k₀ k-end p k = (k ≤ k-end) × (k-end ≡ m * m) × (k-end ≤ 64) × (p ≡ laws.row (laws.both (add binary64) p₀ q) 0 k p₀)
 
 abbrev μ-loop : tie.MeasureT-loop
-μ-loop p₀ q m i₀ p i = m - i
+μ-loop p₀ q m k₀ k-end p k = k-end - k
 
-sized-requires : tie.Need-sized-requires Inv-loop2 μ-loop2 Inv-loop μ-loop
+sized-requires : tie.Need-sized-requires Inv-loop μ-loop
 sized-requires c κs = tt
 
-loop-holds : tie.Need-loop-holds Inv-loop2 μ-loop2 Inv-loop μ-loop
-loop-holds c = (omega arith, laws.grid-none _ _ _ _ refl)
+mul-k-end : tie.Need-mul-k-end Inv-loop μ-loop
+mul-k-end c = omega (arith, laws.area (c .before .before .pre) (c .before .before .pre))
 
-loop2-holds : tie.Need-loop2-holds Inv-loop2 μ-loop2 Inv-loop μ-loop
-loop2-holds c = (omega arith, laws.row-none _ _ _ _ refl)
+loop-holds : tie.Need-loop-holds Inv-loop μ-loop
+loop-holds c = (omega arith, refl, laws.area (c .before .before .pre) (c .before .before .pre), laws.row-none _ _ _ _ refl)
 
-at-entry : (m : ℕ) (p q b : List Float) (i j : ℕ) → ent m p i j ≡ ent m q i j → plusAt m p b i j ≡ plusAt m q b i j
-unfolding plusAt
-at-entry m p q b i j e = cc
+loop-again : tie.Need-loop-again Inv-loop μ-loop
+loop-again c = let w = c .before .before .before .loop in (omega arith, w .inv .1, w .inv .2, laws.both-next (add binary64) _ _ _ _ (w .inv .3))
 
-loop2-again : tie.Need-loop2-again Inv-loop2 μ-loop2 Inv-loop μ-loop
-unfolding plusAt
-loop2-again c =
-    let w = c .before .before .before .before .before .before in
-    let o = w .before .before in
-    let a = o .before .before .before .args in
-    let f = laws.row-fresh _ _ _ _ _ _ _ (w .before .loop-test .taken) (c .before .before .before .before .before .loop2-test .taken) (w .loop2 .inv .1) in
-    let v : c .before .before .before .get .result ⊕ c .before .before .get2 .result ≡ plusAt (a .m) (mat (a .m) (o .loop .p)) (mat (a .m) (a .q .now)) (o .loop .i) (w .loop2 .j) = cc in
-    (omega arith, c .put .ensures ∙ laws.row-next _ _ _ _ _ _ _ refl (w .loop2 .inv .1) v)
-
-loop-again : tie.Need-loop-again Inv-loop2 μ-loop2 Inv-loop μ-loop
-loop-again c =
-    let o = c .before .before .before in
-    let a = o .before .before .before .args in
-    (omega arith, laws.in-place-next (λ p. plusAt (a .m) p (mat (a .m) (a .q .now))) _ _ _ _ _ _ _ (c .before .before .loop-test .taken) (λ j h e. at-entry _ _ _ _ _ _ e) (c .before .loop2 .inv .1) (o .loop .inv .1) (c .before .loop2 .inv .0) (c .loop2-test .left))
-
-returns : tie.Need-returns Inv-loop2 μ-loop2 Inv-loop μ-loop
-unfolding plus
+returns : tie.Need-returns Inv-loop μ-loop
+unfolding plus plusAt
 returns c =
-    let l = c .before in
-    let s = l .before in
-    laws.rect-grid _ _ _ _ _ (omega (arith, s .sized .ensures, square-le (s .before .before .args .m) (s .before .before .pre))) (laws.grid-end _ _ _ (l .loop .inv .1) (l .loop .inv .0) (c .loop-test .left))
+    let w = c .before .loop in
+    laws.both-rect (add binary64) _ _ _ _ _ (omega (arith, c .before .before .sized .ensures)) (laws.row-end _ _ _ (w .inv .3) (omega arith) (omega arith))
 
 pub add-spec : {M : Type 1} → statement M
-add-spec = tie.close (tie.spec Inv-loop2 μ-loop2 Inv-loop μ-loop sized-requires loop-holds loop2-holds (λ c κs. omega arith) (λ c κs. omega arith) (λ c κs. omega arith) (λ c. omega arith) (λ c. omega arith) loop2-again (λ c. omega arith) (λ c. omega arith) loop-again returns)
+add-spec = tie.close (tie.spec Inv-loop μ-loop sized-requires mul-k-end loop-holds (λ c. omega arith) (λ c. omega arith) (λ c. omega arith) (λ c. omega arith) (λ c. omega arith) (λ c. omega arith) (λ c. omega arith) (λ c. omega arith) loop-again returns)
