@@ -1,0 +1,265 @@
+-- A reading whose record is skipped, changed: made a gap, it leaves the covariance run as it was; whatever it is made, it leaves the mean run.
+use mathlib.Core.Path.{_≡_, refl, sym, ap, ap₂, _∙_}
+use Prim.Native.Nat.{ℕ, zero, suc, _+_, _*_, _<_}
+use native.Mathlib.Omega.{arith}
+use mathlib.Core.List.{List, [], _∷_, map}
+use mathlib.Core.Bool.{Bool, true, false, not, _&&_}
+use lib.Dec.{T, ltb, eqb, eqb→eq, eqb·suc-zero}
+use lib.ListN.{length, getD, set, length-set, length-map, List·getD-map, List·getD-append}
+use lib.Seq.{map-set-same}
+use lib.Ieee.{Float, nan}
+use Rattle.definition.specs.Num.{0ᶠ, isFinite, at}
+use Rattle.definition.specs.Run.{scan, pairs, chunks, join, count, anyOf, lay}
+use Rattle.definition.specs.Dense.{row}
+use Rattle.definition.specs.Cov.{System, Cov, Fixed, Inner, CovPeriod, Decision, skipped, usual, diffuse, verdict, apply, elementOf, isLive, entered, ended, periodOf, period, covRun}
+use Rattle.definition.specs.Mean.{Frame, Shift, Mean, MeanPeriod, hear, meanEnded, meanPeriodOf, meanPeriod, meanRun}
+use Rattle.definition.specs.Inputs.{Model, Offsets, Kind, gap, finite, kindOf, isGap, isInfinity, systemOf, frameOf, startOf, gapRows}
+use Rattle.definition.specs.Refusals.{refusal, tests, inputsFit, badLength}
+use Rattle.definition.specs.Parts.{kindNo, kindBlock}
+use Rattle.definition.specs.Outcome.{answered, fateOf, fate, kindsWritten, covOf, meanOf, countsOf, decisionsOf, noInformation}
+use Rattle.definition.specs.Tracks.{finite-kind, skip-unheard}
+use Rattle.laws.specs.Lists.{scan-set, map-set, pairs-set, pairs-at, chunks-set, length-chunks, chunks-each, Each, join-at, length-join, each-at, place-lt, count-set, anyOf-set}
+use Rattle.laws.specs.ReadBack.{AllOf, Whole, getD-map-in, map-map, map-join}
+use Rattle.laws.specs.Shapes.{run-whole, run-length}
+use Rattle.laws.specs.Numbered.{none-refused}
+
+-- ---- the covariance track
+
+quiet-element : (p m : ℕ) (h : List Float) (f : Fixed) (g : Bool) (i : ℕ) (s : Inner)
+    → elementOf p m h f i s g .0 ≡ skipped → elementOf p m h f i s true ≡ elementOf p m h f i s g
+unfolding elementOf verdict
+quiet-element p m h f g i s e = ap (λ (d : Decision). (d, apply m (row m (f .z) i) i s d)) (sym e)
+
+module _ (y : System) where
+  quiet-period : (gs : List Bool) (i : ℕ) (d : Decision) (t : ℕ) (c : Cov)
+      → getD (period y t c gs .0 .decisions) i d ≡ skipped → period y t c (set gs i true) ≡ period y t c gs
+  unfolding periodOf ended
+  quiet-period gs i d t c e =
+      let lasts = isLive (y .m) (c .live) (c .pinf) in
+      let pinf = entered (y .m) lasts (c .pinf) in
+      let f : Fixed = record { diffuse = lasts; z = y .designAt t; pre = c .star; unres = c .unres } in
+      let s : Inner = record { star = c .star; pinf = pinf; root = c .root; taken = [] } in
+      ap
+      (ended (y .m) (y .transitionAt t) (y .rqr) c pinf lasts)
+      (scan-set (elementOf (y .p) (y .m) (y .h) f) (λ (d : Decision). d ≡ skipped) gs i 0 s true d true (λ u r. quiet-element (y .p) (y .m) (y .h) f (getD gs i true) u r) e)
+
+  pub quiet-run : (gs : List (List Bool)) (t i : ℕ) (d : Decision) (e : CovPeriod) (c : Cov)
+      → getD (getD (covRun y 0 c gs .0) t e .decisions) i d ≡ skipped → covRun y 0 c (set gs t (set (getD gs t []) i true)) ≡ covRun y 0 c gs
+  unfolding covRun
+  quiet-run gs t i d e c h =
+      scan-set
+      (period y)
+      (λ (k : CovPeriod). getD (k .decisions) i d ≡ skipped)
+      gs
+      t
+      0
+      c
+      []
+      e
+      (set (getD gs t []) i true)
+      (λ u r. quiet-period (getD gs t []) i d u r)
+      h
+
+-- ---- the mean track
+
+deaf-element : (m : ℕ) (design ds : List Float) (d : Decision) (v w : Float) (i : ℕ) (s : Mean)
+    → d ≡ skipped → hear m design ds i s (d, v) ≡ hear m design ds i s (d, w)
+deaf-element m design ds d v w i s e = rw e (skip-unheard m design ds i s v ∙ sym (skip-unheard m design ds i s w))
+
+module _ (y : Frame) (x : Shift) where
+  deaf-period : (ks : List Decision) (readings : List Float) (i : ℕ) (d : Decision) (v : Float) (t : ℕ) (s : Mean)
+      → getD ks i d ≡ skipped → i < length ks → i < length readings → meanPeriod y x t s (ks, set readings i v) ≡ meanPeriod y x t s (ks, readings)
+  unfolding meanPeriodOf
+  deaf-period ks readings i d v t s e g l =
+      let k = getD ks i d in
+      let step = hear (y .m) (y .designAt t) (x .d) in
+      let at-i = pairs-at ks readings i d nan (k, v) g l in
+      ap
+      (meanEnded (y .m) (y .transitionAt t) (x .c) s)
+      (ap (scan step 0 s) (pairs-set ks readings i d v)
+      ∙ scan-set
+      step
+      (λ (r : Float). Unit {0})
+      (pairs ks readings)
+      i
+      0
+      s
+      (k, v)
+      0ᶠ
+      (k, v)
+      (λ u r w. deaf-element (y .m) (y .designAt t) (x .d) k v (getD readings i nan) u r e ∙ ap (step u r) (sym at-i))
+      tt)
+
+  pub deaf-run : (ks : List (List Decision)) (rows : List (List Float)) (t i : ℕ) (d : Decision) (v : Float) (s : Mean)
+      → getD (getD ks t []) i d ≡ skipped → t < length ks → t < length rows → i < length (getD ks t []) → i < length (getD rows t [])
+      → meanRun y x 0 s (pairs ks (set rows t (set (getD rows t []) i v))) ≡ meanRun y x 0 s (pairs ks rows)
+  unfolding meanRun
+  deaf-run ks rows t i d v s e g l g′ l′ =
+      let row = getD rows t [] in
+      let k = getD ks t [] in
+      let at-t = pairs-at ks rows t [] [] (k, set row i v) g l in
+      ap (scan (meanPeriod y x) 0 s) (pairs-set ks rows t [] (set row i v))
+      ∙ scan-set
+      (meanPeriod y x)
+      (λ (r : MeanPeriod). Unit {0})
+      (pairs ks rows)
+      t
+      0
+      s
+      (k, set row i v)
+      (record { pred = []; vs = []; filt = [] })
+      (k, set row i v)
+      (λ u r w. deaf-period k row i d v u r e g′ l′ ∙ ap (meanPeriod y x u r) (sym at-t))
+      tt
+
+-- ---- a call: what it knows of its readings where it is answered
+
+pub within : (y : List Float) (k : ℕ) → T (isFinite (at y k)) → k < length y
+unfolding isFinite
+within [] k h = absurd h
+within (v ∷ y) zero h = omega arith
+within (v ∷ y) (suc k) h = let ih = within y k h in omega arith
+
+pub answered-by : (r : ℕ) (quiet : Bool) → fateOf r quiet ≡ answered → (r ≡ 0) × (quiet ≡ false)
+unfolding fateOf
+answered-by zero true e = absurd (let z : _≡_ {A = ℕ} 0 1 = cc in omega arith)
+answered-by zero false e = (refl, refl)
+answered-by (suc r) quiet e = absurd (let z : _≡_ {A = ℕ} 0 1 = cc in omega arith)
+
+all-three : (a b c : Bool) → not (a && b && c) ≡ false → T b
+all-three true true c e = tt
+all-three true false c e = absurd (let z : _≡_ {A = ℕ} 0 1 = cc in omega arith)
+all-three false b c e = absurd (let z : _≡_ {A = ℕ} 0 1 = cc in omega arith)
+
+pub readings-fit : (x : Model) (o : Offsets) (readings : ℕ) (infinity room : Bool) → refusal x o readings infinity room ≡ 0 → readings ≡ x .n * x .p
+unfolding tests badLength
+readings-fit x o readings infinity room e =
+    eqb→eq readings (x .n * x .p) (all-three (inputsFit x o) (eqb readings (x .n * x .p)) room (none-refused x o readings infinity room e .1 .0))
+
+skips : (d : Decision) → kindNo d ≡ 0 → d ≡ skipped
+skips skipped e = refl
+skips (usual f m*) e = absurd (omega arith)
+skips (diffuse f f∞ m* m∞) e = absurd (omega arith)
+
+each-many : (p m : ℕ) (cs : List CovPeriod) → AllOf (λ c. Whole p m (c .decisions)) cs → Each p (decisionsOf cs)
+each-many p m [] h = tt
+each-many p m (c ∷ cs) h = (h .0 .many, each-many p m cs (h .1))
+
+kinds-join : (cs : List CovPeriod) → join (map kindBlock cs) ≡ map kindNo (join (decisionsOf cs))
+unfolding kindBlock
+kinds-join cs = ap join (sym (map-map (map kindNo) (λ (c : CovPeriod). c .decisions) cs)) ∙ map-join kindNo (decisionsOf cs)
+
+abbrev noDecision : Decision
+noDecision = usual 0ᶠ []
+
+abbrev noPeriod : CovPeriod
+noPeriod = record { diffuse = false; pred = []; predInf = []; decisions = []; filt = [] }
+
+-- news anywhere rules refusal 12 out
+informed : (heard : Bool) (news : ℕ) → 0 < news → (heard && eqb news 0) ≡ false
+informed true zero h = absurd (omega arith)
+informed true (suc n) h = eqb·suc-zero n
+informed false n h = refl
+
+-- period t, element i of the answered call: its reading is finite, and its record, which stands in the lent kinds, is skipped
+module _
+    (x : Model)
+    (o : Offsets)
+    (y : List Float)
+    (room : Bool)
+    (old : List ℕ)
+    (t i : ℕ)
+    (inT : t < x .n)
+    (inI : i < x .p)
+    (read : T (isFinite (at y (t * x .p + i))))
+    (ok : fate x o (map kindOf y) room ≡ answered)
+    (skip : getD (lay (kindsWritten (covOf x (map kindOf y))) old) (t * x .p + i) 9 ≡ 0)
+  where
+    passed : (refusal x o (length (map kindOf y)) (anyOf isInfinity (map kindOf y)) room ≡ 0) × (noInformation (countsOf (covOf x (map kindOf y) .0) (map kindOf y)) ≡ false)
+    unfolding fate
+    passed = answered-by _ _ ok
+
+    fit : length (map kindOf y) ≡ x .n * x .p
+    fit = readings-fit x o _ _ _ (passed .0)
+
+    periods : length (covOf x (map kindOf y) .0) ≡ x .n
+    unfolding covOf
+    periods = run-length (systemOf x) (startOf x) (map kindOf y) (x .n) (x .p)
+
+    each : Each (x .p) (decisionsOf (covOf x (map kindOf y) .0))
+    unfolding covOf
+    each = each-many (x .p) (systemOf x .m) (covOf x (map kindOf y) .0) (run-whole (systemOf x) (startOf x) (map kindOf y) (x .n) (x .p) fit)
+
+    many : length (decisionsOf (covOf x (map kindOf y) .0)) ≡ x .n
+    many = length-map (covOf x (map kindOf y) .0) _ ∙ periods
+
+    skip-at : getD (getD (decisionsOf (covOf x (map kindOf y) .0)) t []) i noDecision ≡ skipped
+    unfolding kindsWritten
+    skip-at =
+        let cs = covOf x (map kindOf y) .0 in
+        let ds = decisionsOf cs in
+        let k = t * x .p + i in
+        let long : k < length (join ds) = rw (length-join (x .p) ds each, many) (place-lt (x .n) (x .p) t i inT inI) in
+        let e : getD (map kindNo (join ds)) k 9 ≡ 0 =
+        sym (ap (λ (l : List ℕ). getD l k 9) (kinds-join cs)) ∙ sym (List·getD-append (join (map kindBlock cs)) _ 9 k (rw (kinds-join cs, length-map) long)) ∙ skip in
+        skips _ (ap kindNo (sym (join-at (x .p) ds t i noDecision each (rw many inT) inI)) ∙ sym (getD-map-in kindNo (join ds) k noDecision 9 long) ∙ e)
+
+    -- whatever stands there, the means are the same
+    pub deaf : (v : Float) → meanOf x o (covOf x (map kindOf y) .0) (set y (t * x .p + i) v) ≡ meanOf x o (covOf x (map kindOf y) .0) y
+    unfolding meanOf
+    deaf v =
+        let ds = decisionsOf (covOf x (map kindOf y) .0) in
+        let rows = chunks (x .n) (x .p) y in
+        let sh : Shift = record { c = o .c; d = o .d } in
+        let s : Mean = record { a = o .a1; loglik = 0ᶠ } in
+        let n : length rows ≡ x .n = length-chunks (x .n) (x .p) y in
+        let l : length (getD rows t []) ≡ x .p = each-at (x .p) rows t (chunks-each (x .n) (x .p) y (sym (length-map y kindOf) ∙ fit)) (rw n inT) in
+        let l′ : length (getD ds t []) ≡ x .p = each-at (x .p) ds t each (rw many inT) in
+        ap (λ (r : List (List Float)). meanRun (frameOf x) sh 0 s (pairs ds r)) (chunks-set (x .n) (x .p) y t i v inI)
+        ∙ deaf-run (frameOf x) sh ds rows t i noDecision v s skip-at (rw many inT) (rw n inT) (rw l′ inI) (rw l inI)
+
+    -- a gap there: the same covariances
+    abbrev pub muted : List Kind
+    muted = set (map kindOf y) (t * x .p + i) gap
+
+    pub quiet : covOf x muted ≡ covOf x (map kindOf y)
+    unfolding covOf gapRows
+    quiet =
+        let ks = map kindOf y in
+        let gs = chunks (x .n) (x .p) (map isGap ks) in
+        let e = getD-map-in (λ (c : CovPeriod). c .decisions) (covOf x ks .0) t noPeriod [] (rw periods inT) in
+        ap
+        (covRun (systemOf x) 0 (startOf x))
+        (ap (chunks (x .n) (x .p)) (map-set isGap ks (t * x .p + i) gap) ∙ chunks-set (x .n) (x .p) (map isGap ks) t i true inI)
+        ∙ quiet-run (systemOf x) gs t i noDecision noPeriod (startOf x) (sym (ap (λ (l : List Decision). getD l i noDecision) e) ∙ skip-at)
+
+    seen : getD (map kindOf y) (t * x .p + i) gap ≡ finite
+    unfolding kindOf
+    seen = List·getD-map kindOf y (t * x .p + i) nan ∙ finite-kind (at y (t * x .p + i)) read
+
+    -- another finite number there is of the same kind
+    pub same-kinds : (v : Float) → T (isFinite v) → map kindOf (set y (t * x .p + i) v) ≡ map kindOf y
+    same-kinds v h = map-set-same kindOf y (t * x .p + i) v nan (finite-kind v h ∙ sym (finite-kind (at y (t * x .p + i)) read))
+
+    -- one reading less is heard
+    pub one-less : suc (countsOf (covOf x (map kindOf y) .0) muted .heard) ≡ countsOf (covOf x (map kindOf y) .0) (map kindOf y) .heard
+    unfolding countsOf
+    one-less =
+        let ks = map kindOf y in
+        let k = t * x .p + i in
+        ap (λ (l : List Bool). suc (count not l)) (map-set isGap ks k gap)
+        ∙ count-set not (map isGap ks) k true true (rw (length-map, fit) (place-lt (x .n) (x .p) t i inT inI)) (ap not (List·getD-map isGap ks k gap ∙ ap isGap seen)) refl
+
+    news-informs : 0 < countsOf (covOf x (map kindOf y) .0) (map kindOf y) .news → noInformation (countsOf (covOf x (map kindOf y) .0) muted) ≡ false
+    unfolding noInformation countsOf
+    news-informs h = informed (ltb 0 (countsOf (covOf x (map kindOf y) .0) muted .heard)) (countsOf (covOf x (map kindOf y) .0) muted .news) h
+
+    -- and the call is answered still, as long as there is news
+    pub answered-still : 0 < countsOf (covOf x (map kindOf y) .0) (map kindOf y) .news → fate x o muted room ≡ answered
+    unfolding fate fateOf
+    answered-still news =
+        let ks = map kindOf y in
+        let k = t * x .p + i in
+        let r : refusal x o (length muted) (anyOf isInfinity muted) room ≡ 0 =
+        ap₂ (λ (l : ℕ) (q : Bool). refusal x o l q room) (length-set ks k gap) (anyOf-set isInfinity ks k gap gap (sym (ap isInfinity seen))) ∙ passed .0 in
+        ap₂ fateOf r (ap (λ (c : List CovPeriod × Cov). noInformation (countsOf (c .0) muted)) quiet ∙ news-informs news)

@@ -1,0 +1,278 @@
+-- Demand 3 of document 00, for the filter's call and the smoother's: a finite reading's value reaches no refusal, covariance, decision, variance, gain
+-- or count; and a finite reading that a run with news elsewhere judged no news reaches nothing, but that it was heard.
+use mathlib.Core.Path.{_≡_, refl, sym, ap, ap₂, _∙_, subst}
+use Prim.Native.Nat.{ℕ, zero, suc, _+_, _*_, _/_, _%_, _<_}
+use native.Mathlib.Nat.{mul-zero, zero-lt-suc, div-add-mod', div-lt-iff-lt-mul, mod-lt, not-suc-le-zero}
+use native.Mathlib.Omega.{arith}
+use mathlib.Core.List.{List, map}
+use mathlib.Core.Bool.{Bool, not}
+use mathlib.Core.Logic.{_⊎_, ⊎-elim}
+use lib.Dec.{T}
+use lib.ListN.{length, replicate, getD, set, length-map, List·getD-map}
+use lib.Seq.{ext-getD}
+use lib.Ieee.{Float, nan}
+use Rattle.definition.specs.Num.{zeros, isFinite, at}
+use Rattle.definition.specs.Run.{join, count, anyOf, lay}
+use Rattle.definition.specs.Cov.{Cov, CovPeriod, diffuse}
+use Rattle.definition.specs.Mean.{Mean, MeanPeriod}
+use Rattle.definition.specs.Smooth.{smoothCov, smoothMean}
+use Rattle.definition.specs.Inputs.{Model, Offsets, Kind, gap, kindOf, isGap, isInfinity, frameOf}
+use Rattle.definition.specs.Parts.{predCov, predInf, filtCov, fStar, fInf, mStar, mInf, isNews}
+use Rattle.definition.specs.Outcome.{CovParts, MeanParts, CovOutcome, MeanOutcome, SmoothedCov, SmoothedMean, Counts, Fate, turned, silent, answered, fate, after, countsIn, numberOf, roomy, roomySmoothed, kindsWritten, kindsNeed, covNeed, covWritten, meanWritten, meanNeed, smoothedCovNeed, smoothedMeanNeed, loglikIn, covOf, meanOf, countsOf, decisionsOf, covOutcome, meanOutcome, outcome, outcomeAt, smoothedCov, smoothedMean, smoothOutcome, smoothOutcomeAt}
+use Rattle.definition.specs.Tracks.{finite-kind, by-kinds, smooth-by-kinds}
+use Rattle.laws.specs.Lists.{map-set}
+use Rattle.demands.specs.Unheard.{deaf, same-kinds, quiet, one-less, answered-still, within, readings-fit, answered-by}
+
+-- ---- the first half
+
+-- the readings of two calls that differ only in the values of finite readings
+pub record Alike (y y′ : List Float) : Type 0 where
+  pub many : length y ≡ length y′
+  pub each : (k : ℕ) → k < length y → (at y k ≡ at y′ k) ⊎ (T (isFinite (at y k)) × T (isFinite (at y′ k)))
+
+-- the refusal, the counts, each accept or skip, all covariances, each variance in the records, the gain vectors
+pub record Same (c c′ : CovOutcome) : Type 0 where
+  pub refusals : c .refused ≡ c′ .refused
+  pub counts : c .counts ≡ c′ .counts
+  pub kinds : c .parts .kinds ≡ c′ .parts .kinds
+  pub predicted : c .parts .part predCov ≡ c′ .parts .part predCov
+  pub predictedDiffuse : c .parts .part predInf ≡ c′ .parts .part predInf
+  pub filtered : c .parts .part filtCov ≡ c′ .parts .part filtCov
+  pub fStars : c .parts .part fStar ≡ c′ .parts .part fStar
+  pub fInfs : c .parts .part fInf ≡ c′ .parts .part fInf
+  pub mStars : c .parts .part mStar ≡ c′ .parts .part mStar
+  pub mInfs : c .parts .part mInf ≡ c′ .parts .part mInf
+
+all-same : (c c′ : CovOutcome) → c ≡ c′ → Same c c′
+all-same c c′ e =
+    record {
+      refusals = ap (λ (c : CovOutcome). c .refused) e;
+      counts = ap (λ (c : CovOutcome). c .counts) e;
+      kinds = ap (λ (c : CovOutcome). c .parts .kinds) e;
+      predicted = ap (λ (c : CovOutcome). c .parts .part predCov) e;
+      predictedDiffuse = ap (λ (c : CovOutcome). c .parts .part predInf) e;
+      filtered = ap (λ (c : CovOutcome). c .parts .part filtCov) e;
+      fStars = ap (λ (c : CovOutcome). c .parts .part fStar) e;
+      fInfs = ap (λ (c : CovOutcome). c .parts .part fInf) e;
+      mStars = ap (λ (c : CovOutcome). c .parts .part mStar) e;
+      mInfs = ap (λ (c : CovOutcome). c .parts .part mInf) e;
+    }
+
+alike-kinds : (y y′ : List Float) → Alike y y′ → map kindOf y ≡ map kindOf y′
+unfolding kindOf
+alike-kinds y y′ l =
+    ext-getD
+    gap
+    (map kindOf y)
+    (map kindOf y′)
+    (length-map y kindOf ∙ l .many ∙ sym (length-map y′ kindOf))
+    (λ k h.
+    List·getD-map kindOf y k nan
+    ∙ ⊎-elim (λ e. ap kindOf e) (λ e. finite-kind (at y k) (e .0) ∙ sym (finite-kind (at y′ k) (e .1))) (l .each k (rw length-map at h))
+    ∙ sym (List·getD-map kindOf y′ k nan))
+
+module _ (x : Model) (o : Offsets) (y y′ : List Float) (alike : Alike y y′) (b : CovParts) (b′ : MeanParts) where
+  pub values : Same (outcome x o y b b′ .0) (outcome x o y′ b b′ .0)
+  values = all-same _ _ (by-kinds x o y y′ (alike-kinds y y′ alike) b b′)
+
+  -- and with them the smoothed covariances
+  pub values-smooth : (sc sm : List Float)
+      → Same (smoothOutcome x o y b b′ sc sm .0 .filter) (smoothOutcome x o y′ b b′ sc sm .0 .filter)
+      × (smoothOutcome x o y b b′ sc sm .0 .smoothed ≡ smoothOutcome x o y′ b b′ sc sm .0 .smoothed)
+  values-smooth sc sm =
+      let e = smooth-by-kinds x o y y′ (alike-kinds y y′ alike) b b′ sc sm in (all-same _ _ (ap (λ (c : SmoothedCov). c .filter) e), ap (λ (c : SmoothedCov). c .smoothed) e)
+
+-- ---- the second half
+
+-- a run that found news somewhere judged the finite reading at place k of y no news: its record, in the lent kinds, is skipped
+pub record NoNews (y : List Float) (c : CovOutcome) (k : ℕ) : Type 0 where
+  pub read : T (isFinite (at y k))
+  pub news : 0 < c .counts .news
+  pub skip : getD (c .parts .kinds) k 9 ≡ 0
+
+-- the second is the first but for the count of readings heard, which is one less
+pub record OneLess (c c′ : CovOutcome) : Type 0 where
+  pub heard : suc (c′ .counts .heard) ≡ c .counts .heard
+  pub news : c′ .counts .news ≡ c .counts .news
+  pub dDiffuse : c′ .counts .dDiffuse ≡ c .counts .dDiffuse
+  pub refusals : c′ .refused ≡ c .refused
+  pub parts : c′ .parts ≡ c .parts
+
+-- news tells of an answer
+news-answers : (f : Fate) (l : Counts) → 0 < countsIn f l .news → f ≡ answered
+unfolding countsIn
+news-answers (turned k) l h = absurd (omega arith)
+news-answers silent l h = absurd (omega arith)
+news-answers answered l h = refl
+
+-- the lent covariance parts after a run r
+abbrev partsFrom : Model → Fate → List CovPeriod × Cov → CovParts → CovParts
+partsFrom x f r b =
+    record {
+      kinds = after f (kindsWritten r) (replicate (kindsNeed x) 0) (b .kinds);
+      part = λ q. after f (covWritten (x .m) r q) (zeros (covNeed x q)) (b .part q);
+    }
+
+-- period t, element i, in a call with this much room: what becomes of the outcome's halves, f being the call's fate
+module _ (x : Model) (o : Offsets) (y : List Float) (b : CovParts) (room : Bool) (t i : ℕ) (inT : t < x .n) (inI : i < x .p) (h : NoNews y (covOutcome x (fate x o (map kindOf y) room) (map kindOf y) b) (t * x .p + i)) where
+  ok : fate x o (map kindOf y) room ≡ answered
+  unfolding covOutcome
+  ok = news-answers (fate x o (map kindOf y) room) (countsOf (covOf x (map kindOf y) .0) (map kindOf y)) (h .news)
+
+  real-skip : getD (lay (kindsWritten (covOf x (map kindOf y))) (b .kinds)) (t * x .p + i) 9 ≡ 0
+  unfolding covOutcome after
+  real-skip =
+      subst
+      (λ (f : Fate). getD (after f (kindsWritten (covOf x (map kindOf y))) (replicate (kindsNeed x) 0) (b .kinds)) (t * x .p + i) 9 ≡ 0)
+      ok
+      (h .skip)
+
+  real-news : 0 < countsOf (covOf x (map kindOf y) .0) (map kindOf y) .news
+  unfolding covOutcome countsIn
+  real-news = subst (λ (f : Fate). 0 < countsIn f (countsOf (covOf x (map kindOf y) .0) (map kindOf y)) .news) ok (h .news)
+
+  -- another finite number, or whatever, leaves the mean run; a gap leaves the fate and the covariance run
+  means : (v : Float) → meanOf x o (covOf x (map kindOf y) .0) (set y (t * x .p + i) v) ≡ meanOf x o (covOf x (map kindOf y) .0) y
+  means = deaf x o y room (b .kinds) t i inT inI (h .read) ok real-skip
+
+  kinds : (v : Float) → T (isFinite v) → map kindOf (set y (t * x .p + i) v) ≡ map kindOf y
+  kinds = same-kinds x o y room (b .kinds) t i inT inI (h .read) ok real-skip
+
+  gap-kinds : map kindOf (set y (t * x .p + i) nan) ≡ set (map kindOf y) (t * x .p + i) gap
+  unfolding kindOf
+  gap-kinds = map-set kindOf y (t * x .p + i) nan
+
+  gap-fate : fate x o (map kindOf (set y (t * x .p + i) nan)) room ≡ fate x o (map kindOf y) room
+  gap-fate =
+      ap (λ (ks : List Kind). fate x o ks room) gap-kinds
+      ∙ answered-still x o y room (b .kinds) t i inT inI (h .read) ok real-skip real-news
+      ∙ sym ok
+
+  gap-run : covOf x (map kindOf (set y (t * x .p + i) nan)) ≡ covOf x (map kindOf y)
+  gap-run = ap (covOf x) gap-kinds ∙ quiet x o y room (b .kinds) t i inT inI (h .read) ok real-skip
+
+  gap-means : meanOf x o (covOf x (map kindOf (set y (t * x .p + i) nan)) .0) (set y (t * x .p + i) nan) ≡ meanOf x o (covOf x (map kindOf y) .0) y
+  gap-means = ap (λ (r : List CovPeriod × Cov). meanOf x o (r .0) (set y (t * x .p + i) nan)) gap-run ∙ means nan
+
+  gap-covs : OneLess (covOutcome x (fate x o (map kindOf y) room) (map kindOf y) b) (covOutcome x (fate x o (map kindOf (set y (t * x .p + i) nan)) room) (map kindOf (set y (t * x .p + i) nan)) b)
+  unfolding covOutcome countsIn countsOf
+  gap-covs =
+      let ks = map kindOf y in
+      let gs = map kindOf (set y (t * x .p + i) nan) in
+      let counted : (f : Fate) (l : Counts) → f ≡ answered → countsIn f l ≡ l = λ f l e. ap (λ (f : Fate). countsIn f l) e in
+      let old = counted (fate x o ks room) (countsOf (covOf x ks .0) ks) ok in
+      let new = counted (fate x o gs room) (countsOf (covOf x gs .0) gs) (gap-fate ∙ ok) in
+      record {
+        heard =
+            ap (λ (l : Counts). suc (l .heard)) new
+            ∙ ap (λ (ks : List Kind). suc (count not (map isGap ks))) gap-kinds
+            ∙ one-less x o y room (b .kinds) t i inT inI (h .read) ok real-skip
+            ∙ sym (ap (λ (l : Counts). l .heard) old);
+        news =
+            ap (λ (l : Counts). l .news) new
+            ∙ ap (λ (r : List CovPeriod × Cov). count isNews (join (decisionsOf (r .0)))) gap-run
+            ∙ sym (ap (λ (l : Counts). l .news) old);
+        dDiffuse =
+            ap (λ (l : Counts). l .dDiffuse) new
+            ∙ ap (λ (r : List CovPeriod × Cov). count (λ (c : CovPeriod). c .diffuse) (r .0)) gap-run
+            ∙ sym (ap (λ (l : Counts). l .dDiffuse) old);
+        refusals = ap numberOf gap-fate;
+        parts =
+            ap₂
+            (λ (f : Fate) (r : List CovPeriod × Cov). partsFrom x f r b)
+            gap-fate
+            gap-run;
+      }
+
+-- a place is some element of some period
+module _ (x : Model) (o : Offsets) (y : List Float) (b : CovParts) (room : Bool) (k : ℕ) (h : NoNews y (covOutcome x (fate x o (map kindOf y) room) (map kindOf y) b) k) where
+  in-range : k < x .n * x .p
+  unfolding covOutcome fate
+  in-range =
+      let e = answered-by _ _ (news-answers (fate x o (map kindOf y) room) (countsOf (covOf x (map kindOf y) .0) (map kindOf y)) (h .news)) in
+      let n = readings-fit x o (length (map kindOf y)) (anyOf isInfinity (map kindOf y)) room (e .0) in
+      let l : length y ≡ x .n * x .p = sym (length-map y kindOf) ∙ n in
+      omega (arith, within y k (h .read))
+
+place : (n p k : ℕ) → k < n * p → (k / p < n) × (k % p < p)
+place n zero k h = absurd (not-suc-le-zero (rw mul-zero at h))
+place n (suc p) k h = ((div-lt-iff-lt-mul (zero-lt-suc p)) .1 h, mod-lt k (zero-lt-suc p))
+
+-- ---- the filter's call
+
+pub record Unmoved (x : Model) (o : Offsets) (y : List Float) (b : CovParts) (b′ : MeanParts) (k : ℕ) : Type 0 where
+  -- another finite number at place k changes nothing
+  pub number : (v : Float) → T (isFinite v) → outcome x o (set y k v) b b′ ≡ outcome x o y b b′
+  -- a gap there changes only the count of readings heard
+  pub gapCov : OneLess (outcome x o y b b′ .0) (outcome x o (set y k nan) b b′ .0)
+  pub gapMean : outcome x o (set y k nan) b b′ .1 ≡ outcome x o y b b′ .1
+
+module _ (x : Model) (o : Offsets) (y : List Float) (b : CovParts) (b′ : MeanParts) where
+  at-element : (t i : ℕ) → t < x .n → i < x .p → NoNews y (outcome x o y b b′ .0) (t * x .p + i) → Unmoved x o y b b′ (t * x .p + i)
+  unfolding outcome outcomeAt meanOutcome
+  at-element t i inT inI h =
+      let room = roomy x b b′ in
+      let f = fate x o (map kindOf y) room in
+      let made : Fate → List MeanPeriod × Mean → MeanOutcome = λ f r. record { loglik = loglikIn f (r .1 .loglik); parts = λ q. after f (meanWritten r q) (zeros (meanNeed x q)) (b′ q) } in
+      record {
+        number = λ v fv.
+            ap (λ (ks : List Kind). outcomeAt x o ks (set y (t * x .p + i) v) b b′) (kinds x o y b room t i inT inI h v fv)
+            ∙ ap (λ (r : List MeanPeriod × Mean). (covOutcome x f (map kindOf y) b, made f r)) (means x o y b room t i inT inI h v);
+        gapCov = gap-covs x o y b room t i inT inI h;
+        gapMean = ap₂ made (gap-fate x o y b room t i inT inI h) (gap-means x o y b room t i inT inI h);
+      }
+
+  pub no-news : (k : ℕ) → NoNews y (outcome x o y b b′ .0) k → Unmoved x o y b b′ k
+  unfolding outcome outcomeAt
+  no-news k h =
+      let at-k = place (x .n) (x .p) k (in-range x o y b (roomy x b b′) k h) in
+      subst
+      (λ (j : ℕ). NoNews y (outcome x o y b b′ .0) j → Unmoved x o y b b′ j)
+      (div-add-mod' k (x .p))
+      (at-element (k / x .p) (k % x .p) (at-k .0) (at-k .1))
+      h
+
+-- ---- the smoother's call
+
+pub record UnmovedSmooth (x : Model) (o : Offsets) (y : List Float) (b : CovParts) (b′ : MeanParts) (sc sm : List Float) (k : ℕ) : Type 0 where
+  pub number : (v : Float) → T (isFinite v) → smoothOutcome x o (set y k v) b b′ sc sm ≡ smoothOutcome x o y b b′ sc sm
+  pub gapCov : OneLess (smoothOutcome x o y b b′ sc sm .0 .filter) (smoothOutcome x o (set y k nan) b b′ sc sm .0 .filter)
+  pub gapSmoothed : smoothOutcome x o (set y k nan) b b′ sc sm .0 .smoothed ≡ smoothOutcome x o y b b′ sc sm .0 .smoothed
+  pub gapMean : smoothOutcome x o (set y k nan) b b′ sc sm .1 ≡ smoothOutcome x o y b b′ sc sm .1
+
+module _ (x : Model) (o : Offsets) (y : List Float) (b : CovParts) (b′ : MeanParts) (sc sm : List Float) where
+  at-element-smooth : (t i : ℕ) → t < x .n → i < x .p → NoNews y (smoothOutcome x o y b b′ sc sm .0 .filter) (t * x .p + i) → UnmovedSmooth x o y b b′ sc sm (t * x .p + i)
+  unfolding smoothOutcome smoothOutcomeAt meanOutcome smoothedCov smoothedMean
+  at-element-smooth t i inT inI h =
+      let room = roomySmoothed x b b′ sc sm in
+      let f = fate x o (map kindOf y) room in
+      let made : Fate → List CovPeriod → List MeanPeriod × Mean → SmoothedMean =
+      λ f cs r. record {
+        filter = record { loglik = loglikIn f (r .1 .loglik); parts = λ q. after f (meanWritten r q) (zeros (meanNeed x q)) (b′ q) };
+        smoothed = after f (join (smoothMean (frameOf x) cs (r .0))) (zeros (smoothedMeanNeed x)) sm;
+      } in
+      let cs = covOf x (map kindOf y) .0 in
+      record {
+        number = λ v fv.
+            ap (λ (ks : List Kind). smoothOutcomeAt x o ks (set y (t * x .p + i) v) b b′ sc sm) (kinds x o y b room t i inT inI h v fv)
+            ∙ ap (λ (r : List MeanPeriod × Mean). (record { filter = covOutcome x f (map kindOf y) b; smoothed = smoothedCov x f (map kindOf y) sc }, made f cs r)) (means x o y b room t i inT inI h v);
+        gapCov = gap-covs x o y b room t i inT inI h;
+        gapSmoothed =
+            ap₂
+            (λ (f : Fate) (r : List CovPeriod × Cov). after f (join (smoothCov (frameOf x) (r .0))) (zeros (smoothedCovNeed x)) sc)
+            (gap-fate x o y b room t i inT inI h)
+            (gap-run x o y b room t i inT inI h);
+        gapMean =
+            ap₂ (λ (f : Fate) (r : List CovPeriod × Cov). made f (r .0) (meanOf x o (r .0) (set y (t * x .p + i) nan))) (gap-fate x o y b room t i inT inI h) (gap-run x o y b room t i inT inI h)
+            ∙ ap (made f cs) (means x o y b room t i inT inI h nan);
+      }
+
+  pub no-news-smooth : (k : ℕ) → NoNews y (smoothOutcome x o y b b′ sc sm .0 .filter) k → UnmovedSmooth x o y b b′ sc sm k
+  unfolding smoothOutcome smoothOutcomeAt
+  no-news-smooth k h =
+      let at-k = place (x .n) (x .p) k (in-range x o y b (roomySmoothed x b b′ sc sm) k h) in
+      subst
+      (λ (j : ℕ). NoNews y (smoothOutcome x o y b b′ sc sm .0 .filter) j → UnmovedSmooth x o y b b′ sc sm j)
+      (div-add-mod' k (x .p))
+      (at-element-smooth (k / x .p) (k % x .p) (at-k .0) (at-k .1))
+      h
