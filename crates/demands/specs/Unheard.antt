@@ -141,18 +141,18 @@ skips skipped e = refl
 skips (usual f m*) e = absurd (omega arith)
 skips (diffuse f f∞ m* m∞) e = absurd (omega arith)
 
-each-many : (p m : ℕ) (cs : List CovPeriod) → AllOf (λ c. Whole p m (c .decisions)) cs → Each p (decisionsOf cs)
+pub each-many : (p m : ℕ) (cs : List CovPeriod) → AllOf (λ c. Whole p m (c .decisions)) cs → Each p (decisionsOf cs)
 each-many p m [] h = tt
 each-many p m (c ∷ cs) h = (h .0 .many, each-many p m cs (h .1))
 
-kinds-join : (cs : List CovPeriod) → join (map kindBlock cs) ≡ map kindNo (join (decisionsOf cs))
+pub kinds-join : (cs : List CovPeriod) → join (map kindBlock cs) ≡ map kindNo (join (decisionsOf cs))
 unfolding kindBlock
 kinds-join cs = ap join (sym (map-map (map kindNo) (λ (c : CovPeriod). c .decisions) cs)) ∙ map-join kindNo (decisionsOf cs)
 
 abbrev noDecision : Decision
 noDecision = usual 0ᶠ []
 
-abbrev noPeriod : CovPeriod
+abbrev pub noPeriod : CovPeriod
 noPeriod = record { diffuse = false; pred = []; predInf = []; decisions = []; filt = [] }
 
 -- news anywhere rules refusal 12 out

@@ -1,0 +1,103 @@
+-- The counts of an answered call, the filter's or the smoother's: heard is the number of readings that are not NaN, news the number of records that are
+-- not skipped, and d_diffuse the number of diffuse periods, which are the first ones.
+use mathlib.Core.Path.{_≡_, refl, sym, ap, _∙_}
+use Prim.Native.Nat.{ℕ, zero, suc, _+_, _*_, _<_}
+use native.Mathlib.Omega.{arith}
+use mathlib.Core.Bool.{Bool, true, false, not, cond}
+use mathlib.Core.List.{List, [], _∷_, map}
+use lib.Dec.{ltb, eqb}
+use lib.ListN.{length, getD, take, drop, replicate, length-map}
+use lib.Seq.{take-at}
+use lib.Ieee.{Float, isNan}
+use Rattle.definition.specs.Run.{count, join}
+use Rattle.definition.specs.Cov.{CovPeriod, period, covRun}
+use Rattle.definition.specs.Inputs.{Model, Offsets, kindOf, systemOf, startOf, gapRows}
+use Rattle.definition.specs.Parts.{kindNo}
+use Rattle.definition.specs.Outcome.{CovParts, MeanParts, CovOutcome, Counts, Fate, answered, fateOf, numberOf, fate, after, countsIn, kindsNeed, kindsWritten, covOf, countsOf, decisionsOf, roomy, roomySmoothed, covOutcome, outcome, outcomeAt, smoothOutcome, smoothOutcomeAt}
+use Rattle.definition.specs.Tracks.{heard-is}
+use Rattle.laws.specs.Lists.{length-join, length-chunks}
+use Rattle.laws.specs.Shapes.{run-whole, run-length, first-ones, period-first}
+use Rattle.demands.specs.Unheard.{answered-by, readings-fit, each-many, kinds-join, noPeriod}
+
+-- the periods of a call's run, as the covariance track leaves them: each says whether it is diffuse
+abbrev pub periodsOf : Model → List Float → List CovPeriod
+periodsOf x y = covOf x (map kindOf y) .0
+
+pub record Totals (x : Model) (y : List Float) (c : CovOutcome) : Type 0 where
+  pub heard : c .counts .heard ≡ count (λ (v : Float). not (isNan v)) y
+  pub news : c .counts .news ≡ count (λ (k : ℕ). not (eqb k 0)) (take (kindsNeed x) (c .parts .kinds))
+  pub dDiffuse : c .counts .dDiffuse ≡ count (λ (c : CovPeriod). c .diffuse) (periodsOf x y)
+  -- period t is diffuse exactly when t is below that count
+  pub firsts : (t : ℕ) → t < x .n → getD (periodsOf x y) t noPeriod .diffuse ≡ ltb t (c .counts .dDiffuse)
+
+none-refused : (r : ℕ) (q : Bool) → numberOf (fateOf r q) ≡ 0 → fateOf r q ≡ answered
+unfolding fateOf numberOf
+none-refused zero true e = absurd (omega arith)
+none-refused zero false e = refl
+none-refused (suc r) q e = absurd (omega arith)
+
+count-map : {A B : Type 0} (q : B → Bool) (g : A → B) (l : List A) → count q (map g l) ≡ count (λ (a : A). q (g a)) l
+unfolding count
+count-map q g [] = refl
+count-map q g (a ∷ l) = ap (λ (k : ℕ). cond (q (g a)) 1 0 + k) (count-map q g l)
+
+module _ (x : Model) (o : Offsets) (y : List Float) (b : CovParts) (room : Bool) (ok : fate x o (map kindOf y) room ≡ answered) where
+  fit : length (map kindOf y) ≡ x .n * x .p
+  unfolding fate
+  fit = readings-fit x o _ _ _ (answered-by _ _ ok .0)
+
+  counted : countsIn (fate x o (map kindOf y) room) (countsOf (periodsOf x y) (map kindOf y)) ≡ countsOf (periodsOf x y) (map kindOf y)
+  unfolding countsIn
+  counted = ap (λ (f : Fate). countsIn f (countsOf (periodsOf x y) (map kindOf y))) ok
+
+  written : length (kindsWritten (covOf x (map kindOf y))) ≡ kindsNeed x
+  unfolding kindsWritten kindsNeed covOf
+  written =
+      let cs = periodsOf x y in
+      let each = each-many (x .p) (systemOf x .m) cs (run-whole (systemOf x) (startOf x) (map kindOf y) (x .n) (x .p) fit) in
+      ap length (kinds-join cs)
+      ∙ length-map (join (decisionsOf cs)) kindNo
+      ∙ length-join (x .p) (decisionsOf cs) each
+      ∙ ap (λ (k : ℕ). k * x .p) (length-map cs _ ∙ run-length (systemOf x) (startOf x) (map kindOf y) (x .n) (x .p))
+
+  news-is : countsOf (periodsOf x y) (map kindOf y) .news ≡ count (λ (k : ℕ). not (eqb k 0)) (kindsWritten (covOf x (map kindOf y)))
+  unfolding countsOf kindsWritten
+  news-is =
+      let ds = join (decisionsOf (periodsOf x y)) in
+      sym (count-map (λ (k : ℕ). not (eqb k 0)) kindNo ds) ∙ ap (count (λ (k : ℕ). not (eqb k 0))) (sym (kinds-join (periodsOf x y)))
+
+  rows : length (gapRows (x .n) (x .p) (map kindOf y)) ≡ x .n
+  unfolding gapRows
+  rows = length-chunks (x .n) (x .p) _
+
+  diffuse-first : (t : ℕ) → t < x .n → ltb t (countsOf (periodsOf x y) (map kindOf y) .dDiffuse) ≡ getD (periodsOf x y) t noPeriod .diffuse
+  unfolding countsOf covOf covRun
+  diffuse-first t h =
+      first-ones (period (systemOf x)) (period-first (systemOf x)) noPeriod (gapRows (x .n) (x .p) (map kindOf y)) 0 (startOf x) t (rw rows h)
+
+  total : Totals x y (covOutcome x (fate x o (map kindOf y) room) (map kindOf y) b)
+  unfolding covOutcome countsOf after
+  total =
+      let w = kindsWritten (covOf x (map kindOf y)) in
+      record {
+        heard = ap (λ (l : Counts). l .heard) counted ∙ heard-is (periodsOf x y) y;
+        news =
+            ap (λ (l : Counts). l .news) counted
+            ∙ news-is
+            ∙ ap
+            (count (λ (k : ℕ). not (eqb k 0)))
+            (sym
+            (ap (λ (f : Fate). take (kindsNeed x) (after f w (replicate (kindsNeed x) 0) (b .kinds))) ok
+            ∙ take-at w (drop (length w) (b .kinds)) (kindsNeed x) written));
+        dDiffuse = ap (λ (l : Counts). l .dDiffuse) counted;
+        firsts = λ t h. sym (diffuse-first t h) ∙ ap (λ (l : Counts). ltb t (l .dDiffuse)) (sym counted);
+      }
+
+module _ (x : Model) (o : Offsets) (y : List Float) (b : CovParts) (b′ : MeanParts) where
+  pub totals : outcome x o y b b′ .0 .refused ≡ 0 → Totals x y (outcome x o y b b′ .0)
+  unfolding outcome outcomeAt covOutcome fate
+  totals e = total x o y b (roomy x b b′) (none-refused _ _ e)
+
+  pub totals-smooth : (sc sm : List Float) → smoothOutcome x o y b b′ sc sm .0 .filter .refused ≡ 0 → Totals x y (smoothOutcome x o y b b′ sc sm .0 .filter)
+  unfolding smoothOutcome smoothOutcomeAt covOutcome fate
+  totals-smooth sc sm e = total x o y b (roomySmoothed x b b′ sc sm) (none-refused _ _ e)
