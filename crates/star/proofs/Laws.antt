@@ -1,0 +1,319 @@
+-- The star root: what the calls give, put together, over plain variables.
+use Prim.Native.Nat.{ℕ, zero, suc, _+_, _*_, _-_, _≤_, _<_}
+use mathlib.Core.Path.{_≡_, refl, sym, ap, ap₂, _∙_, subst}
+use mathlib.Core.Bool.{Bool, true, false, not, _&&_, _||_, cond}
+use mathlib.Core.List.{List, [], _∷_, _++_}
+use mathlib.Core.Logic.{⊎-elim}
+use native.Mathlib.Nat.{zero-mul, le-of-suc-le-suc, not-suc-le-zero}
+use native.Mathlib.Omega.{arith}
+use native.Mathlib.Numerals.{add-one}
+use borrow.Author.Tests.{ne-eqb, eq-eqb}
+use lib.ListN.{take, getD, set, replicate, length, length-append, List·getD-append}
+use lib.Seq.{getD-take, length-take-le, ext-getD, getD-append-add, take-set-lt, take-suc-set, take-suc}
+use lib.Ieee.{Float, nan}
+use Rattle.definition.specs.Num.{_>ᶠ_, _⊕_, _⊗_, _⊘_, ent, at, 0ᶠ, 1ᶠ, isZero, matrix, tabulate}
+use Rattle.definition.specs.Dense as Dense
+use Rattle.definition.specs.Dense.{dot}
+use Rattle.definition.specs.Root.{sqrtOf}
+use Rattle.definition.specs.Star as def
+use Rattle.definition.specs.Star.{
+  Pivot,
+  Growing,
+  Root,
+  better,
+  pivotTo,
+  columnAt,
+  column,
+  leftOf,
+  grown,
+  grow,
+  growTo,
+  seed,
+  uAt,
+  uOf,
+  fOf,
+  projected,
+  wAt,
+  wOf,
+  shrunk,
+  shrunkAt,
+  downdate,
+  loads,
+  supportTo,
+  on,
+  onAt,
+  sub,
+  subAt,
+  replay,
+  againOf,
+  againOn,
+}
+use Rattle.dense.specs.Views.{vec, mat, rect}
+use Rattle.dense.proofs.Laws.{row, row-at, row-before, length-row, lt-or-le}
+use Rattle.star.specs.Views.{Found, Joined, States, Sound, Downdated, Followed, Holds, factorOf, rootOn, placesOf, projectedAt}
+use Rattle.star.specs.declared.Factor.{Factor}
+use Rattle.star.specs.declared.StarRoot.{StarRoot}
+use Rattle.star.specs.declared.Support.{Support}
+
+module _ (k : ℕ) (a : List Float) (u : List Bool) (j : ℕ) (b : Pivot) (h : j < k) where
+  pub better-used : getD u j false ≡ true → b ≡ better k a (take k u) j b
+  unfolding better
+  better-used e = rw (getD-take k u j false h, e)
+
+  pub better-yes : {x : Float} → getD u j false ≡ false → x ≡ ent k a j j → (x >ᶠ b .best) ≡ true → _≡_ {A = Pivot} (record { place = j; best = x }) (better k a (take k u) j b)
+  unfolding better
+  better-yes e g t = rw (getD-take k u j false h, e, sym g, t)
+
+  pub better-no : {x : Float} → getD u j false ≡ false → x ≡ ent k a j j → (x >ᶠ b .best) ≡ false → b ≡ better k a (take k u) j b
+  unfolding better
+  better-no e g t = rw (getD-take k u j false h, e, sym g, t)
+
+-- one place more
+pub pivot-next : (k : ℕ) (a : List Float) (u : List Bool) (j : ℕ) (b r : Pivot) → b ≡ pivotTo k a u j → r ≡ better k a u j b → r ≡ pivotTo k a u (j + 1)
+unfolding pivotTo
+pivot-next k a u j b r e h = rw add-one (cc)
+
+pub pivot-none : (k : ℕ) (a : List Float) (u : List Bool) → _≡_ {A = Pivot} (record { place = k; best = 0ᶠ }) (pivotTo k a u 0)
+unfolding pivotTo
+pivot-none k a u = refl
+
+place-le : (k : ℕ) (a : List Float) (u : List Bool) (n : ℕ) → n ≤ k → pivotTo k a u n .place ≤ k
+unfolding pivotTo better
+place-le k a u zero h = omega arith
+place-le k a u (suc n) h = by-test (not (getD u n false) && (ent k a n n >ᶠ pivotTo k a u n .best)) (pivotTo k a u n) (place-le k a u n (omega arith))
+  where
+    by-test : (t : Bool) (b : Pivot) → b .place ≤ k → cond t (record { place = n; best = ent k a n n }) b .place ≤ k
+    by-test true b l = omega arith
+    by-test false b l = l
+
+pub place-lt : (k : ℕ) (a : List Float) (u : List Bool) (b : Pivot) → b ≡ pivotTo k a u k → (b .place ≡ k → ⊥) → b .place < k
+place-lt k a u b e h =
+    let q : b .place ≤ k = subst (λ (x : Pivot). x .place ≤ k) (sym e) (place-le k a u k (omega arith)) in
+    ⊎-elim (λ (l : b .place < k). l) (λ (l : k ≤ b .place). absurd (h (omega arith))) (lt-or-le (b .place) k)
+
+module _ (k : ℕ) (a : List Float) (u : List Bool) (j : ℕ) (sd : Float) (i : ℕ) (h : i < k) where
+  pub column-used : getD u i false ≡ true → 0ᶠ ≡ columnAt k a (take k u) j sd i
+  unfolding columnAt
+  column-used e = rw (getD-take k u i false h, e)
+
+  pub column-free : {x : Float} → getD u i false ≡ false → x ≡ ent k a i j → x ⊘ sd ≡ columnAt k a (take k u) j sd i
+  unfolding columnAt
+  column-free e g = rw (getD-take k u i false h, e, sym g)
+
+pub marked : (k : ℕ) (u : List Bool) (j : ℕ) → j < k → take k (set u j true) ≡ set (take k u) j true
+marked k u j h = take-set-lt k u j true h
+
+-- a column after the others
+pub added : (k r : ℕ) (l out col : List Float) → r * k + k ≤ length l → k ≤ length col → out ≡ row (λ i. getD col i nan) (r * k) k l → rect (r + 1) k out ≡ rect r k l ++ vec k col
+unfolding rect vec
+added k r l out col h g e =
+    let n : length out ≡ length l = ap length e ∙ length-row (λ i. getD col i nan) (r * k) k l in
+    let w : (r + 1) * k ≡ r * k + k = omega arith in
+    let a : length (take (r * k) l) ≡ r * k = length-take-le (r * k) l (omega arith) in
+    let b : length (take k col) ≡ k = length-take-le k col g in
+    let x : length (take ((r + 1) * k) out) ≡ (r + 1) * k = length-take-le ((r + 1) * k) out (omega arith) in
+    ext-getD nan (take ((r + 1) * k) out) (take (r * k) l ++ take k col) (x ∙ sym (length-append (take (r * k) l) (take k col) ∙ ap₂ _+_ a b ∙ sym w))
+    (λ i q.
+    let q′ : i < (r + 1) * k = omega arith in
+    getD-take ((r + 1) * k) out i nan q′ ∙ ap (λ (y : List Float). getD y i nan) e
+    ∙ ⊎-elim
+    (λ (s : i < r * k).
+    row-before (λ i. getD col i nan) (r * k) k l i nan s
+    ∙ sym (getD-take (r * k) l i nan s)
+    ∙ sym (List·getD-append (take (r * k) l) (take k col) nan i (omega arith)))
+    (λ (s : r * k ≤ i).
+    let d : i ≡ length (take (r * k) l) + (i - r * k) = omega arith in
+    row-at (λ i. getD col i nan) (r * k) k l (i - r * k) nan i (omega arith) (omega arith) h
+    ∙ sym (getD-take k col (i - r * k) nan (omega arith))
+    ∙ sym (ap (λ (y : ℕ). getD (take (r * k) l ++ take k col) y nan) d ∙ getD-append-add (take (r * k) l) (take k col) (i - r * k) nan))
+    (lt-or-le i (r * k)))
+
+-- one column more, where there is one
+module _ (k : ℕ) (l c : List Float) (u : List Bool) (r : ℕ) (b : Pivot) (e : b ≡ pivotTo k l u k) where
+  abbrev G : Growing
+  G = record { left = l; used = u; rank = r; cols = c }
+
+  pub grow-none : b .place ≡ k → G ≡ grow k G
+  unfolding grow
+  grow-none h = rw (sym e, eq-eqb (b .place) k h)
+
+  pub grow-more : {sd : Float} {col l′ c′ : List Float} {u′ : List Bool} → (b .place ≡ k → ⊥) → sd ≡ sqrtOf (b .best) → col ≡ column k l u (b .place) sd → l′ ≡ leftOf k l col → u′ ≡ set u (b .place) true → c′ ≡ c ++ col
+      → _≡_ {A = Growing} (record { left = l′; used = u′; rank = r + 1; cols = c′ }) (grow k G)
+  unfolding grow grown
+  grow-more h e1 e2 e3 e4 e5 = rw (sym e, ne-eqb (b .place) k h, sym e1, sym e2, e3, e4, e5)
+
+pub grow-next : (k : ℕ) (g₀ g g′ : Growing) (i : ℕ) → g ≡ growTo k g₀ i → g′ ≡ grow k g → g′ ≡ growTo k g₀ (i + 1)
+unfolding growTo
+grow-next k g₀ g g′ i e h = rw add-one (cc)
+
+pub grow-start : (k : ℕ) (g : Growing) → g ≡ growTo k g 0
+unfolding growTo
+grow-start k g = refl
+
+take-replicate : {A : Type 0} (k n : ℕ) (x : A) → k ≤ n → take k (replicate n x) ≡ replicate k x
+take-replicate zero n x h = refl
+take-replicate (suc k) zero x h = absurd (not-suc-le-zero h)
+take-replicate (suc k) (suc n) x h = ap (λ (l : List _). x ∷ l) (take-replicate k n x (le-of-suc-le-suc h))
+
+pub is-seed : (k : ℕ) (a c : List Float) → k ≤ 8 → _≡_ {A = Growing} (record { left = mat k a; used = take k (replicate 8 false); rank = 0; cols = rect 0 k c }) (seed k (mat k a))
+unfolding seed rect
+is-seed k a c h = rw (take-replicate k 8 false h, zero-mul k)
+
+pub grown-root : (k : ℕ) (a : List Float) (g : Growing) (s : Growing) (i : ℕ) → s ≡ seed k a → g ≡ growTo k s i → i ≤ k → k ≤ i → _≡_ {A = Root} (record { rank = g .rank; cols = g .cols }) (def.rootOf k a)
+unfolding def.rootOf
+grown-root k a g s i e h p q = let n : i ≡ k = omega arith in rw (h, n, e)
+
+-- F by the root, and Potter's update
+module _ (r : StarRoot) (z : List Float) (h : Float) {zs u : List Float} {d : Float} (on-is : zs ≡ on (r .count) (placesOf r) z)
+    (u-is : u ≡ tabulate (r .rank) (uAt (r .count) (rect (r .rank) (r .count) (r .cols)) zs)) (d-is : d ≡ dot (r .rank) u u) where
+  pub projected-at : d ⊕ h ≡ projectedAt r z h
+  unfolding projectedAt projected fOf uOf
+  projected-at = rw (sym on-is, sym u-is, sym d-is)
+
+  pub downdated-no : (d ⊕ h >ᶠ 0ᶠ) ≡ false → Downdated z h r r
+  unfolding downdate fOf uOf
+  downdated-no t = record { support = refl; count = refl; rank = refl; root = rw (sym on-is, sym u-is, sym d-is, t) }
+
+  pub downdated-yes : {w c : List Float} {s : Float} → (d ⊕ h >ᶠ 0ᶠ) ≡ true → w ≡ tabulate (r .count) (wAt (r .count) (r .rank) (rect (r .rank) (r .count) (r .cols)) u)
+      → s ≡ sqrtOf (h ⊗ (d ⊕ h)) → rect (r .rank) (r .count) c ≡ matrix (r .rank) (r .count) (shrunkAt (r .count) (1ᶠ ⊘ (d ⊕ h ⊕ s)) u w (rect (r .rank) (r .count) (r .cols)))
+      → Downdated z h r (record { support = r .support; count = r .count; cols = c; rank = r .rank })
+  unfolding downdate fOf uOf wOf shrunk
+  downdated-yes t e1 e2 e3 = record { support = refl; count = refl; rank = refl; root = rw (sym on-is, sym u-is, sym d-is, t, sym e1, sym e2, e3) }
+
+-- the support
+pub loads-none : (m : ℕ) (z : List Float) (j : ℕ) → false ≡ loads m z j 0
+unfolding loads
+loads-none m z j = refl
+
+pub loads-next : (m : ℕ) (z : List Float) (j i : ℕ) (b r : Bool) (x : Float) → b ≡ loads m z j i → x ≡ ent m z i j → r ≡ (b || not (isZero x)) → r ≡ loads m z j (i + 1)
+unfolding loads
+loads-next m z j i b r x e h g = rw add-one (cc)
+
+pub joined-yes : (s : Support) (j : ℕ) {yes : Bool} → yes ≡ true → s .count < length (s .places) → Joined s j yes (record { places = set (s .places) (s .count) j; count = s .count + 1 })
+joined-yes s j e h = record { count = rw e; places = rw (e, add-one) (take-suc-set (s .places) (s .count) j h) }
+
+pub joined-no : (s : Support) (j : ℕ) {yes : Bool} → yes ≡ false → Joined s j yes s
+joined-no s j e = record { count = rw e; places = rw e }
+
+module _ (p m : ℕ) (z : List Float) where
+  pub found-none : (s : Support) → s .count ≡ 0 → Found p m 0 z s
+  unfolding supportTo
+  found-none s e = record { few = omega arith; count = e; places = rw e }
+
+  pub found-next : (j : ℕ) (s t : Support) (yes : Bool) → Found p m j z s → yes ≡ loads m z j p → Joined s j yes t → Found p m (j + 1) z t
+  unfolding supportTo
+  found-next j s t true f e h = record {
+    few = omega (arith, h .count, f .few);
+    count = rw (add-one, sym e) (h .count ∙ ap (λ (n : ℕ). n + 1) (f .count) ∙ sym (length-append (supportTo p m z j) (j ∷ [])));
+    places = rw (add-one, sym e) (h .places ∙ ap (λ (l : List ℕ). l ++ (j ∷ [])) (f .places));
+  }
+  found-next j s t false f e h = record {
+    few = omega (arith, h .count, f .few);
+    count = rw (add-one, sym e) (h .count ∙ f .count);
+    places = rw (add-one, sym e) (h .places ∙ f .places);
+  }
+
+  pub found-end : (j : ℕ) (s : Support) → Found p m j z s → j ≤ m → m ≤ j → Found p m m z s
+  found-end j s f a b = let e : j ≡ m = omega arith in subst (λ (x : ℕ). Found p m x z s) e f
+
+  support-below : (n a : ℕ) → a < length (supportTo p m z n) → getD (supportTo p m z n) a 0 < n
+  unfolding supportTo
+  support-below zero a h = absurd (omega arith)
+  support-below (suc n) a h = by-test (loads m z n p) (supportTo p m z n) (support-below n) h
+    where
+      by-test : (t : Bool) (l : List ℕ) → ((b : ℕ) → b < length l → getD l b 0 < n) → a < length (cond t (l ++ (n ∷ [])) l) → getD (cond t (l ++ (n ∷ [])) l) a 0 < suc n
+      by-test false l ih g = let q = ih a g in omega arith
+      by-test true l ih g =
+          ⊎-elim
+          (λ (w : a < length l). let q = ih a w in subst (λ (x : ℕ). x < suc n) (sym (List·getD-append l (n ∷ []) 0 a w)) (omega arith))
+          (λ (w : length l ≤ a).
+          let e : a ≡ length l + 0 = omega (arith, length-append l (n ∷ [])) in
+          subst (λ (x : ℕ). x < suc n) (sym (ap (λ (x : ℕ). getD (l ++ (n ∷ [])) x 0) e ∙ getD-append-add l (n ∷ []) 0 0)) (omega arith))
+          (lt-or-le a (length l))
+
+  pub states-of : (s : Support) → Found p m m z s → m ≤ 8 → States m (s .count) (s .places)
+  states-of s f h = record {
+    states = h;
+    few = f .few;
+    below = λ a b.
+        subst (λ (x : ℕ). x < m) (ap (λ (l : List ℕ). getD l a 0) (sym (f .places)) ∙ getD-take (s .count) (s .places) a 0 b) (support-below m a (omega (arith, f .count)));
+  }
+
+pub on-at : (k a m : ℕ) (s : List ℕ) (x : List Float) {v : Float} → a < k → v ≡ at (vec m x) (getD s a 0) → v ≡ onAt (take k s) (vec m x) a
+unfolding onAt
+on-at k a m s x h e = rw (getD-take k s a 0 h) e
+
+pub sub-at : (k a b m : ℕ) (s : List ℕ) (x : List Float) {v : Float} → a < k → b < k → v ≡ ent m (mat m x) (getD s a 0) (getD s b 0) → v ≡ subAt m (take k s) (mat m x) a b
+unfolding subAt
+sub-at k a b m s x h g e = rw (getD-take k s a 0 h, getD-take k s b 0 g) e
+
+-- one element more
+module _ (p m : ℕ) (z h : List Float) (s : List ℕ) (k : ℕ) where
+  replay-snoc : (r : Root) (l : List ℕ) (i : ℕ) → replay p m z h s k r (l ++ (i ∷ [])) ≡ downdate k (replay p m z h s k r l) (on k s (Dense.row m z i)) (ent p h i i)
+  unfolding replay
+  replay-snoc r [] i = refl
+  replay-snoc r (x ∷ l) i = replay-snoc (downdate k r (on k s (Dense.row m z x)) (ent p h x x)) l i
+
+  pub replay-none : (r : Root) (l : List ℕ) → r ≡ replay p m z h s k r (take 0 l)
+  unfolding replay
+  replay-none r l = refl
+
+  pub replay-next : (r₀ r r′ : Root) (taken : List ℕ) (t : ℕ) → r ≡ replay p m z h s k r₀ (take t taken) → t < length taken → r′ ≡ downdate k r (on k s (Dense.row m z (getD taken t 0))) (ent p h (getD taken t 0) (getD taken t 0)) → r′ ≡ replay p m z h s k r₀ (take (t + 1) taken)
+  replay-next r₀ r r′ taken t e b g = rw (add-one, take-suc taken t 0 b) (g ∙ ap (λ (x : Root). downdate k x (on k s (Dense.row m z (getD taken t 0))) (ent p h (getD taken t 0) (getD taken t 0))) e ∙ sym (replay-snoc r₀ (take t taken) (getD taken t 0)))
+
+  pub replay-end : (r₀ r : Root) (taken : List ℕ) (t n : ℕ) → r ≡ replay p m z h s k r₀ (take t taken) → t ≤ n → n ≤ t → r ≡ replay p m z h s k r₀ (take n taken)
+  replay-end r₀ r taken t n e a b = let q : t ≡ n = omega arith in rw q at e
+
+-- the replay, loop and whole
+module _ (p m : ℕ) (z h : List Float) where
+  pub followed-none : (r : StarRoot) (taken : List ℕ) → Followed p m z h (take 0 taken) r r
+  followed-none r taken = record { support = refl; count = refl; rank = refl; root = replay-none p m z h (placesOf r) (r .count) (rootOn (r .count) r) taken }
+
+  pub followed-next : (r s t : StarRoot) (taken : List ℕ) (k : ℕ) → k < length taken → Followed p m z h (take k taken) r s
+      → Downdated (Dense.row m z (getD taken k 0)) (ent p h (getD taken k 0) (getD taken k 0)) s t → Followed p m z h (take (k + 1) taken) r t
+  followed-next r s t taken k b f d = record {
+    support = d .support ∙ f .support;
+    count = d .count ∙ f .count;
+    rank = d .rank ∙ f .rank;
+    root = replay-next p m z h (placesOf r) (r .count) (rootOn (r .count) r) (rootOn (r .count) s) (rootOn (r .count) t) taken k (f .root) b
+        (subst (λ (x : ℕ). rootOn x t ≡ downdate x (rootOn x s) (on x (take x (r .support)) (Dense.row m z (getD taken k 0))) (ent p h (getD taken k 0) (getD taken k 0))) (f .count) (rw (f .support) at (d .root)));
+  }
+
+  pub followed-end : (r s : StarRoot) (taken : List ℕ) (k n : ℕ) → Followed p m z h (take k taken) r s → k ≤ n → n ≤ k → Followed p m z h (take n taken) r s
+  followed-end r s taken k n f a b = let q : k ≡ n = omega arith in subst (λ (x : ℕ). Followed p m z h (take x taken) r s) q f
+
+-- the update for an element: its row and its noise at hand
+pub downdated-by : {z row : List Float} {h g : Float} {r s : StarRoot} → z ≡ row → h ≡ g → Downdated z h r s → Downdated row g r s
+downdated-by e1 e2 d = rw (e1, e2) at d
+
+-- a root that is followed stays sound
+pub sound-still : (m : ℕ) (r s : StarRoot) → Sound m r → s .support ≡ r .support → s .count ≡ r .count → s .rank ≡ r .rank → Sound m s
+sound-still m r s w e1 e2 e3 = record { support = rw (e1, e2) (w .support); low = rw (e2, e3) (w .low) }
+
+-- the root as it is built
+pub built : (p m : ℕ) (z h pre : List Float) (taken : List ℕ) (s : Support) (a : List Float) (f : Factor) (r : StarRoot) → m ≤ 8 → Found p m m z s
+    → a ≡ sub m (s .count) (take (s .count) (s .places)) pre → factorOf (s .count) f ≡ def.rootOf (s .count) a → f .rank ≤ s .count
+    → Followed p m z h taken (record { support = s .places; count = s .count; cols = f .cols; rank = f .rank }) r → Holds p m z h pre taken r
+built p m z h pre taken s a f r n found e1 e2 low w = record {
+  sound = sound-still m first r (record { support = states-of p m z s found n; low = low }) (w .support) (w .count) (w .rank);
+  count = w .count ∙ found .count;
+  places = rw (w .support, w .count) (found .places);
+  root = rw (w .support, w .count) (w .root ∙ ap (λ (x : Root). replay p m z h (take (s .count) (s .places)) (s .count) x taken) (e2 ∙ ap (def.rootOf (s .count)) e1));
+}
+  where
+    first : StarRoot
+    first = record { support = s .places; count = s .count; cols = f .cols; rank = f .rank }
+
+-- what is kept, at work: F by the root is the definition's, and one element more
+module _ (p m : ℕ) (z h pre : List Float) (taken : List ℕ) (r : StarRoot) (w : Holds p m z h pre taken r) where
+  pub kept-again : (i : ℕ) → projectedAt r (Dense.row m z i) (ent p h i i) ≡ againOf p m z h pre i taken
+  unfolding projectedAt againOf againOn
+  kept-again i = rw (w .root, w .places, w .count)
+
+  pub kept-next : (i : ℕ) (s : StarRoot) → Downdated (Dense.row m z i) (ent p h i i) r s → Holds p m z h pre (taken ++ (i ∷ [])) s
+  kept-next i s d = record {
+    sound = sound-still m r s (w .sound) (d .support) (d .count) (d .rank);
+    count = d .count ∙ w .count;
+    places = rw (d .support, d .count) (w .places);
+    root = rw (d .support, d .count) (d .root ∙ ap (λ (x : Root). downdate (r .count) x (on (r .count) (placesOf r) (Dense.row m z i)) (ent p h i i)) (w .root) ∙ sym (replay-snoc p m z h (placesOf r) (r .count) _ taken i));
+  }
