@@ -1,22 +1,21 @@
 -- A float that is finite and above zero, by its bit pattern. `Read x b`: b's exponent's field is below 2047, and the fields say how many smallest values x is.
 -- Assumes nothing.
 use mathlib.Core.Path.{_≡_, refl, sym, ap, _∙_, subst}
-use mathlib.Core.Logic.{_⊎_, inl, inr}
-use mathlib.Core.Bool.{Bool, true, false, not, cond, true≢false, false≢true}
+use mathlib.Core.Bool.{Bool, true, false, not, cond}
 use Prim.Native.Nat.{ℕ, zero, suc, _+_, _-_, _*_, _/_, _%_, _^_, _≤_, _<_}
-use native.Mathlib.Nat.{lt-of-not-le, add-comm, le-refl, le-of-suc-le-suc, le-trans, lt-of-lt-of-le, lt-of-le-of-lt, zero-lt-suc, lt-irrefl, mul-one, mul-comm, mul-assoc, mul-right-comm, mul-le-mul-right, mul-lt-mul-of-pos-right, mul-div-cancel, mod-eq-of-lt}
+use native.Mathlib.Nat.{add-comm, le-of-suc-le-suc, lt-of-lt-of-le, lt-of-le-of-lt, mul-one, mul-comm, mul-assoc, mul-le-mul-right, mul-div-cancel, mod-eq-of-lt}
 use native.Mathlib.Omega.{arith}
-use lib.IntN.{ℤ, pos, negsuc}
-use lib.Dec.{T, T-not, leb, ltb, eqb, leb→le, nleb→lt, ltb→lt, eqb→eq, lit≤, lit<}
+use lib.Dec.{T, T-not, leb, eqb, nleb→lt, lit≤}
 use lib.Arith.{lt-of-le-ne}
 use lib.Count.{leadingZeros, leading-top}
-use lib.Pow.{pow-pos, pow-add, pow-mono, pow-lt, shl-lt}
-use lib.Ieee.{Float, nan, inf, fin, Format, binary64, up, down, odd, ofFields, ofBits, toBits, fits, isNan}
+use lib.Pow.{pow-pos, pow-add, shl-lt}
+use lib.Ieee.{Float, nan, inf, fin, binary64, down, odd, ofFields, ofBits, toBits, fits, isNan}
 use lib.Ieee.Fits.{down-pos}
 use lib.Ieee.Exact.{HasValue, odd-sign}
 use lib.Ieee.Positive.{positive, value-pos}
-use lib.Ieee.Bits.{ofBits-toBits, toBits-lt}
+use lib.Ieee.Bits.{ofBits-toBits}
 use Rattle.definition.specs.Root.{count}
+use Rattle.laws.specs.Squares.{pow-lt-back}
 use Rattle.float.specs.Inner.{Parted}
 
 -- ---- the count of a value
@@ -82,9 +81,6 @@ pub lead : (b : ℕ) → 0 < b → b / 2 ^ 52 ≡ 0 → (j : ℕ) × (leadingZer
 lead b h e =
     let l = leading-top 64 b h (omega arith) in
     (l .0, l .1, l .2, l .3, pow-lt-back (l .0) 52 (lt-of-le-of-lt (l .2) (omega arith)))
-  where
-    pow-lt-back : (i p : ℕ) → 2 ^ i < 2 ^ p → i < p
-    pow-lt-back i p h = lt-of-not-le (λ (g : p ≤ i). lt-irrefl (2 ^ i) (lt-of-lt-of-le h (pow-mono g)))
 
 shift : (j : ℕ) → j < 52 → 2 ^ (52 - j) * 2 ^ j ≡ 2 ^ 52
 shift j h = sym (pow-add 2 (52 - j) j) ∙ ap (λ (x : ℕ). 2 ^ x) (back j h)

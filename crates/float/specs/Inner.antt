@@ -1,6 +1,6 @@
 -- What the inner functions of the square root and the logarithm promise. Definitions only.
 use mathlib.Core.Path.{_≡_}
-use Prim.Native.Nat.{ℕ, _+_, _-_, _*_, _^_, _≤_, _<_}
+use Prim.Native.Nat.{ℕ, _+_, _*_, _^_, _≤_, _<_}
 use lib.Ieee.{Float, binary64}
 use Rattle.definition.specs.Root.{count}
 
@@ -11,7 +11,7 @@ pub record Parted (x : Float) (d j : ℕ) : Type 0 where
   pub small : j < 2098
   pub value : count binary64 x * 2 ^ 52 ≡ d * 2 ^ j
 
--- q is the whole number that is nearest to the root of m * 2 ^ 52
-pub record Close (m q : ℕ) : Type 0 where
-  pub over : q * (q - 1) < m * 2 ^ 52
-  pub under : m * 2 ^ 52 ≤ q * (q + 1)
+-- u is m * 2 ^ 52 less (g - 1) * (g - 2), and at most 6 * g, by which the next three numbers of that kind lie above it
+pub record Beside (m g u : ℕ) : Type 0 where
+  pub is : u + g * g + 2 ≡ m * 2 ^ 52 + 3 * g
+  pub most : u ≤ 6 * g

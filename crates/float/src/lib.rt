@@ -4,6 +4,7 @@ mod parts;
 mod root;
 
 pub use log::ln;
+pub use log::ln_two_pi;
 pub use root::sqrt;
 ghost use mathlib.Core.Path.{_≡_};
 ghost use lib.Ieee.{isNan};

@@ -3,7 +3,7 @@ use crate::parts::parts;
 ghost use mathlib.Core.Path.{_≡_};
 ghost use Prim.Native.Nat.{_<_};
 ghost use lib.Ieee.{minus};
-ghost use Rattle.definition.specs.Log.{lnOf, logOf, series};
+ghost use Rattle.definition.specs.Log.{lnOf, lnTwoPi, logOf, series};
 
 // 1, 1/3, 1/5 and so on to 1/23, each the nearest double.
 const ODD: [f64; 12] = [
@@ -64,4 +64,13 @@ pub fn ln(x: f64) -> f64
         return -top;
     }
     0.0 / 0.0
+}
+
+// ln 2π: the logarithm of twice 0x400921FB54442D18.
+const LN_TWO_PI: f64 = 1.8378770664093453;
+
+pub fn ln_two_pi() -> f64
+    ensures { λ r. ⌜ r ≡ lnTwoPi ⌝ }
+{
+    LN_TWO_PI
 }

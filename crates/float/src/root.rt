@@ -1,16 +1,16 @@
-// The square root of IEEE 754: a guess, an exact test of it, and the long way where the test fails.
+// The square root of IEEE 754: a guess, an exact test of it and of the two numbers beside it, and the long way where the test fails.
 use crate::parts::parts;
 ghost use mathlib.Core.Path.{_≡_};
-ghost use mathlib.Core.Bool.{true};
-ghost use Prim.Native.Nat.{_+_, _-_, _*_, _/_, _^_, _≤_, _<_};
+ghost use Prim.Native.Nat.{_+_, _*_, _^_, _≤_, _<_};
 ghost use Rattle.definition.specs.Root.{sqrtOf};
-ghost use Rattle.float.specs.Inner.{Close};
+ghost use Rattle.laws.specs.Squares.{IsRoot, NearRoot};
+ghost use Rattle.float.specs.Inner.{Beside};
 
-// The root of m * 4^27, cut to a whole number: a binary digit a turn.
+// The root of m * 2^54, cut to a whole number: a binary digit a turn.
 // r is what the digits so far leave, and w holds the digits to come.
-fn root(m: u64) -> u64
+fn long_root(m: u64) -> u64
     requires { ⌜ m < 2 ^ 54 ⌝ }
-    ensures { λ r. ⌜ (r * r ≤ m * 2 ^ 54) × (m * 2 ^ 54 < (r + 1) * (r + 1)) ⌝ }
+    ensures { λ r. ⌜ IsRoot (m * 2 ^ 54) r ⌝ }
 {
     let mut w = m << 10;
     let mut q = 0u64;
@@ -28,65 +28,85 @@ fn root(m: u64) -> u64
     q
 }
 
-// The whole part of a * b / 2^52.
-fn high(a: u64, b: u64) -> u64
-    requires { ⌜ (a < 2 ^ 54) × (b < 2 ^ 54) ⌝ }
-    ensures { λ r. ⌜ r ≡ a * b / 2 ^ 52 ⌝ }
-{
-    let ah = a / 134217728;
-    let al = a % 134217728;
-    let bh = b / 134217728;
-    let bl = b % 134217728;
-    let mid = ah * bl + al * bh;
-    let low = mid % 33554432 * 134217728 + al * bl;
-    ah * bh * 4 + mid / 33554432 + low / 4503599627370496
+// The number high * 2^52 + low.
+struct Wide {
+    high: u64,
+    low: u64,
 }
 
-// Whether q is the whole number nearest to the root of m * 2^52.
-fn closest(m: u64, q: u64) -> bool
-    requires { ⌜ (2 ^ 52 ≤ q) × (q ≤ 2 ^ 53) ⌝ }
-    ensures { λ r. ⌜ (r ≡ true → Close m q) ⌝ }
+// g * g, by halves of 27 digits.
+fn square(g: u64) -> Wide
+    requires { ⌜ g < 2 ^ 54 ⌝ }
+    ensures { λ r. ⌜ (r .high * 2 ^ 52 + r .low ≡ g * g) × (r .low < 2 ^ 52) ⌝ }
 {
-    if high(q, q - 1) < m {
-        return m <= high(q, q + 1);
+    let h = g / 134217728;
+    let l = g % 134217728;
+    let mid = h * l * 2;
+    let low = mid % 33554432 * 134217728 + l * l;
+    Wide {
+        high: h * h * 4 + mid / 33554432 + low / 4503599627370496,
+        low: low % 4503599627370496,
     }
-    false
 }
 
-// A guess at the root of a, which is from 1 up to 4, in units of 2^-52. Nothing is proved of how near it is.
-fn guess(a: f64) -> u64
-    ensures { λ r. ⌜ (2 ^ 52 ≤ r) × (r < 2 ^ 53) ⌝ }
+// How far the root of m * 2^52 lies from g - 3/2, in units of 1 / (2 * g): from 1 up to 6 * g where it is nearest to g - 1, g or g + 1. Else 0.
+fn beside(m: u64, g: u64) -> u64
+    requires { ⌜ (m < 2 ^ 54) × (g < 2 ^ 54) ⌝ }
+    ensures { λ r. ⌜ (0 < r → Beside m g r) ⌝ }
 {
-    let c = 0.5 * a;
-    let mut y = 0.6875 + 0.34375 * a;
-    y = 0.5 * y + c / y;
-    y = 0.5 * y + c / y;
-    y = 0.5 * y + c / y;
-    y = 0.5 * y + c / y;
-    if y > 0.0 {
-        return f64::to_bits(y) % 4503599627370496 + 4503599627370496;
+    let s = square(g);
+    if s.high <= m + 8 {
+        let d = m + 8 - s.high;
+        if d < 16 {
+            let upper = d * 4503599627370496 + 3 * g;
+            let lower = 8 * 4503599627370496 + 2 + s.low;
+            if lower < upper {
+                let u = upper - lower;
+                if u <= 6 * g {
+                    return u;
+                }
+            }
+        }
+    }
+    0
+}
+
+// A guess at the root of the number from 1 up to 4 with the bit pattern b, in units of 2^-52: Newton's steps for 1 / root, and one for the root.
+// Nothing is proved of how near it is.
+fn guess(b: u64) -> u64
+    requires { ⌜ b < 1025 * 2 ^ 52 ⌝ }
+    ensures { λ r. ⌜ (0 < r) × (r < 2 ^ 54) ⌝ }
+{
+    let a = f64::from_bits(b);
+    let h = 0.5 * a;
+    let mut y = f64::from_bits(0x5FE6EB50C7B537A9 - b / 2);
+    y = y * (1.5 - h * y * y);
+    y = y * (1.5 - h * y * y);
+    y = y * (1.5 - h * y * y);
+    let s = a * y;
+    let r = s + 0.5 * y * (a - s * s);
+    if r > 0.0 {
+        let g = f64::to_bits(r);
+        if 0x3FE0000000000000 < g {
+            if g < 0x4020000000000000 {
+                return g - 0x3FE0000000000000;
+            }
+        }
     }
     4503599627370496
 }
 
-// The whole number nearest to the root of m * 2^52: the guess, or a neighbour of it, if an exact test says so, and else the long way.
-fn rounded(m: u64, a: f64) -> u64
-    requires { ⌜ (2 ^ 52 ≤ m) × (m < 2 ^ 54) ⌝ }
-    ensures { λ r. ⌜ (2 ^ 52 ≤ r) × (r ≤ 2 ^ 53) × Close m r ⌝ }
+// The whole number nearest to the root of m * 2^52: beside the guess if an exact test says so, and else the long way.
+fn rounded(m: u64, b: u64) -> u64
+    requires { ⌜ (2 ^ 52 ≤ m) × (m < 2 ^ 54) × (b < 1025 * 2 ^ 52) ⌝ }
+    ensures { λ r. ⌜ NearRoot (m * 2 ^ 52) r ⌝ }
 {
-    let g = guess(a);
-    if closest(m, g) {
-        return g;
+    let g = guess(b);
+    let u = beside(m, g);
+    if u == 0 {
+        return (long_root(m) + 1) / 2;
     }
-    if closest(m, g + 1) {
-        return g + 1;
-    }
-    if 4503599627370496 < g {
-        if closest(m, g - 1) {
-            return g - 1;
-        }
-    }
-    (root(m) + 1) / 2
+    g - 1 + (2 * g - 2 < u) as u64 + (4 * g - 2 < u) as u64
 }
 
 pub fn sqrt(x: f64) -> f64
@@ -97,8 +117,8 @@ pub fn sqrt(x: f64) -> f64
             return x;
         }
         let p = parts(x);
-        let a = f64::from_bits(p.digits + (1022 + p.place % 2) * 4503599627370496);
-        let q = rounded(p.digits << (p.place % 2), a);
+        let odd = p.place % 2;
+        let q = rounded(p.digits << odd, p.digits + (1022 + odd) * 4503599627370496);
         return f64::from_bits((p.place / 2 + 485) * 4503599627370496 + q);
     }
     if x == 0.0 {

@@ -18,7 +18,7 @@ use lib.Ieee.Exact.{HasValue, units-val}
 use lib.Ieee.Positive.{positive, positive-of-value}
 use lib.Ieee.Bits.{ofBits-toBits}
 use Rattle.definition.specs.Root.{isqrt, count, rootOf, sqrtIn}
-use Rattle.laws.specs.Squares.{NearRoot, Cmp, cmp, next-sq, twice-sq, by-next, by-last, sq-lt, sq-lt-back, four-two, four-pos, isqrt-is, near-is, one-near, near-least, near-most}
+use Rattle.laws.specs.Squares.{NearRoot, Cmp, cmp, next-sq, twice-sq, by-next, by-last, sq-lt, sq-lt-back, four-two, four-pos, isqrt-is, near-is, one-near, near-least, near-most, pow-lt-back, size-above}
 
 -- ---- the statement
 
@@ -47,9 +47,6 @@ record Whole (f : Format) (n : ℕ) : Type 0 where
   is : n ≡ digits * 2 ^ place
   short : digits < 2 ^ prec f
   small : n < 2 ^ (low f + suc (emax f))
-
-pow-lt-back : (i j : ℕ) → 2 ^ i < 2 ^ j → i < j
-pow-lt-back i j h = lt-of-not-le (λ (g : j ≤ i). lt-irrefl (2 ^ i) (lt-of-lt-of-le h (pow-mono g)))
 
 pow-le-back : (i j : ℕ) → 2 ^ i ≤ 2 ^ j → i ≤ j
 pow-le-back i j h = less i j (pow-lt-back i (suc j) (lt-of-le-of-lt h (pow-lt {i = j} {j = suc j} (le-refl (suc j)))))
@@ -150,9 +147,6 @@ off : (o : Ordering) (a b u : ℕ) → 0 < u → Cmp o (4 * (a * u)) (b * u) →
 off Ordering·lt a b u p c = lt-of-mul-lt-mul-right u (subst (λ (x : ℕ). x < b * u) (sym (mul-assoc 4 a u)) c)
 off Ordering·eq a b u p c = eq-of-mul-eq-mul-right u p (4 * a) b (mul-assoc 4 a u ∙ c)
 off Ordering·gt a b u p c = lt-of-mul-lt-mul-right u (subst (λ (x : ℕ). b * u < x) (sym (mul-assoc 4 a u)) c)
-
-pub size-above : (a n : ℕ) → 2 ^ a ≤ n → a < size n
-size-above a n h = pow-lt-back a (size n) (lt-of-le-of-lt h (size-lt n))
 
 -- what the format drops of the root's digits
 dropped : (p v k : ℕ) → 2 ^ (p + p) ≤ v → v < 2 ^ (suc p + suc p) → (size (v * 4 ^ k) + 1) / 2 - suc p ≡ k
@@ -360,7 +354,7 @@ module _ (f : Format) (p n : ℕ) (P : prec f ≡ suc p) (some : 0 < n) (w : Who
       subst (λ (M : ℕ). Nearer M (count f (rootOf f n)) (count f y)) (sym split)
       (subst (λ (R : ℕ). Nearer (v * 4 ^ k) R (count f y)) (sym (count-val f (rootOf f n) false (r * 2 ^ k) value)) (nearer p v r k (count f y) v-least near (multiple f p k (count f y) P (whole f y t u))))
 
-sqrt-positive : (f : Format) (x : Float) → T (positive x) → sqrtIn f x ≡ rootOf f (count f x)
+pub sqrt-positive : (f : Format) (x : Float) → T (positive x) → sqrtIn f x ≡ rootOf f (count f x)
 unfolding sqrtIn
 sqrt-positive f nan p = absurd p
 sqrt-positive f (inf s) p = absurd p

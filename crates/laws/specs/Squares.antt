@@ -1,14 +1,14 @@
 -- Squares and whole roots: `isqrt n` is the largest number whose square is at most n; the whole number nearest to the root of n. There is one only of each. Assumes nothing.
 use mathlib.Core.Path.{_≡_, refl, sym, ap, _∙_, subst}
 use mathlib.Core.Bool.{Bool, true, false, not, cond}
-use Prim.Native.Nat.{ℕ, zero, suc, _+_, _-_, _*_, _/_, _^_, _≤_, _<_, compare, Ordering, Ordering·lt, Ordering·eq, Ordering·gt}
-use native.Mathlib.Nat.{le-refl, le-trans, le-of-eq, lt-of-lt-of-le, lt-of-le-of-lt, lt-of-not-le, lt-irrefl, le-of-lt, zero-lt-suc, mul-le-mul, mul-le-mul-left, mul-lt-mul-of-pos-right, mul-comm, mul-one, one-mul, mul-suc, mul-mul-mul-comm, add-mul, mul-add, add-assoc, pow-suc, div-lt-iff-lt-mul}
+use Prim.Native.Nat.{ℕ, zero, suc, _+_, _-_, _*_, _/_, _%_, _^_, _≤_, _<_, compare, Ordering, Ordering·lt, Ordering·eq, Ordering·gt}
+use native.Mathlib.Nat.{le-refl, le-trans, le-of-eq, le-antisymm, lt-of-lt-of-le, lt-of-le-of-lt, lt-of-not-le, lt-irrefl, le-of-lt, zero-lt-suc, mul-le-mul, mul-le-mul-left, mul-lt-mul-of-pos-right, mul-comm, mul-one, one-mul, mul-suc, mul-mul-mul-comm, add-mul, mul-add, add-assoc, pow-suc, div-lt-iff-lt-mul}
 use native.Mathlib.Omega.{arith}
 use lib.Dec.{T, isLe, isEq, leb, eqb, leb→le, nleb→lt, eqb→eq, eqb-refl}
 use lib.Arith.{lt-of-le-ne}
-use lib.Pow.{pow-add, pow-pos}
+use lib.Pow.{pow-add, pow-pos, pow-mono}
 use lib.Ieee.{size, nearest}
-use lib.Ieee.Digits.{size-lt}
+use lib.Ieee.Digits.{size-lt, size-le}
 use Rattle.definition.specs.Root.{cutRoot, isqrt}
 
 -- r is the root of n, cut to a whole number
@@ -48,6 +48,7 @@ sq-lt a b h = lt-of-le-of-lt (mul-le-mul-left a (le-of-lt h)) (mul-lt-mul-of-pos
 pub sq-lt-back : (a b : ℕ) → a * a < b * b → a < b
 sq-lt-back a b h = lt-of-not-le (λ (g : b ≤ a). lt-irrefl (a * a) (lt-of-lt-of-le h (mul-le-mul g g)))
 
+-- ---- powers, and how many binary digits a number has
 pub four-two : (k : ℕ) → 4 ^ k ≡ 2 ^ (k + k)
 four-two k = go k ∙ sym (pow-add 2 k k)
   where
@@ -57,6 +58,15 @@ four-two k = go k ∙ sym (pow-add 2 k k)
 
 pub four-pos : (k : ℕ) → 0 < 4 ^ k
 four-pos k = subst (λ (x : ℕ). 0 < x) (sym (four-two k)) (pow-pos (k + k))
+
+pub pow-lt-back : (i j : ℕ) → 2 ^ i < 2 ^ j → i < j
+pow-lt-back i j h = lt-of-not-le (λ (g : j ≤ i). lt-irrefl (2 ^ i) (lt-of-lt-of-le h (pow-mono g)))
+
+pub size-above : (a n : ℕ) → 2 ^ a ≤ n → a < size n
+size-above a n h = pow-lt-back a (size n) (lt-of-le-of-lt h (size-lt n))
+
+pub size-exact : (a n : ℕ) → 2 ^ a ≤ n → n < 2 ^ suc a → size n ≡ suc a
+size-exact a n lo hi = le-antisymm (size-le n (suc a) hi) (size-above a n lo)
 
 -- ---- the cut root
 -- there is one only
@@ -162,3 +172,33 @@ near-is n q Ordering·gt h r c =
   where
     up : (q : ℕ) → suc q ≡ q + 1
     up q = omega arith
+
+-- from the cut root r of 4 * n, which has one binary digit more: half of it, rounded up. r is twice that number, or one less
+half-even : (n p : ℕ) → 0 < p → IsRoot (4 * n) (2 * p) → NearRoot n p
+half-even n p h i =
+    let a = twice-sq p in
+    let b = next-sq (2 * p) in
+    let c = by-next p in
+    let d = by-last p in
+    record { over = omega (arith, i .below); under = omega (arith, i .above) }
+
+half-odd : (n p r : ℕ) → 0 < p → r + 1 ≡ 2 * p → IsRoot (4 * n) r → NearRoot n p
+half-odd n p r h e i =
+    let a = ap (λ (x : ℕ). x * x) e ∙ twice-sq p in
+    let b = next-sq r in
+    let c = by-next p in
+    let d = by-last p in
+    record { over = omega (arith, i .below); under = omega (arith, i .above) }
+
+pub near-half : (n r : ℕ) → 0 < n → IsRoot (4 * n) r → NearRoot n ((r + 1) / 2)
+near-half n r h i = go (r % 2) refl
+  where
+    some : 1 < r + 1
+    some = sq-lt-back 1 (r + 1) (lt-of-le-of-lt (more n h) (i .above))
+      where
+        more : (n : ℕ) → 0 < n → 1 * 1 ≤ 4 * n
+        more n h = omega arith
+
+    go : (b : ℕ) → r % 2 ≡ b → NearRoot n ((r + 1) / 2)
+    go zero e = let s = some in half-even n ((r + 1) / 2) (omega arith) (subst (IsRoot (4 * n)) (omega arith) i)
+    go (suc b) e = let s = some in half-odd n ((r + 1) / 2) r (omega arith) (omega arith) i

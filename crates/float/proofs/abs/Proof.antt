@@ -2,7 +2,7 @@
 use mathlib.Core.Path.{sym, subst}
 use lib.Dec.{T}
 use lib.Ieee.{fits, binary64}
-use Rattle.float.proofs.Facts.{abs-below, abs-level, abs-above}
+use Rattle.float.proofs.Tests.{zero-of, abs-below, abs-level, abs-above}
 use Rattle.float.proofs.abs.Statement.{statement}
 use Rattle.float.proofs.abs.Tie as tie
 
@@ -13,7 +13,7 @@ returns : tie.Need-returns
 returns c = abs-below (c .before .args .x) (c .if1 .taken)
 
 returns-2 : tie.Need-returns-2
-returns-2 c = abs-level (c .before .before .args .x) (held (c .before .before)) (c .if2 .taken)
+returns-2 c = abs-level (c .before .before .args .x) (held (c .before .before)) (zero-of (c .before .before .args .x) (c .if2 .taken))
 
 returns-3 : tie.Need-returns-3
 returns-3 c = abs-above (c .before .before .args .x) (c .before .if1 .left) (c .if2 .left)

@@ -1,5 +1,5 @@
 -- `float::is_nan` meets its contract. Assumes nothing.
-use Rattle.float.proofs.Facts.{nan-test}
+use Rattle.float.proofs.Tests.{nan-test}
 use Rattle.float.proofs.is_nan.Statement.{statement}
 use Rattle.float.proofs.is_nan.Tie as tie
 

@@ -1,14 +1,12 @@
--- `float::log_of` meets its contract. Assumes nothing.
-use mathlib.Core.Path.{_≡_, refl, sym, ap, _∙_, subst}
-use lib.Ieee.{ofBits, nanBits}
+-- `float::log::log_of` meets its contract. Assumes nothing.
+use lib.Dec.{lit≤}
+use lib.Ieee.{ofBits}
 use borrow.Author.Needs.{needs}
 use Rattle.definition.specs.Log.{logOf}
-use Rattle.float.proofs.Exponent.{whole, exponent-is, exponent-in}
+use Rattle.float.proofs.Units.{no-nan-bits}
+use Rattle.float.proofs.Logs.{whole, exponent-is, exponent-in}
 use Rattle.float.proofs.log.log_of.Statement.{statement}
 use Rattle.float.proofs.log.log_of.Tie as tie
-use Rattle.float.proofs.log.log_of.Reads as reads
-use Rattle.float.proofs.log.log_of.Lts as lts
-use Rattle.float.proofs.log.sum_odd.Reads as sum-odd-reads
 
 sum-odd-requires : tie.Need-sum-odd-requires
 sum-odd-requires c κs = search needs
@@ -23,12 +21,10 @@ int-to-float-z : tie.Need-int-to-float-z
 int-to-float-z c = exponent-in (c .before .before .args .j) (c .before .before .pre)
 
 float-from-bits-high : tie.Need-float-from-bits-high
-unfolding nanBits
-float-from-bits-high c = tt
+float-from-bits-high c = no-nan-bits _ (lit≤ tt)
 
 float-from-bits-low : tie.Need-float-from-bits-low
-unfolding nanBits
-float-from-bits-low c = tt
+float-from-bits-low c = no-nan-bits _ (lit≤ tt)
 
 returns : tie.Need-returns
 unfolding logOf ofBits

@@ -1,18 +1,16 @@
--- `float::sum_odd` meets its contract. Assumes nothing.
-use mathlib.Core.Path.{_≡_, refl, sym, ap, _∙_}
-use Prim.Native.Nat.{ℕ, suc, _≤_, _-_, _+_}
+-- `float::log::sum_odd` meets its contract. Assumes nothing.
+use mathlib.Core.Path.{_≡_, sym, ap, _∙_}
+use Prim.Native.Nat.{suc, _≤_, _-_}
 use native.Mathlib.Omega.{arith}
 use native.Mathlib.Numerals.{add-one}
 use borrow.Author.Needs.{needs}
 use lib.Dec.{lit<}
 use lib.ListN.{getD}
-use Rattle.float.proofs.Table.{odds, entry}
-use lib.Ieee.{Float, nan, binary64, add, mul, ofBits}
+use Rattle.float.proofs.Table.{patterns, odds, entry}
+use lib.Ieee.{Float, nan, binary64, add, mul}
 use Rattle.definition.specs.Log.{series, coefficient}
 use Rattle.float.proofs.log.sum_odd.Statement.{statement}
 use Rattle.float.proofs.log.sum_odd.Tie as tie
-use Rattle.float.proofs.log.sum_odd.Reads as reads
-use Rattle.float.proofs.log.sum_odd.Lts as lts
 
 abbrev Inv-loop : tie.InvT-loop
 Inv-loop w q₀ i₀ q i = (i ≤ 11) × (q ≡ series w 11 i)
@@ -24,7 +22,7 @@ array-read-q : tie.Need-array-read-q Inv-loop μ-loop
 array-read-q c = search needs
 
 loop-holds : tie.Need-loop-holds Inv-loop μ-loop
-unfolding series odds
+unfolding series odds patterns
 loop-holds c = (omega arith, entry 11 (lit< tt))
 
 sub-q : tie.Need-sub-q Inv-loop μ-loop
@@ -43,7 +41,7 @@ loop-less : tie.Need-loop-less Inv-loop μ-loop
 loop-less c = omega arith
 
 loop-again : tie.Need-loop-again Inv-loop μ-loop
-unfolding series odds
+unfolding series odds patterns
 loop-again c =
     let at-loop = c .before in
     let i = at-loop .loop .i in

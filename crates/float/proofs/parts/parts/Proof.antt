@@ -1,16 +1,13 @@
--- `float::parts` meets its contract: `proofs/Fields.antt` says what the fields of a bit pattern are. Assumes nothing.
+-- `float::parts::parts` meets its contract: `proofs/Fields.antt` says what the fields of a bit pattern are. Assumes nothing.
 use mathlib.Core.Path.{sym, subst}
 use native.Mathlib.Omega.{arith}
 use lib.Dec.{T}
 use lib.Count.{leading-le}
-use lib.Ieee.{Float, binary64, fits, toBits, isNan}
-use lib.Ieee.Positive.{positive}
+use lib.Ieee.{binary64, toBits}
 use borrow.Author.Needs.{needs}
 use Rattle.float.proofs.Fields.{Read, read, by, parted-low, parted-high, no-nan}
 use Rattle.float.proofs.parts.parts.Statement.{statement}
 use Rattle.float.proofs.parts.parts.Tie as tie
-use Rattle.float.proofs.parts.parts.Reads as reads
-use Rattle.float.proofs.parts.parts.Lts as lts
 
 held : (c : tie.Start) → Read (c .args .x) (toBits binary64 (c .args .x))
 held c = read (c .args .x) (subst T (sym (c .good .0 .1)) tt) (c .pre)

@@ -1,13 +1,11 @@
--- `float::root` meets its contract: `proofs/Digits.antt` has a turn of the loop. Assumes nothing.
-use mathlib.Core.Path.{_≡_, sym, subst}
+-- `float::root::long_root` meets its contract: `proofs/Digits.antt` has a turn of the loop. Assumes nothing.
+use mathlib.Core.Path.{_≡_, subst}
 use mathlib.Core.Logic.{⊎-elim}
-use Prim.Native.Nat.{ℕ, _+_, _-_, _*_, _^_, _≤_, _<_}
+use Prim.Native.Nat.{ℕ, _-_, _*_, _^_, _≤_, _<_}
 use native.Mathlib.Omega.{arith}
 use Rattle.float.proofs.Digits.{Step, start, stay, take, bound, done, moved}
-use Rattle.float.proofs.root.root.Statement.{statement}
-use Rattle.float.proofs.root.root.Tie as tie
-use Rattle.float.proofs.root.root.Reads as reads
-use Rattle.float.proofs.root.root.Lts as lts
+use Rattle.float.proofs.root.long_root.Statement.{statement}
+use Rattle.float.proofs.root.long_root.Tie as tie
 
 abbrev Inv-loop : tie.InvT-loop
 Inv-loop m w₀ q₀ r₀ i₀ w q r i = (i ≤ 54) × Step m q r w i
@@ -62,8 +60,8 @@ returns c =
     let e : at-loop .loop .i ≡ 54 = omega arith in
     done (at-loop .before .args .m) (at-loop .loop .q) (at-loop .loop .r) (at-loop .loop .w) (subst (λ (i : ℕ). Step (at-loop .before .args .m) (at-loop .loop .q) (at-loop .loop .r) (at-loop .loop .w) i) e (at-loop .loop .inv .1))
 
-pub root-spec : {M : Type 1} → statement M
-root-spec =
+pub long-root-spec : {M : Type 1} → statement M
+long-root-spec =
     tie.close
     (tie.spec
     Inv-loop

@@ -1,0 +1,188 @@
+-- What the code's tests say of a float, by its cases: comparisons with zero, with an infinity and with itself. Assumes nothing.
+use mathlib.Core.Path.{_≡_, refl, sym, ap, _∙_, subst}
+use mathlib.Core.Bool.{Bool, true, false, true≢false, false≢true, not, _&&_, _||_, Bool·beq}
+use Prim.Native.Nat.{ℕ, zero, suc, _+_, _*_, _<_, _^_}
+use native.Mathlib.Nat.{mul-pos, zero-lt-suc, zero-mul, mul-one, one-mul, pow-succ'}
+use native.Mathlib.Omega.{arith}
+use lib.IntN.{ℤ, pos, negsuc}
+use lib.Dec.{T, ltb, eqb, eqb→eq, ltb→lt, lt→ltb, eqb-refl}
+use lib.Pow.{pow-pos}
+use lib.Ieee.{Float, nan, inf, fin, lt, eq, ne, neg, fits, binary64, up, down, isNan, ofBits}
+use lib.Ieee.Fits.{up-pos, and-i, and-l, eq→eqb}
+use lib.Ieee.Bits.{is-false}
+use lib.Ieee.Positive.{positive}
+use Rattle.definition.specs.Num.{0ᶠ, absOf, isInfinite, isFinite}
+
+abbrev pub top : Float
+top = ofBits binary64 0x7FF0000000000000
+
+yes : (b : Bool) → b ≡ true → T b
+yes b h = subst T (sym h) tt
+
+no : (b : Bool) → b ≡ false → T b → ⊥
+no b h t = subst T h t
+
+-- ---- against zero
+
+-- a zero, of either sign
+abbrev pub Zero : Float → Type 0
+Zero nan = ⊥
+Zero (inf s) = ⊥
+Zero (fin s zero e) = Unit
+Zero (fin s (suc m) e) = ⊥
+
+-- a NaN, or below zero
+abbrev pub Outside : Float → Type 0
+Outside nan = Unit
+Outside (inf true) = Unit
+Outside (inf false) = ⊥
+Outside (fin s zero e) = ⊥
+Outside (fin true (suc m) e) = Unit
+Outside (fin false (suc m) e) = ⊥
+
+-- m * 2 ^ e against 0, as `lt` and `eq` work it out
+none-below : (a d : ℕ) → a < 0 * d → ⊥
+none-below a d h = omega (arith, zero-mul d)
+
+some-above : (m : ℕ) (e : ℤ) → 0 * down e < suc m * up e * 1
+some-above m e = more (suc m * up e) (down e) (mul-pos (zero-lt-suc m) (up-pos e))
+  where
+    more : (a d : ℕ) → 0 < a → 0 * d < a * 1
+    more a d h = omega (arith, zero-mul d, mul-one a)
+
+none-above : (d u : ℕ) → 0 * d < 0 * u * 1 → ⊥
+none-above d u h = omega (arith, zero-mul d, zero-mul u)
+
+not-level : (m : ℕ) (e : ℤ) (b : Bool) → T (eqb (suc m * up e * 1) (0 * down e) && b) → ⊥
+not-level m e b t = apart (0 * down e) (suc m * up e * 1) (some-above m e) (eqb→eq (suc m * up e * 1) (0 * down e) (and-l (eqb (suc m * up e * 1) (0 * down e)) b t))
+  where
+    apart : (a b : ℕ) → a < b → b ≡ a → ⊥
+    apart a b h e = omega arith
+
+level-zero : (s : Bool) (e : ℤ) → T (eqb (0 * up e * 1) (0 * down e) && (Bool·beq s false || eqb (0 * up e * 1) 0))
+level-zero s e = and-i (eqb (0 * up e * 1) (0 * down e)) (Bool·beq s false || eqb (0 * up e * 1) 0) (eq→eqb (left ∙ sym (zero-mul (down e)))) (or-r (Bool·beq s false) (eqb (0 * up e * 1) 0) (eq→eqb left))
+  where
+    left : 0 * up e * 1 ≡ 0
+    left = mul-one (0 * up e) ∙ zero-mul (up e)
+
+    or-r : (a b : Bool) → T b → T (a || b)
+    or-r true b t = tt
+    or-r false b t = t
+
+pub zero-of : (x : Float) → eq x 0ᶠ ≡ true → Zero x
+unfolding eq ofBits
+zero-of nan h = absurd (false≢true h)
+zero-of (inf s) h = absurd (false≢true h)
+zero-of (fin s zero e) h = tt
+zero-of (fin s (suc m) e) h = not-level m e (Bool·beq s false || eqb (suc m * up e * 1) 0) (yes (eqb (suc m * up e * 1) (0 * down e) && (Bool·beq s false || eqb (suc m * up e * 1) 0)) h)
+
+pub outside-of : (x : Float) → lt 0ᶠ x ≡ false → eq x 0ᶠ ≡ false → Outside x
+unfolding lt eq ofBits
+outside-of nan h g = tt
+outside-of (inf true) h g = tt
+outside-of (inf false) h g = true≢false h
+outside-of (fin s zero e) h g = no (eqb (0 * up e * 1) (0 * down e) && (Bool·beq s false || eqb (0 * up e * 1) 0)) g (level-zero s e)
+outside-of (fin true (suc m) e) h g = tt
+outside-of (fin false (suc m) e) h g = no (ltb (0 * down e) (suc m * up e * 1)) h (lt→ltb (0 * down e) (suc m * up e * 1) (some-above m e))
+
+pub above-no-nan : (x : Float) → lt 0ᶠ x ≡ true → T (not (isNan x))
+unfolding lt isNan ofBits
+above-no-nan nan h = absurd (false≢true h)
+above-no-nan (inf s) h = tt
+above-no-nan (fin s m e) h = tt
+
+-- ---- against an infinity
+
+pub positive-of : (x : Float) → lt 0ᶠ x ≡ true → eq x top ≡ false → T (positive x)
+unfolding lt eq ofBits
+positive-of nan h g = absurd (false≢true h)
+positive-of (inf true) h g = absurd (false≢true h)
+positive-of (inf false) h g = absurd (true≢false g)
+positive-of (fin true m e) h g = absurd (false≢true h)
+positive-of (fin false zero e) h g = absurd (none-above (down e) (up e) (ltb→lt (0 * down e) (0 * up e * 1) (yes (ltb (0 * down e) (0 * up e * 1)) h)))
+positive-of (fin false (suc m) e) h g = lt→ltb 0 (suc m) (zero-lt-suc m)
+
+pub top-of : (x : Float) → eq x top ≡ true → x ≡ inf false
+unfolding eq ofBits
+top-of nan h = absurd (false≢true h)
+top-of (inf true) h = absurd (false≢true h)
+top-of (inf false) h = refl
+top-of (fin s m e) h = absurd (false≢true h)
+
+pub inf-yes : (x : Float) → eq x top ≡ true → true ≡ isInfinite x
+unfolding eq isInfinite ofBits
+inf-yes nan h = sym h
+inf-yes (inf s) h = refl
+inf-yes (fin s m e) h = sym h
+
+pub inf-else : (x : Float) → eq x top ≡ false → eq x (neg top) ≡ isInfinite x
+unfolding eq isInfinite neg ofBits
+inf-else nan h = refl
+inf-else (inf true) h = refl
+inf-else (inf false) h = sym h
+inf-else (fin s m e) h = refl
+
+pub fin-yes : (x : Float) → lt x top ≡ true → lt (neg top) x ≡ isFinite x
+unfolding lt isFinite neg ofBits
+fin-yes nan h = refl
+fin-yes (inf true) h = refl
+fin-yes (inf false) h = sym h
+fin-yes (fin s m e) h = refl
+
+pub fin-no : (x : Float) → lt x top ≡ false → false ≡ isFinite x
+unfolding lt isFinite ofBits
+fin-no nan h = refl
+fin-no (inf s) h = refl
+fin-no (fin s m e) h = sym h
+
+-- ---- against itself
+
+level-itself : (a : ℕ) → not (eqb a a && true) ≡ false
+level-itself a = is-false (not (eqb a a && true)) (go (eqb a a) (eqb-refl a))
+  where
+    go : (b : Bool) → T b → T (not (not (b && true)))
+    go true t = tt
+    go false t = t
+
+pub nan-test : (x : Float) → ne x x ≡ isNan x
+unfolding ne isNan
+nan-test nan = refl
+nan-test (inf true) = refl
+nan-test (inf false) = refl
+nan-test (fin true m e) = level-itself (m * up e * down e)
+nan-test (fin false m e) = level-itself (m * up e * down e)
+
+-- ---- the magnitude, by the three cases of `abs`
+
+pub abs-below : (x : Float) → lt x 0ᶠ ≡ true → neg x ≡ absOf x
+unfolding lt neg absOf ofBits
+abs-below nan h = refl
+abs-below (inf true) h = refl
+abs-below (inf false) h = absurd (false≢true h)
+abs-below (fin true m e) h = refl
+abs-below (fin false m e) h = absurd (none-below (m * up e * 1) (down e) (ltb→lt (m * up e * 1) (0 * down e) (yes (ltb (m * up e * 1) (0 * down e)) h)))
+
+-- a zero that fits is written in the one way: 2 ^ e is 1 / 1 only for e = 0
+two-up : (p q : ℕ) → 0 < p → q ≡ 2 * p → q ≡ 1 → ⊥
+two-up p q h e g = omega arith
+
+zero-exp : (e : ℤ) → up e * down e ≡ 1 → e ≡ pos 0
+zero-exp (pos zero) h = refl
+zero-exp (pos (suc k)) h = absurd (two-up (2 ^ k) (2 ^ suc k) (pow-pos k) (pow-succ' 2 k) (sym (mul-one (2 ^ suc k)) ∙ h))
+zero-exp (negsuc k) h = absurd (two-up (2 ^ k) (2 ^ suc k) (pow-pos k) (pow-succ' 2 k) (sym (one-mul (2 ^ suc k)) ∙ h))
+
+pub abs-level : (x : Float) → T (fits binary64 x) → Zero x → 0ᶠ ≡ absOf x
+unfolding absOf fits ofBits
+abs-level nan f z = absurd z
+abs-level (inf s) f z = absurd z
+abs-level (fin s zero e) f z = ap (fin false 0) (sym (zero-exp e (eqb→eq (up e * down e) 1 f)))
+abs-level (fin s (suc m) e) f z = absurd z
+
+pub abs-above : (x : Float) → lt x 0ᶠ ≡ false → eq x 0ᶠ ≡ false → x ≡ absOf x
+unfolding lt eq absOf ofBits
+abs-above nan h g = refl
+abs-above (inf true) h g = absurd (true≢false h)
+abs-above (inf false) h g = refl
+abs-above (fin true zero e) h g = absurd (no (eqb (0 * up e * 1) (0 * down e) && (false || eqb (0 * up e * 1) 0)) g (level-zero true e))
+abs-above (fin true (suc m) e) h g = absurd (no (ltb 0 (suc m * up e * 1 + 0 * down e)) h (lt→ltb 0 (suc m * up e * 1 + 0 * down e) (omega (arith, some-above m e))))
+abs-above (fin false m e) h g = refl
