@@ -1,0 +1,12 @@
+use Rattle.model.proofs.entries.shape_at.Statement.{statement}
+use Rattle.model.proofs.entries.shape_at.Tie as tie
+use borrow.Author.Needs.{needs}
+use lib.Ieee.{ne}
+use Rattle.definition.specs.Refusals.{shapeAt}
+
+returns : tie.Need-returns
+unfolding shapeAt ne
+returns c = cc
+
+pub shape-at-spec : {M : Type 1} → statement M
+shape-at-spec = tie.close (tie.spec (λ c κs. search needs) (λ c κs. search needs) (λ c κs. search needs) returns)

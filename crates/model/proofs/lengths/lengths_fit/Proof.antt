@@ -1,0 +1,34 @@
+use Rattle.model.proofs.lengths.lengths_fit.Statement.{statement}
+use Rattle.model.proofs.lengths.lengths_fit.Tie as tie
+use native.Mathlib.Omega.{arith}
+use Prim.Native.Nat.{_<_, _*_}
+use Rattle.model.proofs.Laws.{small, product-some}
+use Rattle.model.specs.Lengths.{lengthsFit}
+
+mul-design-fits : tie.Need-mul-design-fits
+mul-design-fits c = omega (arith, small (c .pre))
+
+design-fits-requires : tie.Need-design-fits-requires
+design-fits-requires c κs = product-some (c .pre .p0) (c .pre .m0)
+
+mul-result : tie.Need-mul-result
+mul-result c = omega (arith, small (c .before .pre))
+
+mul-result-2 : tie.Need-mul-result-2
+mul-result-2 c = omega (arith, small (c .before .pre))
+
+mul-result-3 : tie.Need-mul-result-3
+mul-result-3 c = omega (arith, small (c .before .pre))
+
+mul-result-4 : tie.Need-mul-result-4
+mul-result-4 c = omega (arith, small (c .before .pre))
+
+mul-result-5 : tie.Need-mul-result-5
+mul-result-5 c = omega (arith, small (c .before .pre))
+
+returns : tie.Need-returns
+unfolding lengthsFit
+returns c = cc
+
+pub lengths-fit-spec : {M : Type 1} → statement M
+lengths-fit-spec = tie.close (tie.spec mul-design-fits design-fits-requires mul-result mul-result-2 mul-result-3 mul-result-4 mul-result-5 returns)

@@ -1,0 +1,43 @@
+-- Refusal 2 over numbers: the lengths of the lent parts, and that they are the definition's tests.
+use mathlib.Core.Path.{_≡_, refl}
+use Prim.Native.Nat.{ℕ, _+_, _*_}
+use mathlib.Core.Bool.{Bool, _&&_}
+use mathlib.Core.List.{List}
+use lib.ListN.{length}
+use lib.Dec.{eqb, leb}
+use lib.Ieee.{Float}
+use Rattle.definition.specs.Inputs.{Model, Offsets}
+use Rattle.definition.specs.Refusals.{designFits, inputsFit}
+use Rattle.definition.specs.Parts.{predCov, predInf, filtCov, fStar, fInf, mStar, mInf, predMean, filtMean, innovations}
+use Rattle.definition.specs.Outcome.{CovParts, MeanParts, kindsNeed, covNeed, meanNeed, smoothedCovNeed, smoothedMeanNeed, roomy, roomySmoothed}
+
+-- of the inputs: Z, Zs, H, T, R, Q, c, d, a1, P* and the flags
+unfoldable pub lengthsFit : ℕ → ℕ → ℕ → ℕ → ℕ → ℕ → ℕ → ℕ → ℕ → ℕ → ℕ → ℕ → ℕ → ℕ → Bool
+lengthsFit p m r z zs h t rr q c d a1 p* flags =
+    designFits (p * m) z zs && eqb h (p * p) && eqb t (m * m) && eqb rr (m * r) && eqb q (r * r) && eqb c m && eqb d p && eqb a1 m && eqb p* (m * m)
+    && eqb flags m
+
+-- of the filter's outputs, in the order of the call: predicted mean, covariance and diffuse covariance, filtered mean and covariance, kinds, v, F*,
+-- F∞, M*, M∞
+unfoldable pub rooms : ℕ → ℕ → ℕ → ℕ → ℕ → ℕ → ℕ → ℕ → ℕ → ℕ → ℕ → ℕ → ℕ → ℕ → Bool
+rooms p m n pm pc pi fm fc ks vs fs fi ms mi =
+    leb (n * p) ks && leb (n * (m * m) + m * m) pc && leb (n * (m * m) + m * m) pi && leb (n * (m * m)) fc && leb (n * p) fs && leb (n * p) fi
+    && leb (n * (p * m)) ms && leb (n * (p * m)) mi && leb (n * m + m) pm && leb (n * m) fm && leb (n * p) vs
+
+-- and of the smoother's two, covariance and mean
+unfoldable pub roomsSmoothed : ℕ → ℕ → Bool → ℕ → ℕ → Bool
+roomsSmoothed m n room sm sc = room && leb (n * (m * m)) sc && leb (n * m) sm
+
+-- ---- they are the definition's
+
+pub lengths-fit : (x : Model) (o : Offsets) → inputsFit x o ≡ lengthsFit (x .p) (x .m) (x .r) (length (x .zOnce)) (length (x .zList)) (length (x .h)) (length (x .t)) (length (x .rr)) (length (x .q)) (length (o .c)) (length (o .d)) (length (o .a1)) (length (x .pStar)) (length (x .flags))
+unfolding inputsFit lengthsFit
+lengths-fit x o = refl
+
+pub rooms-are : (x : Model) (b : CovParts) (b′ : MeanParts) → roomy x b b′ ≡ rooms (x .p) (x .m) (x .n) (length (b′ predMean)) (length (b .part predCov)) (length (b .part predInf)) (length (b′ filtMean)) (length (b .part filtCov)) (length (b .kinds)) (length (b′ innovations)) (length (b .part fStar)) (length (b .part fInf)) (length (b .part mStar)) (length (b .part mInf))
+unfolding roomy kindsNeed covNeed meanNeed rooms
+rooms-are x b b′ = refl
+
+pub rooms-smoothed-are : (x : Model) (b : CovParts) (b′ : MeanParts) (sc sm : List Float) → roomySmoothed x b b′ sc sm ≡ roomsSmoothed (x .m) (x .n) (roomy x b b′) (length sm) (length sc)
+unfolding roomySmoothed smoothedCovNeed smoothedMeanNeed roomsSmoothed
+rooms-smoothed-are x b b′ sc sm = refl

@@ -1,0 +1,195 @@
+// Refusals 3 to 10: the entries of the lent parts.
+ghost use mathlib.Core.Path.{_≡_};
+ghost use mathlib.Core.List.{map};
+ghost use Prim.Native.Nat.{_<_, _≤_, _*_};
+ghost use lib.ListN.{length};
+ghost use Rattle.definition.specs.Num.{ent, at};
+ghost use Rattle.definition.specs.Run.{anyOf, anyTo};
+ghost use Rattle.definition.specs.Inputs.{isFlagged, isInfinity, kindOf};
+ghost use Rattle.definition.specs.Refusals.{
+  notFinite,
+  negative,
+  offAt,
+  offRow,
+  offDiagonal,
+  shapeAt,
+  shapeRow,
+  shapeOf,
+  badFlag,
+  startShape,
+  drivenAt,
+  drivenRow,
+  mixedDriven,
+};
+ghost use Rattle.model.specs.Places.{Square, Row, Place};
+
+// ---- lists
+
+pub fn not_finite(a: &[f64]) -> bool
+    ensures { λ r. ⌜ r ≡ notFinite (now (a .entry)) ⌝ }
+{
+    let mut found = false;
+    for i in 0..a.len() {
+        found = found | !float::is_finite(a[i]);
+    }
+    found
+}
+
+pub fn any_infinite(y: &[f64]) -> bool
+    ensures { λ r. ⌜ r ≡ anyOf isInfinity (map kindOf (now (y .entry))) ⌝ }
+{
+    let mut found = false;
+    for i in 0..y.len() {
+        found = found | float::is_infinite(y[i]);
+    }
+    found
+}
+
+fn bad_flag(flags: &[u8]) -> bool
+    ensures { λ r. ⌜ r ≡ anyOf badFlag (now (flags .entry)) ⌝ }
+{
+    let mut found = false;
+    for i in 0..flags.len() {
+        found = found | (1 < flags[i]);
+    }
+    found
+}
+
+// ---- square matrices
+
+fn entry(a: &[f64], k: usize, i: usize, j: usize) -> f64
+    requires { ⌜ Place k (length (now a)) i j ⌝ }
+    ensures { λ r. ⌜ r ≡ ent k (now (a .entry)) i j ⌝ }
+{
+    a[i * k + j]
+}
+
+fn is_flagged(flags: &[u8], i: usize) -> bool
+    requires { ⌜ i < length (now flags) ⌝ }
+    ensures { λ r. ⌜ r ≡ isFlagged (now (flags .entry)) i ⌝ }
+{
+    flags[i] == 1
+}
+
+// A diagonal entry is below 0.
+pub fn negative(a: &[f64], k: usize) -> bool
+    requires { ⌜ Square k (length (now a)) ⌝ }
+    ensures { λ r. ⌜ r ≡ negative k (now (a .entry)) ⌝ }
+{
+    let mut found = false;
+    for i in 0..k {
+        found = found | (entry(a, k, i, i) < 0.0);
+    }
+    found
+}
+
+fn off_at(a: &[f64], k: usize, i: usize, j: usize) -> bool
+    requires { ⌜ Place k (length (now a)) i j ⌝ }
+    ensures { λ r. ⌜ r ≡ offAt k (now (a .entry)) i j ⌝ }
+{
+    (i != j) & (entry(a, k, i, j) != 0.0)
+}
+
+fn off_row(a: &[f64], k: usize, i: usize) -> bool
+    requires { ⌜ Row k (length (now a)) i ⌝ }
+    ensures { λ r. ⌜ r ≡ offRow k (now (a .entry)) i ⌝ }
+{
+    let mut found = false;
+    for j in 0..k {
+        found = found | off_at(a, k, i, j);
+    }
+    found
+}
+
+// An entry off the diagonal is not 0.
+pub fn off_diagonal(a: &[f64], k: usize) -> bool
+    requires { ⌜ Square k (length (now a)) ⌝ }
+    ensures { λ r. ⌜ r ≡ offDiagonal k (now (a .entry)) ⌝ }
+{
+    let mut found = false;
+    for i in 0..k {
+        found = found | off_row(a, k, i);
+    }
+    found
+}
+
+// ---- the start
+
+fn shape_at(p_star: &[f64], flags: &[u8], m: usize, i: usize, j: usize) -> bool
+    requires { ⌜ Place m (length (now «p_star»)) i j × (length (now flags) ≡ m) ⌝ }
+    ensures { λ r. ⌜ r ≡ shapeAt m (now («p_star» .entry)) (now (flags .entry)) i j ⌝ }
+{
+    let x = entry(p_star, m, i, j);
+    let y = entry(p_star, m, j, i);
+    (x != y) | is_flagged(flags, i) & !((x == 0.0) & (y == 0.0))
+}
+
+fn shape_row(p_star: &[f64], flags: &[u8], m: usize, i: usize) -> bool
+    requires { ⌜ Row m (length (now «p_star»)) i × (length (now flags) ≡ m) ⌝ }
+    ensures { λ r. ⌜ r ≡ shapeRow m (now («p_star» .entry)) (now (flags .entry)) i ⌝ }
+{
+    let mut found = false;
+    for j in 0..m {
+        found = found | shape_at(p_star, flags, m, i, j);
+    }
+    found
+}
+
+fn shape_of(p_star: &[f64], flags: &[u8], a1: &[f64], m: usize, i: usize) -> bool
+    requires { ⌜ Row m (length (now «p_star»)) i × (length (now flags) ≡ m) × (length (now a1) ≡ m) ⌝ }
+    ensures { λ r. ⌜ r ≡ shapeOf m (now («p_star» .entry)) (now (flags .entry)) (now (a1 .entry)) i ⌝ }
+{
+    let below = entry(p_star, m, i, i) < 0.0;
+    below | is_flagged(flags, i) & (a1[i] != 0.0) | shape_row(p_star, flags, m, i)
+}
+
+fn misshapen(p_star: &[f64], flags: &[u8], a1: &[f64], m: usize) -> bool
+    requires { ⌜ Square m (length (now «p_star»)) × (length (now flags) ≡ m) × (length (now a1) ≡ m) ⌝ }
+    ensures { λ r. ⌜ r ≡ anyTo m (shapeOf m (now («p_star» .entry)) (now (flags .entry)) (now (a1 .entry))) ⌝ }
+{
+    let mut found = false;
+    for i in 0..m {
+        found = found | shape_of(p_star, flags, a1, m, i);
+    }
+    found
+}
+
+// A flag above 1; P* not mirrored as numbers, or with a negative diagonal entry; a flagged state with non-zero a1 or a non-zero row or column.
+pub fn start_shape(p_star: &[f64], flags: &[u8], a1: &[f64], m: usize) -> bool
+    requires { ⌜ Square m (length (now «p_star»)) × (length (now flags) ≡ m) × (length (now a1) ≡ m) ⌝ }
+    ensures { λ r. ⌜ r ≡ startShape m (now («p_star» .entry)) (now (flags .entry)) (now (a1 .entry)) ⌝ }
+{
+    bad_flag(flags) | misshapen(p_star, flags, a1, m)
+}
+
+// ---- T
+
+fn driven_at(t: &[f64], flags: &[u8], m: usize, i: usize, j: usize) -> bool
+    requires { ⌜ Place m (length (now t)) i j × (length (now flags) ≡ m) ⌝ }
+    ensures { λ r. ⌜ r ≡ drivenAt m (now (t .entry)) (now (flags .entry)) i j ⌝ }
+{
+    !is_flagged(flags, i) & is_flagged(flags, j) & (entry(t, m, i, j) != 0.0)
+}
+
+fn driven_row(t: &[f64], flags: &[u8], m: usize, i: usize) -> bool
+    requires { ⌜ Row m (length (now t)) i × (length (now flags) ≡ m) ⌝ }
+    ensures { λ r. ⌜ r ≡ drivenRow m (now (t .entry)) (now (flags .entry)) i ⌝ }
+{
+    let mut found = false;
+    for j in 0..m {
+        found = found | driven_at(t, flags, m, i, j);
+    }
+    found
+}
+
+// T at (unflagged, flagged) is not 0.
+pub fn mixed_driven(t: &[f64], flags: &[u8], m: usize) -> bool
+    requires { ⌜ Square m (length (now t)) × (length (now flags) ≡ m) ⌝ }
+    ensures { λ r. ⌜ r ≡ mixedDriven m (now (t .entry)) (now (flags .entry)) ⌝ }
+{
+    let mut found = false;
+    for i in 0..m {
+        found = found | driven_row(t, flags, m, i);
+    }
+    found
+}

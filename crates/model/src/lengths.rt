@@ -1,0 +1,174 @@
+// Refusals 1 and 2: the sizes, and the lengths of the lent parts.
+ghost use mathlib.Core.Path.{_≡_};
+ghost use mathlib.Core.Bool.{false};
+ghost use Prim.Native.Nat.{_<_};
+ghost use Rattle.definition.specs.Refusals.{beyond, outside, designFits};
+ghost use Rattle.laws.specs.Accepted.{InRange};
+ghost use Rattle.model.specs.Lengths.{lengthsFit, rooms, roomsSmoothed};
+
+fn beyond(top: usize, k: usize) -> bool
+    ensures { λ r. ⌜ r ≡ beyond top k ⌝ }
+{
+    (k == 0) | (top < k)
+}
+
+pub fn outside(p: usize, m: usize, r: usize, n: usize) -> bool
+    ensures { λ b. ⌜ b ≡ outside p m r n ⌝ }
+{
+    beyond(8, p) | beyond(8, m) | beyond(8, r) | beyond(4096, n)
+}
+
+// The constant design of pm numbers, or 1 to 4096 listed ones.
+fn design_fits(pm: usize, once: usize, list: usize) -> bool
+    requires { ⌜ 0 < pm ⌝ }
+    ensures { λ r. ⌜ r ≡ designFits pm once list ⌝ }
+{
+    let k = list / pm;
+    (once == pm) & (list == 0) | (once == 0) & (list == k * pm) & (k != 0) & (k <= 4096)
+}
+
+pub fn lengths_fit(
+    p: usize,
+    m: usize,
+    r: usize,
+    n: usize,
+    z: usize,
+    zs: usize,
+    h: usize,
+    t: usize,
+    rr: usize,
+    q: usize,
+    c: usize,
+    d: usize,
+    a1: usize,
+    p_star: usize,
+    flags: usize,
+) -> bool
+    requires { ⌜ InRange p m r n ⌝ }
+    ensures { λ b. ⌜ b ≡ lengthsFit p m r z zs h t rr q c d a1 «p_star» flags ⌝ }
+{
+    let design = design_fits(p * m, z, zs);
+    design
+        & (h == p * p)
+        & (t == m * m)
+        & (rr == m * r)
+        & (q == r * r)
+        & (c == m)
+        & (d == p)
+        & (a1 == m)
+        & (p_star == m * m)
+        & (flags == m)
+}
+
+fn rooms(
+    p: usize,
+    m: usize,
+    r: usize,
+    n: usize,
+    pred_mean: usize,
+    pred_cov: usize,
+    pred_inf: usize,
+    filt_mean: usize,
+    filt_cov: usize,
+    kinds: usize,
+    v: usize,
+    f_star: usize,
+    f_inf: usize,
+    m_star: usize,
+    m_inf: usize,
+) -> bool
+    requires { ⌜ InRange p m r n ⌝ }
+    ensures { λ b. ⌜ b ≡ rooms p m n «pred_mean» «pred_cov» «pred_inf» «filt_mean» «filt_cov» kinds v «f_star» «f_inf» «m_star» «m_inf» ⌝ }
+{
+    let np = n * p;
+    let nm = n * m;
+    let npm = n * (p * m);
+    let nmm = n * (m * m);
+    let cov = nmm + m * m;
+    (np <= kinds)
+        & (cov <= pred_cov)
+        & (cov <= pred_inf)
+        & (nmm <= filt_cov)
+        & (np <= f_star)
+        & (np <= f_inf)
+        & (npm <= m_star)
+        & (npm <= m_inf)
+        & (nm + m <= pred_mean)
+        & (nm <= filt_mean)
+        & (np <= v)
+}
+
+// Each of the filter's outputs is as long as needed, by their lengths. Where the sizes are out of range nothing is promised: refusal 1 comes first.
+pub fn room(
+    p: usize,
+    m: usize,
+    r: usize,
+    n: usize,
+    pred_mean: usize,
+    pred_cov: usize,
+    pred_inf: usize,
+    filt_mean: usize,
+    filt_cov: usize,
+    kinds: usize,
+    v: usize,
+    f_star: usize,
+    f_inf: usize,
+    m_star: usize,
+    m_inf: usize,
+) -> bool
+    ensures { λ b. ⌜ (outside p m r n ≡ false → b ≡ rooms p m n «pred_mean» «pred_cov» «pred_inf» «filt_mean» «filt_cov» kinds v «f_star» «f_inf» «m_star» «m_inf») ⌝ }
+{
+    if outside(p, m, r, n) {
+        return false;
+    }
+    rooms(
+        p,
+        m,
+        r,
+        n,
+        pred_mean,
+        pred_cov,
+        pred_inf,
+        filt_mean,
+        filt_cov,
+        kinds,
+        v,
+        f_star,
+        f_inf,
+        m_star,
+        m_inf,
+    )
+}
+
+fn rooms_smoothed(
+    p: usize,
+    m: usize,
+    r: usize,
+    n: usize,
+    room: bool,
+    sm_mean: usize,
+    sm_cov: usize,
+) -> bool
+    requires { ⌜ InRange p m r n ⌝ }
+    ensures { λ b. ⌜ b ≡ roomsSmoothed m n room «sm_mean» «sm_cov» ⌝ }
+{
+    room & (n * (m * m) <= sm_cov) & (n * m <= sm_mean)
+}
+
+// The same of the smoother's outputs; `room` is the filter's.
+pub fn room_smoothed(
+    p: usize,
+    m: usize,
+    r: usize,
+    n: usize,
+    room: bool,
+    sm_mean: usize,
+    sm_cov: usize,
+) -> bool
+    ensures { λ b. ⌜ (outside p m r n ≡ false → b ≡ roomsSmoothed m n room «sm_mean» «sm_cov») ⌝ }
+{
+    if outside(p, m, r, n) {
+        return false;
+    }
+    rooms_smoothed(p, m, r, n, room, sm_mean, sm_cov)
+}
