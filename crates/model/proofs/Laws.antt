@@ -5,14 +5,18 @@ use mathlib.Core.List.{List, map}
 use Prim.Native.Nat.{ℕ, _+_, _*_, _≤_, _<_}
 use native.Mathlib.Omega.{arith}
 use native.Mathlib.Nat.{mul-le-mul}
+use lib.ListN.{length}
 use lib.Ieee.{Float, nan, inf, fin}
 use Rattle.definition.specs.Num.{isInfinite}
 use Rattle.definition.specs.Run.{anyOf}
-use Rattle.definition.specs.Inputs.{isInfinity, kindOf}
+use Rattle.definition.specs.Dense.{product, transpose, symmetrise}
+use Rattle.definition.specs.Inputs.{isInfinity, kindOf, noiseOf}
 use Rattle.laws.specs.Lists.{place-lt}
 use Rattle.laws.specs.Any.{of-cong, of-map}
 use Rattle.laws.specs.Accepted.{InRange}
-use Rattle.model.specs.Places.{Place}
+use Rattle.dense.specs.Views.{vec, rect}
+use Rattle.dense.proofs.Laws.{loaded-rect}
+use Rattle.model.specs.Places.{Place, NoiseFits}
 
 pub product-most : {a b : ℕ} → a ≤ 8 → b ≤ 8 → a * b ≤ 64
 product-most {a} {b} h g = mul-le-mul {n₁ = a} {m₁ = b} {n₂ = 8} {m₂ = 8} h g
@@ -67,3 +71,13 @@ small {p} {m} {r} {n} i =
 
 pub contrary : {A : Type 0} {b : Bool} → b ≡ true → b ≡ false → A
 contrary {A} {b} e f = absurd (let z : _≡_ {A = ℕ} 0 1 = cc in omega arith)
+
+-- (R Q) R', symmetrised, of arrays that hold R and Q
+pub noise-is : (m r : ℕ) {rr q : List Float} (a b rq x out : List Float) → NoiseFits m r (length rr) (length q) → vec (length rr) a ≡ rr → vec (length q) b ≡ q
+    → rect m r rq ≡ product m r r (rect m r a) (rect r r b) → rect m m x ≡ product m r m (rect m r rq) (transpose m r (rect m r a)) → rect m m out ≡ symmetrise m (rect m m x)
+    → rect m m out ≡ noiseOf m r rr q
+unfolding noiseOf
+noise-is m r {rr} {q} a b rq x out f ea eb e1 e2 e3 =
+    let la : rect m r a ≡ rr = loaded-rect m r (length rr) a (f .rr) ea in
+    let lb : rect r r b ≡ q = loaded-rect r r (length q) b (f .q) eb in
+    cc

@@ -18,3 +18,10 @@ pub record Place (k size i j : ℕ) : Type 0 where
   pub whole : size ≡ k * k
   pub row : i < k
   pub col : j < k
+
+-- R of m by r and Q of r by r
+pub record NoiseFits (m r size-rr size-q : ℕ) : Type 0 where
+  pub m8 : m ≤ 8
+  pub r8 : r ≤ 8
+  pub rr : size-rr ≡ m * r
+  pub q : size-q ≡ r * r

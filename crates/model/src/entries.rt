@@ -1,5 +1,6 @@
 // Refusals 3 to 10: the entries of the lent parts.
 ghost use mathlib.Core.Path.{_≡_};
+ghost use mathlib.Core.Bool.{_||_};
 ghost use mathlib.Core.List.{map};
 ghost use Prim.Native.Nat.{_<_, _≤_, _*_};
 ghost use lib.ListN.{length};
@@ -33,6 +34,18 @@ pub fn not_finite(a: &[f64]) -> bool
         found = found | !float::is_finite(a[i]);
     }
     found
+}
+
+pub fn bad_system(z: &[f64], zs: &[f64], h: &[f64], t: &[f64], rr: &[f64], q: &[f64]) -> bool
+    ensures { λ r. ⌜ r ≡ (notFinite (now (z .entry)) || notFinite (now (zs .entry)) || notFinite (now (h .entry)) || notFinite (now (t .entry)) || notFinite (now (rr .entry)) || notFinite (now (q .entry))) ⌝ }
+{
+    not_finite(z) | not_finite(zs) | not_finite(h) | not_finite(t) | not_finite(rr) | not_finite(q)
+}
+
+pub fn bad_start(c: &[f64], d: &[f64], a1: &[f64], p_star: &[f64]) -> bool
+    ensures { λ r. ⌜ r ≡ (notFinite (now (c .entry)) || notFinite (now (d .entry)) || notFinite (now (a1 .entry)) || notFinite (now («p_star» .entry))) ⌝ }
+{
+    not_finite(c) | not_finite(d) | not_finite(a1) | not_finite(p_star)
 }
 
 pub fn any_infinite(y: &[f64]) -> bool
@@ -72,7 +85,7 @@ fn is_flagged(flags: &[u8], i: usize) -> bool
 }
 
 // A diagonal entry is below 0.
-pub fn negative(a: &[f64], k: usize) -> bool
+fn negative(a: &[f64], k: usize) -> bool
     requires { ⌜ Square k (length (now a)) ⌝ }
     ensures { λ r. ⌜ r ≡ negative k (now (a .entry)) ⌝ }
 {
@@ -81,6 +94,13 @@ pub fn negative(a: &[f64], k: usize) -> bool
         found = found | (entry(a, k, i, i) < 0.0);
     }
     found
+}
+
+pub fn not_psd(h: &[f64], q: &[f64], p: usize, r: usize) -> bool
+    requires { ⌜ Square p (length (now h)) × Square r (length (now q)) ⌝ }
+    ensures { λ b. ⌜ b ≡ (negative p (now (h .entry)) || negative r (now (q .entry))) ⌝ }
+{
+    negative(h, p) | negative(q, r)
 }
 
 fn off_at(a: &[f64], k: usize, i: usize, j: usize) -> bool

@@ -1,12 +1,95 @@
 // model.rs: the checks of a call's inputs, the period's design, the noise R Q R', the start.
 ghost use mathlib.Core.Path.{_≡_};
+ghost use mathlib.Core.List.{map};
 ghost use Prim.Native.Nat.{_<_, _-_, _*_, _/_, min};
 ghost use lib.ListN.{length};
-ghost use Rattle.definition.specs.Inputs.{designFrom};
+ghost use Rattle.definition.specs.Run.{anyOf};
+ghost use Rattle.definition.specs.Inputs.{designFrom, noiseOf, isInfinity, kindOf};
+ghost use Rattle.definition.specs.Refusals.{notFinite, refusal};
+ghost use Rattle.dense.specs.Views.{mat};
+ghost use Rattle.model.specs.Given.{modelOf, offsetsOf};
 ghost use Rattle.model.specs.Design.{DesignFits};
+ghost use Rattle.model.specs.Places.{NoiseFits};
 
 pub mod lengths; // refusals 1 and 2
 pub mod entries; // refusals 3 to 10
+
+// ---- the checks
+
+// The number of the first refusal that applies, by document 01's table; 0 for none. `room` is what lengths::room says of the outputs.
+pub fn refusal(
+    p: usize,
+    m: usize,
+    r: usize,
+    n: usize,
+    z: &[f64],
+    zs: &[f64],
+    h: &[f64],
+    t: &[f64],
+    rr: &[f64],
+    q: &[f64],
+    c: &[f64],
+    d: &[f64],
+    a1: &[f64],
+    p_star: &[f64],
+    flags: &[u8],
+    y: &[f64],
+    room: bool,
+) -> u8
+    ensures { λ k. ⌜ k ≡ refusal (modelOf p m r n (now (z .entry)) (now (zs .entry)) (now (h .entry)) (now (t .entry)) (now (rr .entry)) (now (q .entry)) (now («p_star» .entry)) (now (flags .entry))) (offsetsOf (now (c .entry)) (now (d .entry)) (now (a1 .entry))) (length (now (y .entry))) (anyOf isInfinity (map kindOf (now (y .entry)))) room ⌝ }
+{
+    if lengths::outside(p, m, r, n) {
+        return 1;
+    }
+    let fit = lengths::lengths_fit(
+        p,
+        m,
+        r,
+        n,
+        z.len(),
+        zs.len(),
+        h.len(),
+        t.len(),
+        rr.len(),
+        q.len(),
+        c.len(),
+        d.len(),
+        a1.len(),
+        p_star.len(),
+        flags.len(),
+    );
+    if !(fit & (y.len() == n * p) & room) {
+        return 2;
+    }
+    if entries::bad_system(z, zs, h, t, rr, q) {
+        return 3;
+    }
+    if entries::not_psd(h, q, p, r) {
+        return 4;
+    }
+    if entries::off_diagonal(q, r) {
+        return 5;
+    }
+    if entries::bad_start(c, d, a1, p_star) {
+        return 6;
+    }
+    if entries::start_shape(p_star, flags, a1, m) {
+        return 7;
+    }
+    if entries::off_diagonal(h, p) {
+        return 8;
+    }
+    if entries::any_infinite(y) {
+        return 9;
+    }
+    if entries::mixed_driven(t, flags, m) {
+        return 10;
+    }
+    if bad_noise(rr, q, m, r) {
+        return 11;
+    }
+    0
+}
 
 // ---- the period's design
 
@@ -40,4 +123,29 @@ pub fn design<'a>(
     let a = entry_of(listed, t) * k;
     let e = a + k;
     &zs[a..e]
+}
+
+// ---- the noise
+
+// R Q R' as (R Q) R', symmetrised.
+pub fn noise(rr: &[f64], q: &[f64], m: usize, r: usize) -> [f64; 64]
+    requires { ⌜ NoiseFits m r (length (now rr)) (length (now q)) ⌝ }
+    ensures { λ x. ⌜ mat m x ≡ noiseOf m r (now (rr .entry)) (now (q .entry)) ⌝ }
+{
+    let a = dense::load64(rr);
+    let b = dense::load64(q);
+    let rq = dense::product(&a, &b, m, r, r);
+    let mut out = dense::product_t(&rq, &a, m, r, m);
+    dense::symmetrize_in_place(&mut out, m);
+    out
+}
+
+fn bad_noise(rr: &[f64], q: &[f64], m: usize, r: usize) -> bool
+    requires { ⌜ NoiseFits m r (length (now rr)) (length (now q)) ⌝ }
+    ensures { λ b. ⌜ b ≡ notFinite (noiseOf m r (now (rr .entry)) (now (q .entry))) ⌝ }
+{
+    let a = noise(rr, q, m, r);
+    dense::sized(&a);
+    let e = m * m;
+    entries::not_finite(&a[0..e])
 }

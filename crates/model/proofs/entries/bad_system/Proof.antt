@@ -1,0 +1,9 @@
+use Rattle.model.proofs.entries.bad_system.Statement.{statement}
+use Rattle.model.proofs.entries.bad_system.Tie as tie
+use borrow.Author.Needs.{needs}
+
+returns : tie.Need-returns
+returns c = cc
+
+pub bad-system-spec : {M : Type 1} → statement M
+bad-system-spec = tie.close (tie.spec (λ c κs. search needs) (λ c κs. search needs) (λ c κs. search needs) (λ c κs. search needs) (λ c κs. search needs) (λ c κs. search needs) returns)
