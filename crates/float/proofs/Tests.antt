@@ -7,11 +7,13 @@ use native.Mathlib.Omega.{arith}
 use lib.IntN.{ℤ, pos, negsuc}
 use lib.Dec.{T, ltb, eqb, eqb→eq, ltb→lt, lt→ltb, eqb-refl}
 use lib.Pow.{pow-pos}
-use lib.Ieee.{Float, nan, inf, fin, lt, eq, ne, neg, fits, binary64, up, down, isNan, ofBits}
-use lib.Ieee.Fits.{up-pos, and-i, and-l, eq→eqb}
+use lib.Ieee.{Float, nan, inf, fin, sub, lt, eq, ne, neg, fits, binary64, up, down, isNan, ofBits}
+use lib.Ieee.Fits.{up-pos, neg-fits, and-i, and-l, eq→eqb}
 use lib.Ieee.Bits.{is-false}
 use lib.Ieee.Positive.{positive}
 use Rattle.definition.specs.Num.{0ᶠ, absOf, isInfinite, isFinite}
+use Rattle.laws.specs.Swap.{add-swap}
+use Rattle.laws.specs.Same.{plus-zero, minus-zero, add-plus-zero, zeros-add}
 
 abbrev pub top : Float
 top = ofBits binary64 0x7FF0000000000000
@@ -41,8 +43,6 @@ Outside (fin true (suc m) e) = Unit
 Outside (fin false (suc m) e) = ⊥
 
 -- m * 2 ^ e against 0, as `lt` and `eq` work it out
-none-below : (a d : ℕ) → a < 0 * d → ⊥
-none-below a d h = omega (arith, zero-mul d)
 
 some-above : (m : ℕ) (e : ℤ) → 0 * down e < suc m * up e * 1
 some-above m e = more (suc m * up e) (down e) (mul-pos (zero-lt-suc m) (up-pos e))
@@ -152,15 +152,15 @@ nan-test (inf false) = refl
 nan-test (fin true m e) = level-itself (m * up e * down e)
 nan-test (fin false m e) = level-itself (m * up e * down e)
 
--- ---- the magnitude, by the three cases of `abs`
+-- ---- the magnitude, by the two cases of `abs`
 
-pub abs-below : (x : Float) → lt x 0ᶠ ≡ true → neg x ≡ absOf x
-unfolding lt neg absOf ofBits
-abs-below nan h = refl
-abs-below (inf true) h = refl
-abs-below (inf false) h = absurd (false≢true h)
-abs-below (fin true m e) h = refl
-abs-below (fin false m e) h = absurd (none-below (m * up e * 1) (down e) (ltb→lt (m * up e * 1) (0 * down e) (yes (ltb (m * up e * 1) (0 * down e)) h)))
+pub abs-above : (x : Float) → lt 0ᶠ x ≡ true → x ≡ absOf x
+unfolding lt absOf ofBits
+abs-above nan h = refl
+abs-above (inf true) h = absurd (false≢true h)
+abs-above (inf false) h = refl
+abs-above (fin true m e) h = absurd (false≢true h)
+abs-above (fin false m e) h = refl
 
 -- a zero that fits is written in the one way: 2 ^ e is 1 / 1 only for e = 0
 two-up : (p q : ℕ) → 0 < p → q ≡ 2 * p → q ≡ 1 → ⊥
@@ -171,18 +171,12 @@ zero-exp (pos zero) h = refl
 zero-exp (pos (suc k)) h = absurd (two-up (2 ^ k) (2 ^ suc k) (pow-pos k) (pow-succ' 2 k) (sym (mul-one (2 ^ suc k)) ∙ h))
 zero-exp (negsuc k) h = absurd (two-up (2 ^ k) (2 ^ suc k) (pow-pos k) (pow-succ' 2 k) (sym (one-mul (2 ^ suc k)) ∙ h))
 
-pub abs-level : (x : Float) → T (fits binary64 x) → Zero x → 0ᶠ ≡ absOf x
-unfolding absOf fits ofBits
-abs-level nan f z = absurd z
-abs-level (inf s) f z = absurd z
-abs-level (fin s zero e) f z = ap (fin false 0) (sym (zero-exp e (eqb→eq (up e * down e) 1 f)))
-abs-level (fin s (suc m) e) f z = absurd z
-
-pub abs-above : (x : Float) → lt x 0ᶠ ≡ false → eq x 0ᶠ ≡ false → x ≡ absOf x
-unfolding lt eq absOf ofBits
-abs-above nan h g = refl
-abs-above (inf true) h g = absurd (true≢false h)
-abs-above (inf false) h g = refl
-abs-above (fin true zero e) h g = absurd (no (eqb (0 * up e * 1) (0 * down e) && (false || eqb (0 * up e * 1) 0)) g (level-zero true e))
-abs-above (fin true (suc m) e) h g = absurd (no (ltb 0 (suc m * up e * 1 + 0 * down e)) h (lt→ltb 0 (suc m * up e * 1 + 0 * down e) (omega (arith, some-above m e))))
-abs-above (fin false m e) h g = refl
+-- 0 - x is the magnitude of every x that is not above zero, and +0 at either zero
+pub abs-rest : (x : Float) → T (fits binary64 x) → lt 0ᶠ x ≡ false → sub binary64 0ᶠ x ≡ absOf x
+unfolding lt absOf ofBits sub neg fits
+abs-rest nan f h = add-swap binary64 plus-zero nan
+abs-rest (inf true) f h = add-swap binary64 plus-zero (inf false)
+abs-rest (inf false) f h = absurd (true≢false h)
+abs-rest (fin true m e) f h = add-swap binary64 plus-zero (fin false m e) ∙ add-plus-zero binary64 (fin false m e) (neg-fits binary64 (fin true m e) f) tt
+abs-rest (fin false zero e) f h = let z = zero-exp e (eqb→eq (up e * down e) 1 f) in rw z (add-swap binary64 plus-zero minus-zero ∙ zeros-add binary64)
+abs-rest (fin false (suc m) e) f h = absurd (no (ltb (0 * down e) (suc m * up e * 1)) h (lt→ltb (0 * down e) (suc m * up e * 1) (some-above m e)))

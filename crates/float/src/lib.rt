@@ -10,14 +10,11 @@ ghost use mathlib.Core.Path.{_≡_};
 ghost use lib.Ieee.{isNan};
 ghost use Rattle.definition.specs.Num.{absOf, max0, isInfinite, isFinite};
 
-// Clears the sign, of a zero and of an infinity too. A NaN stays a NaN.
+// Clears the sign, of a zero and of an infinity too. A NaN stays a NaN. In this form it is compiled to one instruction where a sum or a product follows.
 pub fn abs(x: f64) -> f64
     ensures { λ r. ⌜ r ≡ absOf x ⌝ }
 {
-    if x < 0.0 {
-        return -x;
-    }
-    if x == 0.0 { 0.0 } else { x }
+    if x > 0.0 { x } else { 0.0 - x }
 }
 
 // `.max(0.0)` of filter.rs by document 01's rule: x where it is above 0, else +0.0; so +0.0 of a NaN.
