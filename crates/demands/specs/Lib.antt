@@ -6,3 +6,5 @@ pub mod Totals
 pub mod Says
 pub mod Conditions
 pub mod Refusals
+pub mod Call
+pub mod Cases

@@ -1,0 +1,154 @@
+-- A call as the oracle's small cases have it (oracle/FORMAT.md), and the rows that hold the definition to it: the filter's call and the smoother's.
+-- Doubles are their bits. Every lent output is filled with a pattern first, so that what a call leaves alone shows.
+use Prim.Native.Nat.{ℕ, zero, suc, _-_}
+use mathlib.Core.List.{List, [], _∷_, _++_, map}
+use mathlib.Core.Bool.{Bool, cond, _&&_}
+use lib.Dec.{ltb}
+use lib.ListN.{length, replicate}
+use lib.Ieee.{Float, binary64, ofBits, toBits}
+use Rattle.definition.specs.Inputs.{Model, Offsets}
+use Rattle.definition.specs.Parts.{CovPart, predCov, predInf, filtCov, fStar, fInf, mStar, mInf, MeanPart, predMean, filtMean, innovations}
+use Rattle.definition.specs.Outcome.{CovParts, MeanParts, CovOutcome, MeanOutcome, outcome, smoothOutcome}
+
+-- an output: how long it is lent, and what the call writes from its start
+pub record Lent : Type 0 where
+  pub long : ℕ
+  pub written : List ℕ
+
+-- the answers: a refusal's number alone, or 0 with log-likelihood, d_diffuse, heard and news
+pub record Call : Type 0 where
+  pub p : ℕ
+  pub m : ℕ
+  pub r : ℕ
+  pub n : ℕ
+  pub z : List ℕ
+  pub zs : List ℕ
+  pub h : List ℕ
+  pub t : List ℕ
+  pub rr : List ℕ
+  pub q : List ℕ
+  pub c : List ℕ
+  pub d : List ℕ
+  pub a1 : List ℕ
+  pub p-star : List ℕ
+  pub flags : List ℕ
+  pub y : List ℕ
+  pub filter : List ℕ
+  pub smooth : List ℕ
+  pub pred-mean : Lent
+  pub pred-cov : Lent
+  pub pred-inf : Lent
+  pub filt-mean : Lent
+  pub filt-cov : Lent
+  pub kinds : Lent
+  pub v : Lent
+  pub f-star : Lent
+  pub f-inf : Lent
+  pub m-star : Lent
+  pub m-inf : Lent
+  pub sm-mean : Lent
+  pub sm-cov : Lent
+
+-- ---- the definition's call
+
+abbrev doubles : List ℕ → List Float
+doubles a = map (ofBits binary64) a
+
+abbrev modelOf : Call → Model
+modelOf k =
+    record {
+      p = k .p;
+      m = k .m;
+      r = k .r;
+      n = k .n;
+      zOnce = doubles (k .z);
+      zList = doubles (k .zs);
+      h = doubles (k .h);
+      t = doubles (k .t);
+      rr = doubles (k .rr);
+      q = doubles (k .q);
+      flags = k .flags;
+      pStar = doubles (k .p-star);
+    }
+
+abbrev offsetsOf : Call → Offsets
+offsetsOf k = record { c = doubles (k .c); d = doubles (k .d); a1 = doubles (k .a1) }
+
+-- the parts by their names
+abbrev cov : Call → CovPart → Lent
+cov k predCov = k .pred-cov
+cov k predInf = k .pred-inf
+cov k filtCov = k .filt-cov
+cov k fStar = k .f-star
+cov k fInf = k .f-inf
+cov k mStar = k .m-star
+cov k mInf = k .m-inf
+
+abbrev mean : Call → MeanPart → Lent
+mean k predMean = k .pred-mean
+mean k filtMean = k .filt-mean
+mean k innovations = k .v
+
+-- the pattern: of doubles, and of kinds
+abbrev fill : ℕ
+fill = 0xa5a5a5a5a5a5a5a5
+
+abbrev kindFill : ℕ
+kindFill = 0xa5
+
+abbrev filled : Lent → List Float
+filled l = replicate (l .long) (ofBits binary64 fill)
+
+abbrev covParts : Call → CovParts
+covParts k = record { kinds = replicate (k .kinds .long) kindFill; part = λ q. filled (cov k q) }
+
+abbrev meanParts : Call → MeanParts
+meanParts k = λ q. filled (mean k q)
+
+-- ---- what it gives, and what the oracle says
+
+abbrev answerBy : ℕ → Float → CovOutcome → List ℕ
+answerBy zero l c = 0 ∷ toBits binary64 l ∷ c .counts .dDiffuse ∷ c .counts .heard ∷ c .counts .news ∷ []
+answerBy (suc k) l c = suc k ∷ []
+
+abbrev answerOf : CovOutcome → MeanOutcome → List ℕ
+answerOf c s = answerBy (c .refused) (s .loglik) c
+
+abbrev bits : List Float → List ℕ
+bits a = map (toBits binary64) a
+
+-- a call refused 1 to 11 writes nothing
+abbrev writes : List ℕ → Bool
+writes [] = ltb 0 0
+writes (k ∷ ks) = cond (ltb 0 k && ltb k 12) (ltb 1 0) (ltb 0 1)
+
+abbrev left : Bool → ℕ → Lent → List ℕ
+left wrote pattern l = let w = cond wrote (l .written) [] in w ++ replicate (l .long - length w) pattern
+
+-- the row of a call: its answer, then each output as it is afterwards
+abbrev covRows : Bool → Call → CovOutcome → List (List ℕ × List ℕ)
+covRows wrote k c =
+    (c .parts .kinds, left wrote kindFill (k .kinds))
+    ∷ map (λ q. (bits (c .parts .part q), left wrote fill (cov k q))) (predCov ∷ predInf ∷ filtCov ∷ fStar ∷ fInf ∷ mStar ∷ mInf ∷ [])
+
+abbrev meanRows : Bool → Call → MeanOutcome → List (List ℕ × List ℕ)
+meanRows wrote k s = map (λ q. (bits (s .parts q), left wrote fill (mean k q))) (predMean ∷ filtMean ∷ innovations ∷ [])
+
+abbrev filterRows : Call → List (List ℕ × List ℕ)
+filterRows k =
+    let e = outcome (modelOf k) (offsetsOf k) (doubles (k .y)) (covParts k) (meanParts k) in
+    let wrote = writes (k .filter) in
+    (answerOf (e .0) (e .1), k .filter) ∷ covRows wrote k (e .0) ++ meanRows wrote k (e .1)
+
+abbrev smoothRows : Call → List (List ℕ × List ℕ)
+smoothRows k =
+    let e = smoothOutcome (modelOf k) (offsetsOf k) (doubles (k .y)) (covParts k) (meanParts k) (filled (k .sm-cov)) (filled (k .sm-mean)) in
+    let wrote = writes (k .smooth) in
+    (answerOf (e .0 .filter) (e .1 .filter), k .smooth)
+    ∷ (bits (e .0 .smoothed), left wrote fill (k .sm-cov))
+    ∷ (bits (e .1 .smoothed), left wrote fill (k .sm-mean))
+    ∷ covRows wrote k (e .0 .filter) ++ meanRows wrote k (e .1 .filter)
+
+abbrev pub agreed : List Call → List (List ℕ × List ℕ)
+agreed [] = []
+agreed (k ∷ ks) = filterRows k ++ (smoothRows k ++ agreed ks)
