@@ -1,0 +1,49 @@
+// The counts: readings that are not NaN, and records that are not skipped.
+ghost use mathlib.Core.Path.{_≡_};
+ghost use mathlib.Core.List.{map};
+ghost use mathlib.Core.Bool.{not, cond};
+ghost use Prim.Native.Nat.{_≤_, _+_};
+ghost use lib.ListN.{length, take};
+ghost use lib.Dec.{eqb};
+ghost use Rattle.definition.specs.Inputs.{kindOf, isGap};
+ghost use Rattle.definition.specs.Run.{count};
+ghost use Rattle.cov.specs.Counts.{isKept};
+
+// One more, unless x is NaN.
+fn and_heard(k: usize, x: f64) -> usize
+    requires { ⌜ k ≤ 65536 ⌝ }
+    ensures { λ r. ⌜ r ≡ k + cond (not (isGap (kindOf x))) 1 0 ⌝ }
+{
+    if x != x { k } else { k + 1 }
+}
+
+pub fn heard(y: &[f64]) -> usize
+    requires { ⌜ length (now y) ≤ 65536 ⌝ }
+    ensures { λ r. ⌜ r ≡ count not (map isGap (map kindOf (now (y .entry)))) ⌝ }
+{
+    let mut k = 0;
+    for i in 0..y.len() {
+        k = and_heard(k, y[i]);
+    }
+    k
+}
+
+// One more, unless the record is skipped.
+fn and_kept(k: usize, kind: u8) -> usize
+    requires { ⌜ k ≤ 65536 ⌝ }
+    ensures { λ r. ⌜ r ≡ k + cond (isKept kind) 1 0 ⌝ }
+{
+    if kind == 0 { k } else { k + 1 }
+}
+
+// Of the first n records.
+pub fn news(kinds: &[u8], n: usize) -> usize
+    requires { ⌜ (n ≤ 65536) × (n ≤ length (now kinds)) ⌝ }
+    ensures { λ r. ⌜ r ≡ count isKept (take n (now (kinds .entry))) ⌝ }
+{
+    let mut k = 0;
+    for i in 0..n {
+        k = and_kept(k, kinds[i]);
+    }
+    k
+}
