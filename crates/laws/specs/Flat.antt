@@ -1,4 +1,5 @@
 -- The flat form read back: the decisions, and what the way back looks at, off the lent lists that a pass wrote.
+use mathlib.Core.Path.{_≡_, refl}
 use Prim.Native.Nat.{ℕ, zero, suc, _+_, _*_}
 use mathlib.Core.List.{List}
 use lib.ListN.{getD}
@@ -19,6 +20,21 @@ unfoldable pub decisionOf : ℕ → Float → Float → List Float → List Floa
 decisionOf zero f g a b = skipped
 decisionOf (suc zero) f g a b = usual f a
 decisionOf (suc (suc k)) f g a b = diffuse f g a b
+
+-- by the kind as a test finds it
+pub kind-skipped : (k : ℕ) (f g : Float) (a b : List Float) → k ≡ 0 → decisionOf k f g a b ≡ skipped
+unfolding decisionOf
+kind-skipped k f g a b e = rw e refl
+
+pub kind-usual : (k : ℕ) (f g : Float) (a b : List Float) → k ≡ 1 → decisionOf k f g a b ≡ usual f a
+unfolding decisionOf
+kind-usual k f g a b e = rw e refl
+
+pub kind-diffuse : (k : ℕ) (f g : Float) (a b : List Float) → (k ≡ 0 → ⊥) → (k ≡ 1 → ⊥) → decisionOf k f g a b ≡ diffuse f g a b
+unfolding decisionOf
+kind-diffuse zero f g a b h l = absurd (h refl)
+kind-diffuse (suc zero) f g a b h l = absurd (l refl)
+kind-diffuse (suc (suc k)) f g a b h l = refl
 
 -- the record at place k of the flat lists; the p of period t; and those of n periods
 unfoldable pub readBack : ℕ → Flat → ℕ → Decision

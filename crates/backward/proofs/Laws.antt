@@ -1,0 +1,30 @@
+-- What the steps of an element back come to, over plain variables: each is handed what a call left.
+use mathlib.Core.Path.{_≡_, refl, sym, ap, ap₂, _∙_}
+use Prim.Native.Nat.{ℕ, zero, suc}
+use mathlib.Core.Bool.{Bool, true, false, cond}
+use mathlib.Core.List.{List}
+use lib.Ieee.{Float}
+use Rattle.definition.specs.Dense.{outerScaled, plus, quad, mul, tr}
+use Rattle.definition.specs.Cov.{usual, diffuse}
+use Rattle.definition.specs.Smooth.{Ns, fOne, fTwo, lUsual, lDiffuse, usualN0, diffuseN1, diffuseN2, backN}
+
+module _ (m : ℕ) (z : List Float) where
+  pub usual-n0 : (g : Float) (l n0 q s r : List Float) → q ≡ quad m l n0 l → s ≡ outerScaled m z z g → r ≡ plus m s q → r ≡ usualN0 m z g l n0
+  unfolding usualN0
+  usual-n0 _ _ _ _ _ _ a b c = cc
+
+  pub usual-n : (f g : Float) (live : Bool) (m* l a b c a′ b′ : List Float) → l ≡ lUsual m z f m* → g ≡ fOne f → a′ ≡ usualN0 m z g l a → b′ ≡ cond live (mul m b l) b → _≡_ {A = Ns} (record { n0 = a′; n1 = b′; n2 = c }) (backN m live z (record { n0 = a; n1 = b; n2 = c }) (usual f m*))
+  unfolding backN
+  usual-n _ _ _ _ _ _ _ _ _ _ el eg e0 e1 = cc
+
+  pub diffuse-n1 : (f1 : Float) (l0 l1 a b c s q s′ q′ r : List Float) → s ≡ outerScaled m z z f1 → q ≡ quad m l0 b l0 → s′ ≡ plus m s q → q′ ≡ quad m l1 a l0 → r ≡ plus m s′ q′ → r ≡ diffuseN1 m z f1 l0 l1 (record { n0 = a; n1 = b; n2 = c })
+  unfolding diffuseN1
+  diffuse-n1 _ _ _ _ _ _ _ _ _ _ _ e1 e2 e3 e4 e5 = cc
+
+  pub diffuse-n2 : (f2 : Float) (l0 l1 a b c s0 q1 s1 q2 s2 t q3 s3 q4 r : List Float) → s0 ≡ outerScaled m z z f2 → q1 ≡ quad m l0 c l0 → s1 ≡ plus m s0 q1 → q2 ≡ quad m l0 b l1 → s2 ≡ plus m s1 q2 → t ≡ tr m b → q3 ≡ quad m l1 t l0 → s3 ≡ plus m s2 q3 → q4 ≡ quad m l1 a l1 → r ≡ plus m s3 q4 → r ≡ diffuseN2 m z f2 l0 l1 (record { n0 = a; n1 = b; n2 = c })
+  unfolding diffuseN2
+  diffuse-n2 _ _ _ _ _ _ _ _ _ _ _ _ _ _ _ _ e1 e2 e3 e4 e5 e6 e7 e8 e9 e10 = cc
+
+  pub diffuse-n : (f f∞ f1 f2 : Float) (live : Bool) (m* m∞ l0 l1 a b c a′ b′ c′ : List Float) → l0 ≡ lUsual m z f∞ m∞ → l1 ≡ lDiffuse m z f f∞ m* m∞ → f1 ≡ fOne f∞ → f2 ≡ fTwo f f∞ → c′ ≡ diffuseN2 m z f2 l0 l1 (record { n0 = a; n1 = b; n2 = c }) → b′ ≡ diffuseN1 m z f1 l0 l1 (record { n0 = a; n1 = b; n2 = c }) → a′ ≡ quad m l0 a l0 → _≡_ {A = Ns} (record { n0 = a′; n1 = b′; n2 = c′ }) (backN m live z (record { n0 = a; n1 = b; n2 = c }) (diffuse f f∞ m* m∞))
+  unfolding backN
+  diffuse-n _ _ _ _ live _ _ _ _ _ _ _ _ _ _ e1 e2 e3 e4 e5 e6 e7 = cc
