@@ -1,0 +1,152 @@
+//! The parts of a call: what is lent, what is answered, the sizes and
+//! lengths, and refusals 1 to 10 of document 01.
+
+mod refusals;
+
+pub use refusals::{
+    bad_dimension, bad_length, bad_start_shape, first_refusal, infinite_reading, mixed_driven,
+    non_diagonal_h, non_finite_start, non_finite_system, not_psd, q_not_diagonal,
+};
+
+/// Largest p, m and r.
+pub const MAX_SIZE: usize = 8;
+/// Largest n, and largest count of listed designs.
+pub const MAX_PERIODS: usize = 4096;
+
+/// What a caller hands in. Matrices are row by row.
+#[derive(Debug, Clone, Copy)]
+pub struct Inputs<'a> {
+    pub p: usize,
+    pub m: usize,
+    pub r: usize,
+    pub n: usize,
+    /// The constant design, or empty.
+    pub z: &'a [f64],
+    /// The listed designs, or empty.
+    pub zs: &'a [f64],
+    pub h: &'a [f64],
+    pub t: &'a [f64],
+    pub rr: &'a [f64],
+    pub q: &'a [f64],
+    pub c: &'a [f64],
+    pub d: &'a [f64],
+    pub a1: &'a [f64],
+    pub p_star: &'a [f64],
+    pub flags: &'a [u8],
+    pub y: &'a [f64],
+}
+
+/// What the filter's caller lends for the outputs.
+#[derive(Debug)]
+pub struct Outputs<'a> {
+    pub pred_mean: &'a mut [f64],
+    pub pred_cov: &'a mut [f64],
+    pub pred_inf: &'a mut [f64],
+    pub filt_mean: &'a mut [f64],
+    pub filt_cov: &'a mut [f64],
+    /// 0 skipped, 1 usual, 2 diffuse.
+    pub kinds: &'a mut [u8],
+    pub v: &'a mut [f64],
+    pub f_star: &'a mut [f64],
+    pub f_inf: &'a mut [f64],
+    pub m_star: &'a mut [f64],
+    pub m_inf: &'a mut [f64],
+}
+
+/// What the smoother's caller lends besides.
+#[derive(Debug)]
+pub struct Smoothed<'a> {
+    pub sm_mean: &'a mut [f64],
+    pub sm_cov: &'a mut [f64],
+}
+
+/// The answer of a call that is not refused.
+#[derive(Debug, Clone, Copy)]
+pub struct Answer {
+    pub loglik: f64,
+    pub d_diffuse: usize,
+    /// Readings that are not NaN.
+    pub heard: usize,
+    /// Records that are not skipped.
+    pub news: usize,
+}
+
+/// An answer, or the number of a refusal, 1 to 12.
+pub type Outcome = Result<Answer, u32>;
+
+/// Count of a filter's output parts.
+pub const FILTER_PARTS: usize = 11;
+/// Count of a smoother's output parts.
+pub const SMOOTH_PARTS: usize = 13;
+
+/// The needed lengths of the thirteen output parts, in the order of
+/// [`Outputs`] and then [`Smoothed`]. Sizes must be in their ranges.
+pub fn needed(p: usize, m: usize, n: usize) -> [usize; SMOOTH_PARTS] {
+    let (vec, mat) = (n * m, n * m * m);
+    let (rec, gain) = (n * p, n * p * m);
+    [
+        vec + m,
+        mat + m * m,
+        mat + m * m,
+        vec,
+        mat,
+        rec,
+        rec,
+        rec,
+        rec,
+        gain,
+        gain,
+        vec,
+        mat,
+    ]
+}
+
+impl Outputs<'_> {
+    /// The lengths that were lent, in order.
+    pub fn lengths(&self) -> [usize; FILTER_PARTS] {
+        [
+            self.pred_mean.len(),
+            self.pred_cov.len(),
+            self.pred_inf.len(),
+            self.filt_mean.len(),
+            self.filt_cov.len(),
+            self.kinds.len(),
+            self.v.len(),
+            self.f_star.len(),
+            self.f_inf.len(),
+            self.m_star.len(),
+            self.m_inf.len(),
+        ]
+    }
+
+    /// Refusal 12: the needed stretch of every part becomes +0.0, every
+    /// record skipped.
+    pub fn blank(&mut self, p: usize, m: usize, n: usize) {
+        let need = needed(p, m, n);
+        self.pred_mean[..need[0]].fill(0.0);
+        self.pred_cov[..need[1]].fill(0.0);
+        self.pred_inf[..need[2]].fill(0.0);
+        self.filt_mean[..need[3]].fill(0.0);
+        self.filt_cov[..need[4]].fill(0.0);
+        self.kinds[..need[5]].fill(0);
+        self.v[..need[6]].fill(0.0);
+        self.f_star[..need[7]].fill(0.0);
+        self.f_inf[..need[8]].fill(0.0);
+        self.m_star[..need[9]].fill(0.0);
+        self.m_inf[..need[10]].fill(0.0);
+    }
+}
+
+impl Smoothed<'_> {
+    /// The lengths that were lent, in order.
+    pub fn lengths(&self) -> [usize; 2] {
+        [self.sm_mean.len(), self.sm_cov.len()]
+    }
+
+    /// Refusal 12 in the smoother's call.
+    pub fn blank(&mut self, p: usize, m: usize, n: usize) {
+        let need = needed(p, m, n);
+        self.sm_mean[..need[11]].fill(0.0);
+        self.sm_cov[..need[12]].fill(0.0);
+    }
+}

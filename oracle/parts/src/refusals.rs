@@ -1,0 +1,122 @@
+//! Refusals 1 to 10 of document 01, each as a test of its own, and the first
+//! that applies. Refusal 11 needs R·Q·R' and stands with the call; 12 is
+//! judged after the run.
+
+use crate::{needed, Inputs, MAX_PERIODS, MAX_SIZE};
+
+/// 1: p, m, r or n outside its range.
+pub fn bad_dimension(i: &Inputs<'_>) -> bool {
+    let size = 1..=MAX_SIZE;
+    !(size.contains(&i.p)
+        && size.contains(&i.m)
+        && size.contains(&i.r)
+        && (1..=MAX_PERIODS).contains(&i.n))
+}
+
+/// 2: a lent part has the wrong length, or the Z rule is broken. `lent` are
+/// the lengths of the output parts: eleven in the filter's call, thirteen in
+/// the smoother's.
+pub fn bad_length(i: &Inputs<'_>, lent: &[usize]) -> bool {
+    let (p, m, r, n) = (i.p, i.m, i.r, i.n);
+    let z_ok = if i.zs.is_empty() {
+        i.z.len() == p * m
+    } else {
+        i.z.is_empty() && i.zs.len() % (p * m) == 0 && i.zs.len() / (p * m) <= MAX_PERIODS
+    };
+    let inputs_ok = i.h.len() == p * p
+        && i.t.len() == m * m
+        && i.rr.len() == m * r
+        && i.q.len() == r * r
+        && i.c.len() == m
+        && i.d.len() == p
+        && i.a1.len() == m
+        && i.p_star.len() == m * m
+        && i.flags.len() == m
+        && i.y.len() == n * p;
+    let outputs_ok = lent.iter().zip(needed(p, m, n)).all(|(&l, k)| l >= k);
+    !(z_ok && inputs_ok && outputs_ok)
+}
+
+fn some_non_finite(x: &[f64]) -> bool {
+    x.iter().any(|v| !v.is_finite())
+}
+
+/// 3: Z (each listed one), H, T, R or Q has NaN or an infinity.
+pub fn non_finite_system(i: &Inputs<'_>) -> bool {
+    [i.z, i.zs, i.h, i.t, i.rr, i.q]
+        .iter()
+        .any(|x| some_non_finite(x))
+}
+
+/// 4: a diagonal entry of H or Q is below 0.
+pub fn not_psd(i: &Inputs<'_>) -> bool {
+    (0..i.p).any(|k| i.h[k * i.p + k] < 0.0) || (0..i.r).any(|k| i.q[k * i.r + k] < 0.0)
+}
+
+fn off_diagonal(a: &[f64], k: usize) -> bool {
+    (0..k).any(|i| (0..k).any(|j| i != j && a[i * k + j] != 0.0))
+}
+
+/// 5: an off-diagonal entry of Q is not 0.
+pub fn q_not_diagonal(i: &Inputs<'_>) -> bool {
+    off_diagonal(i.q, i.r)
+}
+
+/// 6: c, d, a1 or P* is not finite.
+pub fn non_finite_start(i: &Inputs<'_>) -> bool {
+    [i.c, i.d, i.a1, i.p_star]
+        .iter()
+        .any(|x| some_non_finite(x))
+}
+
+/// 7: a flag above 1; P* not mirrored as numbers or with a negative diagonal
+/// entry; a flagged state with non-zero a1 or a non-zero P* row or column.
+pub fn bad_start_shape(i: &Inputs<'_>) -> bool {
+    let m = i.m;
+    let p_star = |a: usize, b: usize| i.p_star[a * m + b];
+    let flag = i.flags.iter().any(|&f| f > 1);
+    let mirror = (0..m).any(|a| (0..m).any(|b| p_star(a, b) != p_star(b, a)));
+    let negative = (0..m).any(|a| p_star(a, a) < 0.0);
+    let held = (0..m).any(|a| {
+        i.flags[a] != 0
+            && (i.a1[a] != 0.0 || (0..m).any(|b| p_star(a, b) != 0.0 || p_star(b, a) != 0.0))
+    });
+    flag || mirror || negative || held
+}
+
+/// 8: an off-diagonal entry of H is not 0.
+pub fn non_diagonal_h(i: &Inputs<'_>) -> bool {
+    off_diagonal(i.h, i.p)
+}
+
+/// 9: some y is infinite.
+pub fn infinite_reading(i: &Inputs<'_>) -> bool {
+    i.y.iter().any(|v| v.is_infinite())
+}
+
+/// 10: T at (unflagged, flagged) is not 0.
+pub fn mixed_driven(i: &Inputs<'_>) -> bool {
+    let m = i.m;
+    (0..m).any(|a| (0..m).any(|b| i.flags[a] == 0 && i.flags[b] != 0 && i.t[a * m + b] != 0.0))
+}
+
+/// The first of refusals 1 to 10 that applies.
+pub fn first_refusal(i: &Inputs<'_>, lent: &[usize]) -> Option<u32> {
+    if bad_dimension(i) {
+        return Some(1);
+    }
+    if bad_length(i, lent) {
+        return Some(2);
+    }
+    let rest: [fn(&Inputs<'_>) -> bool; 8] = [
+        non_finite_system,
+        not_psd,
+        q_not_diagonal,
+        non_finite_start,
+        bad_start_shape,
+        non_diagonal_h,
+        infinite_reading,
+        mixed_driven,
+    ];
+    (3..).zip(rest).find(|(_, holds)| holds(i)).map(|(k, _)| k)
+}

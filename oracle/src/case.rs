@@ -1,0 +1,314 @@
+//! A case: what a caller hands in and lends. Running one gives what both
+//! calls must answer and write.
+
+use parts::{needed, Answer, Inputs, Outcome, Outputs, Smoothed, FILTER_PARTS, SMOOTH_PARTS};
+use tsecon_ssm_probed::probe;
+
+use crate::marks;
+
+/// Every number of a lent output part, before a call.
+pub const PATTERN: u64 = 0xA5A5_A5A5_A5A5_A5A5;
+/// Every kind of a lent output part, before a call.
+pub const PATTERN_BYTE: u8 = 0xA5;
+/// Every NaN of an expectation.
+pub const NAN: u64 = 0x7FF8_0000_0000_0000;
+
+/// Names of the twelve inputs, in order.
+pub const INPUT_NAMES: [&str; 12] = [
+    "z", "zs", "h", "t", "rr", "q", "c", "d", "a1", "p_star", "flags", "y",
+];
+/// Names of the thirteen outputs, in order.
+pub const OUTPUT_NAMES: [&str; SMOOTH_PARTS] = [
+    "pred_mean",
+    "pred_cov",
+    "pred_inf",
+    "filt_mean",
+    "filt_cov",
+    "kinds",
+    "v",
+    "f_star",
+    "f_inf",
+    "m_star",
+    "m_inf",
+    "sm_mean",
+    "sm_cov",
+];
+
+/// What a caller hands in, and how much is lent for the outputs.
+#[derive(Debug, Clone, Default)]
+pub struct Case {
+    pub p: usize,
+    pub m: usize,
+    pub r: usize,
+    pub n: usize,
+    pub z: Vec<f64>,
+    pub zs: Vec<f64>,
+    pub h: Vec<f64>,
+    pub t: Vec<f64>,
+    pub rr: Vec<f64>,
+    pub q: Vec<f64>,
+    pub c: Vec<f64>,
+    pub d: Vec<f64>,
+    pub a1: Vec<f64>,
+    pub p_star: Vec<f64>,
+    pub flags: Vec<u8>,
+    pub y: Vec<f64>,
+    pub lent: [usize; SMOOTH_PARTS],
+    /// Refusals that were made to hold together.
+    pub pair: Option<(usize, usize)>,
+}
+
+/// The lent output parts.
+#[derive(Debug, Clone)]
+pub struct Buffers {
+    pub floats: [Vec<f64>; SMOOTH_PARTS - 1],
+    pub kinds: Vec<u8>,
+}
+
+impl Buffers {
+    /// Parts of the given lengths, filled with the pattern.
+    pub fn patterned(lent: &[usize; SMOOTH_PARTS]) -> Self {
+        let floats = std::array::from_fn(|k| {
+            let len = lent[if k < 5 { k } else { k + 1 }];
+            vec![f64::from_bits(PATTERN); len]
+        });
+        Buffers {
+            floats,
+            kinds: vec![PATTERN_BYTE; lent[5]],
+        }
+    }
+
+    pub fn lend(&mut self) -> (Outputs<'_>, Smoothed<'_>) {
+        let [pred_mean, pred_cov, pred_inf, filt_mean, filt_cov, v, f_star, f_inf, m_star, m_inf, sm_mean, sm_cov] =
+            &mut self.floats;
+        let o = Outputs {
+            pred_mean,
+            pred_cov,
+            pred_inf,
+            filt_mean,
+            filt_cov,
+            kinds: &mut self.kinds,
+            v,
+            f_star,
+            f_inf,
+            m_star,
+            m_inf,
+        };
+        (o, Smoothed { sm_mean, sm_cov })
+    }
+
+    /// Part k (0 to 12) as words; NaNs as they are.
+    pub fn words(&self, k: usize) -> Vec<u64> {
+        match k {
+            5 => self.kinds.iter().map(|&b| u64::from(b)).collect(),
+            _ => {
+                let part = &self.floats[if k < 5 { k } else { k - 1 }];
+                part.iter().map(|x| x.to_bits()).collect()
+            }
+        }
+    }
+}
+
+/// A float's bits, with all NaNs as one.
+pub fn one_nan(bits: u64) -> u64 {
+    if f64::from_bits(bits).is_nan() {
+        NAN
+    } else {
+        bits
+    }
+}
+
+/// What both calls must answer, and what they must leave in the lent parts.
+#[derive(Debug, Clone)]
+pub struct Expected {
+    pub filter: Outcome,
+    pub smooth: Outcome,
+    /// What is written of each part, from its start, NaNs as one; empty
+    /// where nothing is written. The rest keeps the pattern.
+    pub written: [Vec<u64>; SMOOTH_PARTS],
+    /// How often each mark was met.
+    pub hits: [u64; marks::COUNT],
+}
+
+impl Case {
+    pub fn inputs(&self) -> Inputs<'_> {
+        Inputs {
+            p: self.p,
+            m: self.m,
+            r: self.r,
+            n: self.n,
+            z: &self.z,
+            zs: &self.zs,
+            h: &self.h,
+            t: &self.t,
+            rr: &self.rr,
+            q: &self.q,
+            c: &self.c,
+            d: &self.d,
+            a1: &self.a1,
+            p_star: &self.p_star,
+            flags: &self.flags,
+            y: &self.y,
+        }
+    }
+
+    /// The inputs as words, in order.
+    pub fn input_words(&self) -> [Vec<u64>; 12] {
+        let f = |x: &[f64]| x.iter().map(|v| v.to_bits()).collect();
+        [
+            f(&self.z),
+            f(&self.zs),
+            f(&self.h),
+            f(&self.t),
+            f(&self.rr),
+            f(&self.q),
+            f(&self.c),
+            f(&self.d),
+            f(&self.a1),
+            f(&self.p_star),
+            self.flags.iter().map(|&b| u64::from(b)).collect(),
+            f(&self.y),
+        ]
+    }
+
+    /// Lends exactly what is needed. Sizes must be in their ranges.
+    pub fn lend_needed(&mut self) {
+        self.lent = needed(self.p, self.m, self.n);
+    }
+}
+
+/// Same bits, with all NaNs as one.
+pub fn same_answer(a: &Outcome, b: &Outcome) -> bool {
+    match (a, b) {
+        (Ok(a), Ok(b)) => {
+            one_nan(a.loglik.to_bits()) == one_nan(b.loglik.to_bits())
+                && (a.d_diffuse, a.heard, a.news) == (b.d_diffuse, b.heard, b.news)
+        }
+        (Err(a), Err(b)) => a == b,
+        _ => false,
+    }
+}
+
+/// Whether a call with this outcome writes.
+pub fn writes(o: &Outcome) -> bool {
+    matches!(o, Ok(_) | Err(12))
+}
+
+/// Only the branches that the filter's call takes.
+pub fn probe_hits(case: &Case) -> [u64; probe::BRANCHES] {
+    let mut b = Buffers::patterned(&case.lent);
+    let (mut o, _) = b.lend();
+    probe::take();
+    let _ = tsecon_ssm_probed::filter_call(&case.inputs(), &mut o);
+    probe::take()
+}
+
+/// Runs both calls, with and without probes, and checks that they agree
+/// with each other and keep the tails.
+pub fn run(case: &Case) -> Expected {
+    let i = case.inputs();
+
+    let mut counted = Buffers::patterned(&case.lent);
+    probe::take();
+    let counted_outcome = tsecon_ssm_probed::filter_call(&i, &mut counted.lend().0);
+    let branch = probe::take();
+
+    let mut fb = Buffers::patterned(&case.lent);
+    let filter = tsecon_ssm::filter_call(&i, &mut fb.lend().0);
+    assert!(same_answer(&filter, &counted_outcome));
+
+    let mut sb = Buffers::patterned(&case.lent);
+    let smooth = {
+        let (mut o, mut s) = sb.lend();
+        tsecon_ssm::smooth_call(&i, &mut o, &mut s)
+    };
+
+    let mut written: [Vec<u64>; SMOOTH_PARTS] = Default::default();
+    for (k, part) in written.iter_mut().enumerate() {
+        let (f, s) = (fb.words(k), sb.words(k));
+        let pattern = if k == 5 {
+            u64::from(PATTERN_BYTE)
+        } else {
+            PATTERN
+        };
+        let need = |wrote: bool| {
+            if wrote {
+                needed(case.p, case.m, case.n)[k]
+            } else {
+                0
+            }
+        };
+        let f_need = need(writes(&filter) && k < FILTER_PARTS);
+        let s_need = need(writes(&smooth));
+        assert!(f[f_need..].iter().all(|&w| w == pattern), "tail of {k}");
+        assert!(s[s_need..].iter().all(|&w| w == pattern), "tail of {k}");
+        assert_eq!(f, counted.words(k), "probes must not show");
+        if f_need > 0 && s_need > 0 {
+            assert_eq!(f, s, "both calls write the same filter parts");
+        }
+        let from = if k < FILTER_PARTS { &f } else { &s };
+        let len = if k < FILTER_PARTS { f_need } else { s_need };
+        *part = from[..len].iter().map(|&w| one_nan(w)).collect();
+    }
+
+    let mut e = Expected {
+        filter,
+        smooth,
+        written,
+        hits: [0; marks::COUNT],
+    };
+    e.hits[..branch.len()].copy_from_slice(&branch);
+    mark(case, &mut e);
+    e
+}
+
+/// The marks that show in the inputs, the outputs and the answer.
+fn mark(case: &Case, e: &mut Expected) {
+    let mut set = |k: usize, b: bool| e.hits[k] = u64::from(b);
+    for k in 1..=12 {
+        set(
+            marks::REFUSAL + k as usize,
+            matches!(e.filter, Err(x) if x == k),
+        );
+    }
+    set(marks::SMOOTH_ONLY, e.filter.is_ok() && e.smooth.is_err());
+    let Ok(Answer {
+        d_diffuse, heard, ..
+    }) = e.filter
+    else {
+        return;
+    };
+    set(marks::D_DIFFUSE, d_diffuse > 1);
+    set(marks::ALL_GAPS, heard == 0);
+    let floats = || {
+        let parts = e.written.iter().enumerate().filter(|(k, _)| *k != 5);
+        parts.flat_map(|(_, w)| w.iter().map(|&b| f64::from_bits(b)))
+    };
+    set(marks::INFINITY, floats().any(|x| x.is_infinite()));
+    set(marks::NAN, floats().any(|x| x.is_nan()));
+    set(
+        marks::MINUS_ZERO,
+        floats().any(|x| x == 0.0 && x.is_sign_negative()),
+    );
+    set(marks::SUBNORMAL, floats().any(|x| x.is_subnormal()));
+    let last = &e.written[2][case.n * case.m * case.m..];
+    let last: Vec<f64> = last.iter().map(|&b| f64::from_bits(b)).collect();
+    let some = last.iter().any(|&x| x != 0.0);
+    let size: f64 = last.iter().map(|x| x * x).sum();
+    set(marks::PLACE_N, some);
+    set(marks::PLACE_N_BELOW, some && size <= 1e-10);
+    let listed = case.zs.len() / (case.p * case.m);
+    set(marks::LIST_SHORT, listed > 0 && listed < case.n);
+    set(marks::LIST_LONG, listed > case.n);
+    let need = needed(case.p, case.m, case.n);
+    set(
+        marks::TAIL,
+        (0..SMOOTH_PARTS).any(|k| case.lent[k] > need[k]),
+    );
+    let flagged = case.flags.iter().filter(|&&f| f != 0).count();
+    set(marks::KNOWN, flagged == 0);
+    set(marks::ALL_DIFFUSE, flagged == case.m);
+    set(marks::MIXED, flagged > 0 && flagged < case.m);
+    let odd = |x: &f64| x.is_nan() && x.to_bits() != NAN;
+    set(marks::ODD_NAN, case.y.iter().any(odd));
+}

@@ -1,0 +1,141 @@
+//! What is counted over cases: the branches inside a run, and what shows in
+//! its outputs and answer.
+
+use tsecon_ssm_probed::probe::{Branch, BRANCHES};
+
+/// Names of the marks, in the order of their bits.
+pub const NAMES: [&str; COUNT] = [
+    "gap",
+    "diffuse",
+    "diffuse refused by the root",
+    "usual",
+    "skipped by its scale",
+    "clear before any update",
+    "clear by bound",
+    "clear by reference",
+    "below",
+    "suspect accepted in a diffuse period",
+    "suspect accepted by replay",
+    "suspect refused by replay",
+    "root built",
+    "root used again",
+    "rank short",
+    "rank zero",
+    "pivot tie",
+    "downdate that returns early",
+    "exactly at a tolerance",
+    "bound NaN by a zero",
+    "d_diffuse over 1",
+    "infinity inside a run",
+    "NaN inside a run",
+    "place n's diffuse covariance non-zero",
+    "the same, below the tolerance",
+    "signed zero in an output",
+    "subnormal in an output",
+    "listed Z, shorter than n",
+    "listed Z, longer than n",
+    "longer outputs than needed",
+    "known start",
+    "diffuse start",
+    "mixed start",
+    "NaN with odd bits as a gap",
+    "all readings gaps, answered",
+    "smoother alone refused, by its own parts",
+    "refusal 1",
+    "refusal 2",
+    "refusal 3",
+    "refusal 4",
+    "refusal 5",
+    "refusal 6",
+    "refusal 7",
+    "refusal 8",
+    "refusal 9",
+    "refusal 10",
+    "refusal 11",
+    "refusal 12",
+];
+
+/// Count of marks.
+pub const COUNT: usize = BRANCHES + 28;
+
+pub const D_DIFFUSE: usize = BRANCHES;
+pub const INFINITY: usize = BRANCHES + 1;
+pub const NAN: usize = BRANCHES + 2;
+pub const PLACE_N: usize = BRANCHES + 3;
+pub const PLACE_N_BELOW: usize = BRANCHES + 4;
+pub const MINUS_ZERO: usize = BRANCHES + 5;
+pub const SUBNORMAL: usize = BRANCHES + 6;
+pub const LIST_SHORT: usize = BRANCHES + 7;
+pub const LIST_LONG: usize = BRANCHES + 8;
+pub const TAIL: usize = BRANCHES + 9;
+pub const KNOWN: usize = BRANCHES + 10;
+pub const ALL_DIFFUSE: usize = BRANCHES + 11;
+pub const MIXED: usize = BRANCHES + 12;
+pub const ODD_NAN: usize = BRANCHES + 13;
+pub const ALL_GAPS: usize = BRANCHES + 14;
+pub const SMOOTH_ONLY: usize = BRANCHES + 15;
+/// Refusal k is mark `REFUSAL + k`.
+pub const REFUSAL: usize = BRANCHES + 15;
+
+/// The bit of a branch.
+pub fn bit(b: Branch) -> u64 {
+    1 << (b as usize)
+}
+
+/// Counts over many cases: how often a branch was taken, and in how many
+/// cases.
+#[derive(Debug, Clone)]
+pub struct Tally {
+    pub cases: u64,
+    pub hits: [u64; COUNT],
+    pub in_cases: [u64; COUNT],
+    /// Pairs of refusals that were made to hold together.
+    pub pairs: [[u64; 13]; 13],
+}
+
+impl Default for Tally {
+    fn default() -> Self {
+        Tally {
+            cases: 0,
+            hits: [0; COUNT],
+            in_cases: [0; COUNT],
+            pairs: [[0; 13]; 13],
+        }
+    }
+}
+
+impl Tally {
+    pub fn add(&mut self, hits: &[u64; COUNT], pair: Option<(usize, usize)>) {
+        self.cases += 1;
+        for k in 0..COUNT {
+            self.hits[k] += hits[k];
+            self.in_cases[k] += u64::from(hits[k] > 0);
+        }
+        if let Some((a, b)) = pair {
+            self.pairs[a][b] += 1;
+        }
+    }
+
+    /// The least count of cases over all marks.
+    pub fn rarest(&self) -> u64 {
+        *self.in_cases.iter().min().unwrap()
+    }
+
+    pub fn print(&self) {
+        println!("{} cases", self.cases);
+        println!("{:<42}{:>10}{:>10}", "branch", "taken", "in cases");
+        for (k, name) in NAMES.iter().enumerate() {
+            println!("{:<42}{:>10}{:>10}", name, self.hits[k], self.in_cases[k]);
+        }
+        let mut least = u64::MAX;
+        let mut kinds = 0;
+        for a in 1..=12 {
+            for b in a + 1..=12 {
+                least = least.min(self.pairs[a][b]);
+                kinds += usize::from(self.pairs[a][b] > 0);
+            }
+        }
+        println!("pairs of refusals: {kinds} of 66, each at least {least} times");
+        println!("rarest mark: in {} cases", self.rarest());
+    }
+}

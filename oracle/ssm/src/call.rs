@@ -1,0 +1,157 @@
+//! The whole call of document 01: refusals in order, the run, the outputs
+//! row by row into their lent parts, the answer.
+
+use parts::{first_refusal, Answer, Inputs, Outcome, Outputs, Smoothed};
+use tsecon_linalg::faer::Mat;
+
+use crate::error::SsmError;
+use crate::filter::{filter_univariate, FilterOutput};
+use crate::model::{Initialization, LinearGaussianSSM};
+use crate::smoother::{smooth_univariate, SmootherOutput};
+
+/// A matrix from its rows.
+fn from_rows(rows: usize, cols: usize, x: &[f64]) -> Mat<f64> {
+    Mat::from_fn(rows, cols, |i, j| x[i * cols + j])
+}
+
+/// A matrix row by row into its part.
+fn put_rows(part: &mut [f64], a: &Mat<f64>) {
+    let cols = a.ncols();
+    for i in 0..a.nrows() {
+        for j in 0..cols {
+            part[i * cols + j] = a[(i, j)];
+        }
+    }
+}
+
+/// The model of inputs that refusals 1 to 10 let through.
+pub fn model_of(i: &Inputs<'_>) -> Result<LinearGaussianSSM, SsmError> {
+    let (p, m, r) = (i.p, i.m, i.r);
+    let b = LinearGaussianSSM::builder(p, m, r);
+    let b = if i.zs.is_empty() {
+        b.z(from_rows(p, m, i.z))
+    } else {
+        b.z_varying(i.zs.chunks(p * m).map(|z| from_rows(p, m, z)).collect())
+    };
+    b.h(from_rows(p, p, i.h))
+        .t(from_rows(m, m, i.t))
+        .r(from_rows(m, r, i.rr))
+        .q(from_rows(r, r, i.q))
+        .state_intercept(i.c.to_vec())
+        .obs_intercept(i.d.to_vec())
+        .initialization(Initialization::Mixed {
+            diffuse: i.flags.iter().map(|&f| f != 0).collect(),
+            a1: i.a1.to_vec(),
+            p_star: from_rows(m, m, i.p_star),
+        })
+        .build()
+}
+
+/// The readings of inputs that refusals 1 and 2 let through.
+pub fn readings_of(i: &Inputs<'_>) -> Mat<f64> {
+    from_rows(i.n, i.p, i.y)
+}
+
+/// Refusals 1 to 11 in order, then the model.
+fn checked(i: &Inputs<'_>, lent: &[usize]) -> Result<LinearGaussianSSM, u32> {
+    if let Some(k) = first_refusal(i, lent) {
+        return Err(k);
+    }
+    let model = model_of(i).expect("refusals 1 to 10 leave nothing for `build` to refuse");
+    model.rqr(0).map_err(|_| 11u32)?;
+    Ok(model)
+}
+
+/// Writes each period's block into its place.
+fn put_filter(i: &Inputs<'_>, fo: &FilterOutput, o: &mut Outputs<'_>) {
+    let (p, m, n) = (i.p, i.m, i.n);
+    for t in 0..=n {
+        o.pred_mean[t * m..(t + 1) * m].copy_from_slice(&fo.predicted_state[t]);
+        let mat = t * m * m..(t + 1) * m * m;
+        put_rows(&mut o.pred_cov[mat.clone()], &fo.predicted_state_cov[t]);
+        put_rows(&mut o.pred_inf[mat], &fo.predicted_diffuse_state_cov[t]);
+    }
+    for t in 0..n {
+        o.filt_mean[t * m..(t + 1) * m].copy_from_slice(&fo.filtered_state[t]);
+        let mat = t * m * m..(t + 1) * m * m;
+        put_rows(&mut o.filt_cov[mat], &fo.filtered_state_cov[t]);
+    }
+    for k in 0..n * p {
+        let step = &fo.steps[k];
+        o.kinds[k] = match (step.observed, step.diffuse) {
+            (false, _) => 0,
+            (true, false) => 1,
+            (true, true) => 2,
+        };
+        o.v[k] = step.v;
+        o.f_star[k] = step.f_star;
+        o.f_inf[k] = step.f_inf;
+        let gain = k * m..(k + 1) * m;
+        put_gain(&mut o.m_star[gain.clone()], &step.m_star);
+        put_gain(&mut o.m_inf[gain], &step.m_inf);
+    }
+}
+
+/// A gain vector into its place; one that the record does not use is +0.0.
+fn put_gain(part: &mut [f64], gain: &[f64]) {
+    if gain.is_empty() {
+        part.fill(0.0);
+    } else {
+        part.copy_from_slice(gain);
+    }
+}
+
+fn put_smoothed(i: &Inputs<'_>, so: &SmootherOutput, s: &mut Smoothed<'_>) {
+    let m = i.m;
+    for t in 0..i.n {
+        s.sm_mean[t * m..(t + 1) * m].copy_from_slice(&so.smoothed_state[t]);
+        let mat = t * m * m..(t + 1) * m * m;
+        put_rows(&mut s.sm_cov[mat], &so.smoothed_state_cov[t]);
+    }
+}
+
+fn answer(i: &Inputs<'_>, fo: &FilterOutput) -> Answer {
+    Answer {
+        loglik: fo.loglik,
+        d_diffuse: fo.d_diffuse,
+        heard: i.y.iter().filter(|v| !v.is_nan()).count(),
+        news: fo.steps.iter().filter(|s| s.observed).count(),
+    }
+}
+
+/// The filter's call.
+pub fn filter_call(i: &Inputs<'_>, o: &mut Outputs<'_>) -> Outcome {
+    let model = checked(i, &o.lengths())?;
+    match filter_univariate(&model, readings_of(i).as_ref()) {
+        Ok(fo) => {
+            put_filter(i, &fo, o);
+            Ok(answer(i, &fo))
+        }
+        Err(SsmError::NoInformation) => {
+            o.blank(i.p, i.m, i.n);
+            Err(12)
+        }
+        Err(e) => panic!("refusals 1 to 11 leave only 12 to a run: {e:?}"),
+    }
+}
+
+/// The smoother's call.
+pub fn smooth_call(i: &Inputs<'_>, o: &mut Outputs<'_>, s: &mut Smoothed<'_>) -> Outcome {
+    let mut lent = [0; parts::SMOOTH_PARTS];
+    lent[..parts::FILTER_PARTS].copy_from_slice(&o.lengths());
+    lent[parts::FILTER_PARTS..].copy_from_slice(&s.lengths());
+    let model = checked(i, &lent)?;
+    match smooth_univariate(&model, readings_of(i).as_ref()) {
+        Ok(so) => {
+            put_filter(i, &so.filter, o);
+            put_smoothed(i, &so, s);
+            Ok(answer(i, &so.filter))
+        }
+        Err(SsmError::NoInformation) => {
+            o.blank(i.p, i.m, i.n);
+            s.blank(i.p, i.m, i.n);
+            Err(12)
+        }
+        Err(e) => panic!("refusals 1 to 11 leave only 12 to a run: {e:?}"),
+    }
+}
