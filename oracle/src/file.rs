@@ -1,1 +1,94 @@
-//! todo
+//! The case file: see FORMAT.md.
+
+use parts::SMOOTH_PARTS;
+
+use crate::case::{one_nan, Case, Expected};
+
+/// First word of a file: "GOXCASE1".
+pub const MAGIC: u64 = 0x474F_5843_4153_4531;
+/// Words of the file's header.
+pub const HEADER_WORDS: usize = 4;
+/// Words of a case before its inputs.
+pub const HEAD_WORDS: usize = 51;
+/// No case has more words.
+pub const MAX_CASE_WORDS: usize = 16_384;
+/// No lent part has more places.
+pub const MAX_PART: usize = 4_352;
+
+/// The file's header: magic, count of cases, the two bounds.
+pub fn header(count: u64) -> Vec<u8> {
+    let words = [MAGIC, count, MAX_CASE_WORDS as u64, MAX_PART as u64];
+    words.iter().flat_map(|w| w.to_be_bytes()).collect()
+}
+
+/// Turns cases into bytes, and keeps to the bounds.
+#[derive(Default)]
+pub struct Writer {
+    bytes: Vec<u8>,
+    pub largest_case: usize,
+    pub largest_part: usize,
+    pub total: usize,
+}
+
+impl Writer {
+    pub fn new() -> Self {
+        Writer {
+            total: HEADER_WORDS * 8,
+            ..Writer::default()
+        }
+    }
+
+    /// One case as bytes.
+    pub fn case(&mut self, case: &Case, e: &Expected) -> &[u8] {
+        let words = words(case, e);
+        let inputs = case.input_words();
+        let part = inputs.iter().map(Vec::len).chain(case.lent).max().unwrap();
+        assert!(
+            words.len() <= MAX_CASE_WORDS,
+            "case of {} words",
+            words.len()
+        );
+        assert!(part <= MAX_PART, "part of {part} places");
+        self.largest_case = self.largest_case.max(words.len());
+        self.largest_part = self.largest_part.max(part);
+        self.total += 8 * words.len();
+        self.bytes = words.iter().flat_map(|w| w.to_be_bytes()).collect();
+        &self.bytes
+    }
+}
+
+/// One case as words.
+pub fn words(case: &Case, e: &Expected) -> Vec<u64> {
+    let inputs = case.input_words();
+    let mut w = vec![0];
+    w.push(mask(e));
+    w.extend([case.p, case.m, case.r, case.n].map(|k| k as u64));
+    w.extend(inputs.iter().map(|x| x.len() as u64));
+    w.extend(case.lent.map(|k| k as u64));
+    w.push(u64::from(e.filter.err().unwrap_or(0)));
+    w.push(u64::from(e.smooth.err().unwrap_or(0)));
+    match e.filter {
+        Ok(a) => w.extend([
+            one_nan(a.loglik.to_bits()),
+            a.d_diffuse as u64,
+            a.heard as u64,
+            a.news as u64,
+        ]),
+        Err(_) => w.extend([0; 4]),
+    }
+    for k in 0..SMOOTH_PARTS {
+        w.push(e.written[k].len() as u64);
+    }
+    w.push(0);
+    assert_eq!(w.len(), HEAD_WORDS);
+    for x in inputs.iter().chain(&e.written) {
+        w.extend_from_slice(x);
+    }
+    w[0] = w.len() as u64;
+    w
+}
+
+/// The marks of a case, as bits.
+pub fn mask(e: &Expected) -> u64 {
+    (0..e.hits.len()).fold(0, |m, k| m | u64::from(e.hits[k] > 0) << k)
+}

@@ -1,1 +1,64 @@
-//! todo
+//! The fixed list of cases: taken from the cases of seed 1, each because it
+//! adds to a mark, a pair of refusals or a kind of scene that is still short.
+
+use std::io;
+
+use crate::case;
+use crate::file;
+use crate::gen::{check_scene, Cases, Scene};
+use crate::marks::{Tally, COUNT};
+
+/// At least so many cases of every mark.
+const OF_MARK: u64 = 20;
+/// At least so many cases of every pair of refusals.
+const OF_PAIR: u64 = 2;
+/// At least so many cases of every flavour of general cases.
+const OF_GENERAL: usize = 40;
+/// A case above this many words is taken only for its scene's own sake.
+const WORDS: usize = 1200;
+/// Cases looked at.
+const LOOKED_AT: usize = 20_000;
+
+/// The list as bytes, with its counts.
+pub fn list() -> (Vec<u8>, Tally) {
+    let mut tally = Tally::default();
+    let mut writer = file::Writer::new();
+    let mut bytes = Vec::new();
+    let mut general = [0; 5];
+    let mut long = 0;
+    for (scene, case) in Cases::new(1).take(LOOKED_AT) {
+        let e = case::run(&case);
+        check_scene(scene, &e);
+        let words = file::words(&case, &e).len();
+        let short_of = (0..COUNT).any(|k| e.hits[k] > 0 && tally.in_cases[k] < OF_MARK);
+        let wanted = match scene {
+            Scene::LongList => long < 2,
+            _ if words > WORDS => false,
+            Scene::General(f) => general[f as usize] < OF_GENERAL || short_of,
+            Scene::Pair(a, b) => tally.pairs[a][b] < OF_PAIR || short_of,
+            _ => short_of,
+        };
+        if !wanted {
+            continue;
+        }
+        match scene {
+            Scene::General(f) => general[f as usize] += 1,
+            Scene::LongList => long += 1,
+            _ => (),
+        }
+        tally.add(&e.hits, case.pair);
+        bytes.extend_from_slice(writer.case(&case, &e));
+    }
+    let mut whole = file::header(tally.cases);
+    whole.extend(bytes);
+    (whole, tally)
+}
+
+/// `oracle list FILE`.
+pub fn command(path: &str) -> io::Result<()> {
+    let (bytes, tally) = list();
+    std::fs::write(path, &bytes)?;
+    tally.print();
+    println!("file: {} bytes", bytes.len());
+    Ok(())
+}

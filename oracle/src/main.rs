@@ -1,1 +1,46 @@
-fn main() {}
+//! The command line of the oracle.
+
+use std::process::ExitCode;
+
+const USAGE: &str = "usage:
+  oracle gen SEED COUNT FILE   make cases, print how often each branch was taken
+  oracle list FILE             make the fixed list of cases
+  oracle small SEED COUNT      print small cases as text
+  oracle demand3 SEED COUNT    try demand 3
+  oracle time                  ns per period";
+
+fn number(s: &str) -> Result<u64, String> {
+    s.parse().map_err(|_| format!("not a number: {s}\n{USAGE}"))
+}
+
+fn act(args: &[&str]) -> Result<(), String> {
+    let told = |r: std::io::Result<()>| r.map_err(|e| e.to_string());
+    match args {
+        ["gen", seed, count, file] => {
+            told(oracle::gen::command(number(seed)?, number(count)?, file))
+        }
+        ["list", file] => told(oracle::list::command(file)),
+        ["small", seed, count] => {
+            oracle::small::command(number(seed)?, number(count)? as usize);
+            Ok(())
+        }
+        ["demand3", seed, count] => oracle::demand3::command(number(seed)?, number(count)?),
+        ["time"] => {
+            oracle::time::command();
+            Ok(())
+        }
+        _ => Err(USAGE.to_string()),
+    }
+}
+
+fn main() -> ExitCode {
+    let args: Vec<String> = std::env::args().skip(1).collect();
+    let args: Vec<&str> = args.iter().map(String::as_str).collect();
+    match act(&args) {
+        Ok(()) => ExitCode::SUCCESS,
+        Err(e) => {
+            eprintln!("{e}");
+            ExitCode::FAILURE
+        }
+    }
+}

@@ -1,1 +1,363 @@
-//! todo
+//! Cases that are refused: each refusal alone, and each two together.
+
+use parts::{Inputs, MAX_PERIODS};
+use tsecon_linalg::faer::Mat;
+
+use crate::case::Case;
+use crate::makers::Maker;
+use crate::rng::Rng;
+
+/// 11: R·Q·R', symmetrised, has a non-finite entry.
+pub fn non_finite_noise(i: &Inputs<'_>) -> bool {
+    let r = Mat::from_fn(i.m, i.r, |a, b| i.rr[a * i.r + b]);
+    let q = Mat::from_fn(i.r, i.r, |a, b| i.q[a * i.r + b]);
+    let prod = r.as_ref() * q.as_ref() * r.as_ref().transpose();
+    tsecon_linalg::symmetrize(prod.as_ref()).is_err()
+}
+
+/// Whether refusal k, 3 to 11, would be given if no other were. Sizes and
+/// lengths must be right.
+pub fn holds(k: usize, i: &Inputs<'_>) -> bool {
+    match k {
+        3 => parts::non_finite_system(i),
+        4 => parts::not_psd(i),
+        5 => parts::q_not_diagonal(i),
+        6 => parts::non_finite_start(i),
+        7 => parts::bad_start_shape(i),
+        8 => parts::non_diagonal_h(i),
+        9 => parts::infinite_reading(i),
+        10 => parts::mixed_driven(i),
+        11 => non_finite_noise(i),
+        _ => unreachable!(),
+    }
+}
+
+/// NaN, often with odd bits, or an infinity.
+fn non_finite(rng: &mut Rng) -> f64 {
+    match rng.below(3) {
+        0 => f64::INFINITY,
+        1 => f64::NEG_INFINITY,
+        _ => rng.gap(),
+    }
+}
+
+fn some_non_zero(rng: &mut Rng) -> f64 {
+    let x = rng.pick(&[f64::from_bits(1), 1e-300, 0.5, 1.0, f64::MAX]);
+    if rng.chance(1, 2) {
+        -x
+    } else {
+        x
+    }
+}
+
+impl Maker<'_> {
+    /// A base that can carry any two refusals: p, r ≥ 2, one state flagged
+    /// and one not, and a run that would find no news if `silent`.
+    fn base(&mut self, silent: bool) -> Case {
+        let m = self.rng.within(2, 3);
+        let n = self.rng.within(1, 2);
+        let mut case = self.bare(2, m, n);
+        case.r = 2;
+        case.rr = (0..m * 2).map(|_| self.rng.plain()).collect();
+        case.q = vec![self.rng.unit(), 0.0, -0.0, self.rng.unit()];
+        case.flags[1] = 1;
+        case.p_star[0] = 1.0;
+        if self.rng.chance(1, 3) {
+            // A list, longer than n.
+            let z = std::mem::take(&mut case.z);
+            for _ in 0..n + 1 {
+                case.zs.extend_from_slice(&z);
+            }
+        }
+        if silent {
+            case.z.fill(0.0);
+            case.zs.fill(0.0);
+        } else {
+            case.h = vec![1.0, 0.0, -0.0, 0.5];
+        }
+        for y in &mut case.y {
+            *y = self.rng.plain();
+        }
+        case
+    }
+
+    /// Makes refusal k, 3 to 11, hold.
+    fn spoil(&mut self, case: &mut Case, k: usize) {
+        let (p, m, r) = (case.p, case.m, case.r);
+        let rng = &mut *self.rng;
+        match k {
+            3 => {
+                let x = non_finite(rng);
+                let part = match rng.below(6) {
+                    0 | 1 if !case.zs.is_empty() => &mut case.zs,
+                    0 | 1 => &mut case.z,
+                    2 => &mut case.h,
+                    3 => &mut case.t,
+                    4 => &mut case.rr,
+                    _ => &mut case.q,
+                };
+                let last = part.len() - 1;
+                let at = rng.pick(&[0, last, last / 2]);
+                part[at] = x;
+            }
+            4 => {
+                let x = -some_non_zero(rng).abs();
+                let at = rng.below(2);
+                if rng.chance(1, 2) {
+                    case.h[at * p + at] = x;
+                } else {
+                    case.q[at * r + at] = x;
+                }
+            }
+            5 => case.q[rng.pick(&[1, 2])] = some_non_zero(rng),
+            6 => {
+                let x = non_finite(rng);
+                let part = rng.pick(&[0, 1, 2, 3]);
+                let part = match part {
+                    0 => &mut case.c,
+                    1 => &mut case.d,
+                    2 => &mut case.a1,
+                    _ => &mut case.p_star,
+                };
+                let at = rng.below(part.len());
+                part[at] = x;
+            }
+            7 => match rng.below(6) {
+                0 => case.flags[rng.pick(&[0, 1])] = rng.pick(&[2, 3, 128, 255]),
+                1 => case.p_star[0] = -some_non_zero(rng).abs(),
+                2 => case.a1[1] = some_non_zero(rng),
+                3 => case.p_star[m + 1] = some_non_zero(rng).abs(),
+                4 => {
+                    let x = some_non_zero(rng);
+                    case.p_star[1] = x;
+                    case.p_star[m] = x;
+                }
+                _ => case.p_star[rng.pick(&[1, m])] = some_non_zero(rng),
+            },
+            8 => case.h[rng.pick(&[1, 2])] = some_non_zero(rng),
+            9 => {
+                let at = rng.below(case.y.len());
+                case.y[at] = rng.pick(&[f64::INFINITY, f64::NEG_INFINITY]);
+            }
+            10 => case.t[1] = some_non_zero(rng),
+            11 => {
+                if rng.chance(1, 2) {
+                    // Finite mirrored entries whose sum overflows.
+                    case.rr.fill(0.0);
+                    case.rr[0] = 1.0;
+                    case.rr[r] = 1.0;
+                    case.q[0] = 1.5e308;
+                } else {
+                    let at = rng.below(case.rr.len());
+                    case.rr[at] = 1e200;
+                    case.q[0] = case.q[0].max(1.0);
+                    case.q[3] = case.q[3].max(1.0);
+                }
+            }
+            _ => unreachable!(),
+        }
+    }
+
+    /// Makes a size absurd. Lengths stay.
+    fn absurd_size(&mut self, case: &mut Case) {
+        let big = self
+            .rng
+            .pick(&[usize::MAX, 1 << 63, (1 << 61) + 1, 1 << 32, 257]);
+        let small = self.rng.pick(&[0, 9, 9, 16, big]);
+        match self.rng.below(4) {
+            0 => case.p = small,
+            1 => case.m = small,
+            2 => case.r = small,
+            _ => case.n = self.rng.pick(&[0, 4097, 4097, 8192, big.max(4097)]),
+        }
+    }
+
+    /// Refusal 1, lengths right for the sizes where they can be.
+    fn dimension_alone(&mut self) -> Case {
+        let mut sizes = [self.rng.within(1, 2), self.rng.within(1, 2), 1, 1];
+        let at = self.rng.below(4);
+        sizes[at] = if at == 3 {
+            0
+        } else {
+            self.rng.pick(&[0, 9, 9])
+        };
+        let [p, m, r, n] = sizes;
+        let mut case = Case {
+            p,
+            m,
+            r,
+            n,
+            z: vec![1.0; p * m],
+            h: vec![0.0; p * p],
+            t: vec![0.0; m * m],
+            rr: vec![0.0; m * r],
+            q: vec![0.0; r * r],
+            c: vec![0.0; m],
+            d: vec![0.0; p],
+            a1: vec![0.0; m],
+            p_star: vec![0.0; m * m],
+            flags: vec![0; m],
+            y: vec![1.0; n * p],
+            ..Case::default()
+        };
+        case.lend_needed();
+        case
+    }
+
+    /// Refusal 2, one part of the wrong length or the Z rule broken.
+    fn length_alone(&mut self) -> Case {
+        let silent = self.rng.chance(1, 4);
+        let mut case = self.base(silent);
+        let rng = &mut *self.rng;
+        let pm = case.p * case.m;
+        match rng.below(12) {
+            // Z.
+            0 => {
+                case.z = vec![];
+                case.zs = vec![];
+            }
+            1 => {
+                case.z = vec![1.0; pm];
+                case.zs = vec![1.0; pm];
+            }
+            2 => {
+                case.z = vec![];
+                case.zs = vec![1.0; pm + rng.within(1, pm - 1)];
+            }
+            3 => {
+                case.zs = vec![];
+                case.z = vec![1.0; rng.pick(&[1, pm - 1, pm + 1, 2 * pm])];
+            }
+            // Inputs.
+            4..=7 => {
+                let part = rng.below(10);
+                if part == 9 {
+                    let len = case.flags.len();
+                    case.flags.resize(rng.pick(&[0, len - 1, len + 1]), 0);
+                } else {
+                    let part = [
+                        &mut case.h,
+                        &mut case.t,
+                        &mut case.rr,
+                        &mut case.q,
+                        &mut case.c,
+                        &mut case.d,
+                        &mut case.a1,
+                        &mut case.p_star,
+                        &mut case.y,
+                    ]
+                    .into_iter()
+                    .nth(part)
+                    .unwrap();
+                    let len = part.len();
+                    part.resize(rng.pick(&[0, len - 1, len + 1, 2 * len]), 0.0);
+                }
+            }
+            // Outputs of the filter.
+            _ => {
+                let at = rng.below(parts::FILTER_PARTS);
+                let need = parts::needed(case.p, case.m, case.n)[at];
+                case.lent[at] = rng.pick(&[0, need - 1, need - 1, need / 2]);
+            }
+        }
+        case
+    }
+
+    /// A list of 4096 designs, which is fine, or of 4097, which is not.
+    pub fn long_list(&mut self) -> Case {
+        let mut case = self.bare(1, 1, 1);
+        case.z = vec![];
+        case.zs = vec![1.0; MAX_PERIODS + self.rng.below(2)];
+        case.h = vec![1.0];
+        case
+    }
+
+    /// Only the smoother's own parts are too short.
+    pub fn smoother_alone(&mut self) -> Case {
+        let mut case = self.base(false);
+        let at = parts::FILTER_PARTS + self.rng.below(2);
+        let need = parts::needed(case.p, case.m, case.n)[at];
+        case.lent[at] = self.rng.pick(&[0, need - 1]);
+        case
+    }
+
+    /// Refusal k alone.
+    pub fn refused(&mut self, k: usize) -> Case {
+        match k {
+            1 if self.rng.chance(1, 2) => self.dimension_alone(),
+            1 => {
+                let mut case = self.base(false);
+                self.absurd_size(&mut case);
+                case
+            }
+            2 => self.length_alone(),
+            12 => self.silent(),
+            _ => {
+                let mut case = self.base(false);
+                while !holds(k, &case.inputs()) {
+                    self.spoil(&mut case, k);
+                }
+                case
+            }
+        }
+    }
+
+    /// Refusal 12, by one of several causes.
+    fn silent(&mut self) -> Case {
+        match self.rng.below(3) {
+            0 => self.base(true),
+            1 => {
+                // Nothing is uncertain.
+                let (p, m) = (self.rng.within(1, 2), self.rng.within(1, 2));
+                let n = self.rng.within(1, 3);
+                let mut case = self.bare(p, m, n);
+                for y in &mut case.y {
+                    *y = self.rng.plain();
+                }
+                case
+            }
+            _ => {
+                // The start is known, and only the first period is heard.
+                let mut case = self.bare(1, 1, 2);
+                case.q = vec![2.0];
+                case.y = vec![self.rng.plain(), self.rng.gap()];
+                case
+            }
+        }
+    }
+
+    /// Refusals a and b together, a < b.
+    pub fn refused_twice(&mut self, a: usize, b: usize) -> Case {
+        let mut case = self.base(b == 12);
+        let spoilt: Vec<usize> = [a, b]
+            .into_iter()
+            .filter(|k| (3..=11).contains(k))
+            .collect();
+        loop {
+            let mut tried = case.clone();
+            for &k in &spoilt {
+                self.spoil(&mut tried, k);
+            }
+            if spoilt.iter().all(|&k| holds(k, &tried.inputs())) {
+                case = tried;
+                break;
+            }
+        }
+        if a == 2 || b == 2 {
+            if self.rng.chance(1, 2) {
+                let at = self.rng.below(parts::FILTER_PARTS);
+                case.lent[at] -= case.lent[at].min(4);
+                case.lent[at] = case.lent[at].min(parts::needed(case.p, case.m, case.n)[at] - 1);
+            } else if self.rng.chance(1, 2) {
+                case.y.push(1.0);
+            } else {
+                case.z.push(1.0);
+            }
+        }
+        if a == 1 {
+            self.absurd_size(&mut case);
+        }
+        case.pair = Some((a, b));
+        case
+    }
+}

@@ -643,6 +643,9 @@ pub fn filter_univariate(
 
         // Absolute, on purpose: P_inf is a dimensionless rank indicator,
         // not a variance (see TOLERANCE_RANK).
+        probe::hit_if(Branch::AtTolerance, || {
+            in_diffuse && frob_sq(p_inf.as_ref()) == TOLERANCE_RANK
+        });
         let diffuse = in_diffuse && frob_sq(p_inf.as_ref()) > TOLERANCE_RANK;
         if diffuse {
             out.d_diffuse += 1;
@@ -772,6 +775,10 @@ pub fn filter_univariate(
             // along `Z_i`).
             debug_assert!(f_star_scale >= 0.0 && f_inf_scale >= 0.0 && f_inf_unres >= 0.0);
 
+            probe::hit_if(Branch::AtTolerance, || {
+                f_inf > 0.0 && f_inf == TOLERANCE_RANK * f_inf_scale
+                    || f_star > 0.0 && f_star == TOLERANCE_RANK * f_star_scale
+            });
             probe::hit_if(Branch::DiffuseRefused, || {
                 f_inf > TOLERANCE_RANK * f_inf_scale
                     && (f_root.is_nan() || f_root <= TOLERANCE_CANCEL * f_inf_unres)
@@ -835,9 +842,11 @@ pub fn filter_univariate(
                                 .collect();
                             StarRoot::replay(p_star_pre, z, h, &done)
                         });
-                        probe::replayed(
-                            root.project(&zi, h[(i, i)]).1 > TOLERANCE_CANCEL * reference,
-                        )
+                        let f_again = root.project(&zi, h[(i, i)]).1;
+                        probe::hit_if(Branch::AtTolerance, || {
+                            f_again == TOLERANCE_CANCEL * reference
+                        });
+                        probe::replayed(f_again > TOLERANCE_CANCEL * reference)
                     }
                 }
             {
