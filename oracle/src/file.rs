@@ -7,17 +7,20 @@ use crate::case::{one_nan, Case, Expected};
 /// First word of a file: "GOXCASE1".
 pub const MAGIC: u64 = 0x474F_5843_4153_4531;
 /// Words of the file's header.
-pub const HEADER_WORDS: usize = 4;
+pub const HEADER_WORDS: usize = 5;
 /// Words of a case before its inputs.
-pub const HEAD_WORDS: usize = 51;
+pub const HEAD_WORDS: usize = 50;
 /// No case has more words.
-pub const MAX_CASE_WORDS: usize = 16_384;
-/// No lent part has more places.
-pub const MAX_PART: usize = 4_352;
+pub const MAX_CASE_WORDS: usize = 8_192;
+/// The listed designs have no more places.
+pub const MAX_LIST: usize = 4_097;
+/// No other part, input or output, has more places.
+pub const MAX_PART: usize = 1_024;
 
-/// The file's header: magic, count of cases, the two bounds.
+/// The file's header: magic, count of cases, the three bounds.
 pub fn header(count: u64) -> Vec<u8> {
-    let words = [MAGIC, count, MAX_CASE_WORDS as u64, MAX_PART as u64];
+    let bounds = [MAX_CASE_WORDS, MAX_LIST, MAX_PART].map(|k| k as u64);
+    let words = [MAGIC, count, bounds[0], bounds[1], bounds[2]];
     words.iter().flat_map(|w| w.to_be_bytes()).collect()
 }
 
@@ -42,13 +45,19 @@ impl Writer {
     pub fn case(&mut self, case: &Case, e: &Expected) -> &[u8] {
         let words = words(case, e);
         let inputs = case.input_words();
-        let part = inputs.iter().map(Vec::len).chain(case.lent).max().unwrap();
+        let others = (0..12).filter(|&k| k != 1).map(|k| inputs[k].len());
+        let part = others.chain(case.lent).max().unwrap();
         assert!(
             words.len() <= MAX_CASE_WORDS,
             "case of {} words",
             words.len()
         );
         assert!(part <= MAX_PART, "part of {part} places");
+        assert!(
+            inputs[1].len() <= MAX_LIST,
+            "list of {} places",
+            inputs[1].len()
+        );
         self.largest_case = self.largest_case.max(words.len());
         self.largest_part = self.largest_part.max(part);
         self.total += 8 * words.len();
@@ -79,7 +88,6 @@ pub fn words(case: &Case, e: &Expected) -> Vec<u64> {
     for k in 0..SMOOTH_PARTS {
         w.push(e.written[k].len() as u64);
     }
-    w.push(0);
     assert_eq!(w.len(), HEAD_WORDS);
     for x in inputs.iter().chain(&e.written) {
         w.extend_from_slice(x);

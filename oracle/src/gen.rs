@@ -190,5 +190,8 @@ pub fn command(seed: u64, count: u64, path: &str) -> io::Result<()> {
         writer.largest_case, writer.largest_part
     );
     println!("file: {} bytes", writer.total);
+    if count >= 20_000 && tally.rarest() < 50 {
+        return Err(io::Error::other("a branch is rare"));
+    }
     Ok(())
 }

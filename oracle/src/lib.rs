@@ -12,6 +12,7 @@ pub mod list;
 pub mod makers;
 pub mod marks;
 pub mod refuse;
+pub mod replay;
 pub mod rng;
 pub mod small;
 pub mod time;

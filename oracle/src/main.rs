@@ -5,6 +5,7 @@ use std::process::ExitCode;
 const USAGE: &str = "usage:
   oracle gen SEED COUNT FILE   make cases, print how often each branch was taken
   oracle list FILE             make the fixed list of cases
+  oracle replay FILE           run a file's cases and compare
   oracle small SEED COUNT      print small cases as text
   oracle demand3 SEED COUNT    try demand 3
   oracle time                  ns per period";
@@ -20,6 +21,7 @@ fn act(args: &[&str]) -> Result<(), String> {
             told(oracle::gen::command(number(seed)?, number(count)?, file))
         }
         ["list", file] => told(oracle::list::command(file)),
+        ["replay", file] => oracle::replay::command(file),
         ["small", seed, count] => {
             oracle::small::command(number(seed)?, number(count)? as usize);
             Ok(())

@@ -396,7 +396,7 @@ impl Maker<'_> {
             }
             case.h[i * p + i] = match self.rng.below(3) {
                 0 => self.rng.power(-60, -15),
-                1 => (-40.0 * self.rng.unit()).exp(),
+                1 => self.rng.power(-58, 0) * (1.0 + self.rng.unit()),
                 _ => 0.0,
             };
             if small && case.h[i * p + i] != 0.0 {
@@ -641,9 +641,11 @@ impl Maker<'_> {
             3 => self.at_rank_tolerance(),
             // The sum of squares of P∞ at 1e-10.
             _ => {
-                let mut case = self.bare(1, 1, 2);
-                case.flags = vec![1];
-                case.t = vec![wash_root()];
+                let mut case = self.bare(1, 2, 2);
+                let (x, w) = wash_roots(0.9 + 0.09 * self.rng.unit());
+                case.flags = vec![1; 2];
+                case.z = vec![1.0, 1.0];
+                case.t = vec![x, 0.0, 0.0, w];
                 case.h = vec![2.0];
                 case.q = vec![2.0];
                 case.y = vec![self.rng.gap(), self.near(Flavour::Short)];
@@ -724,17 +726,12 @@ fn fixed(share: f64, of: impl Fn(f64) -> f64) -> f64 {
     h
 }
 
-/// x with (x·x)·(x·x) exactly 1e-10, each product rounded.
-fn wash_root() -> f64 {
-    let start = 1e-10f64.sqrt().sqrt().to_bits();
-    for off in 0..1000i64 {
-        for sign in [1, -1] {
-            let x = f64::from_bits((start as i64 + sign * off) as u64);
-            let p = x * x;
-            if p * p == 1e-10 {
-                return x;
-            }
-        }
-    }
-    1e-10f64.sqrt().sqrt()
+/// x and w with (x·x)² + (w·w)² exactly 1e-10, each step rounded; x takes
+/// this share of it.
+fn wash_roots(share: f64) -> (f64, f64) {
+    let square = |x: f64| (x * x) * (x * x);
+    let x = (1e-10 * share).sqrt().sqrt();
+    let w = (1e-10 - square(x)).sqrt().sqrt();
+    assert_eq!(square(x) + square(w), 1e-10);
+    (x, w)
 }

@@ -51,18 +51,36 @@ fn some_non_zero(rng: &mut Rng) -> f64 {
 }
 
 impl Maker<'_> {
-    /// A base that can carry any two refusals: p, r ≥ 2, one state flagged
-    /// and one not, and a run that would find no news if `silent`.
-    fn base(&mut self, silent: bool) -> Case {
-        let m = self.rng.within(2, 3);
-        let n = self.rng.within(1, 2);
-        let mut case = self.bare(2, m, n);
-        case.r = 2;
-        case.rr = (0..m * 2).map(|_| self.rng.plain()).collect();
-        case.q = vec![self.rng.unit(), 0.0, -0.0, self.rng.unit()];
-        case.flags[1] = 1;
-        case.p_star[0] = 1.0;
-        if self.rng.chance(1, 3) {
+    /// A base that can carry these refusals: room for an entry off the
+    /// diagonal, one state flagged and one not, and a run that would find no
+    /// news if 12 is among them. Small only if the room is small.
+    fn base(&mut self, refusals: &[usize]) -> Case {
+        let small = self.small();
+        let wants = |of: &[usize]| !small || of.iter().any(|k| refusals.contains(k));
+        let silent = refusals.contains(&12);
+        let p = if wants(&[8]) { 2 } else { 1 };
+        let r = if wants(&[5]) { 2 } else { 1 };
+        let m = match wants(&[7, 10, 11]) {
+            true if small => 2,
+            true => self.rng.within(2, 3),
+            false => 1,
+        };
+        let n = if small { 1 } else { self.rng.within(1, 2) };
+        let mut case = self.bare(p, m, n);
+        case.r = r;
+        case.rr = (0..m * r).map(|_| self.any()).collect();
+        case.q = vec![-0.0; r * r];
+        case.h = vec![-0.0; p * p];
+        for i in 0..r {
+            case.q[i * r + i] = self.any().abs();
+        }
+        case.flags[m - 1] = 1;
+        if m > 1 {
+            case.flags = vec![0; m];
+            case.flags[1] = 1;
+            case.p_star[0] = 1.0;
+        }
+        if !small && self.rng.chance(1, 3) {
             // A list, longer than n.
             let z = std::mem::take(&mut case.z);
             for _ in 0..n + 1 {
@@ -72,13 +90,23 @@ impl Maker<'_> {
         if silent {
             case.z.fill(0.0);
             case.zs.fill(0.0);
-        } else {
-            case.h = vec![1.0, 0.0, -0.0, 0.5];
+        }
+        for i in 0..p {
+            case.h[i * p + i] = if silent { 0.0 } else { 0.5 };
         }
         for y in &mut case.y {
-            *y = self.rng.plain();
+            *y = self.any();
         }
         case
+    }
+
+    /// A number near 1, of few bits if the room is small.
+    fn any(&mut self) -> f64 {
+        if self.small() {
+            self.rng.within(1, 8) as f64 * 0.5
+        } else {
+            self.rng.plain()
+        }
     }
 
     /// Makes refusal k, 3 to 11, hold.
@@ -102,10 +130,11 @@ impl Maker<'_> {
             }
             4 => {
                 let x = -some_non_zero(rng).abs();
-                let at = rng.below(2);
                 if rng.chance(1, 2) {
+                    let at = rng.below(p);
                     case.h[at * p + at] = x;
                 } else {
+                    let at = rng.below(r);
                     case.q[at * r + at] = x;
                 }
             }
@@ -150,8 +179,9 @@ impl Maker<'_> {
                 } else {
                     let at = rng.below(case.rr.len());
                     case.rr[at] = 1e200;
-                    case.q[0] = case.q[0].max(1.0);
-                    case.q[3] = case.q[3].max(1.0);
+                    for k in 0..r {
+                        case.q[k * r + k] = case.q[k * r + k].max(1.0);
+                    }
                 }
             }
             _ => unreachable!(),
@@ -206,8 +236,7 @@ impl Maker<'_> {
 
     /// Refusal 2, one part of the wrong length or the Z rule broken.
     fn length_alone(&mut self) -> Case {
-        let silent = self.rng.chance(1, 4);
-        let mut case = self.base(silent);
+        let mut case = self.base(&[2]);
         let rng = &mut *self.rng;
         let pm = case.p * case.m;
         match rng.below(12) {
@@ -220,13 +249,13 @@ impl Maker<'_> {
                 case.z = vec![1.0; pm];
                 case.zs = vec![1.0; pm];
             }
-            2 => {
+            2 if pm > 1 => {
                 case.z = vec![];
                 case.zs = vec![1.0; pm + rng.within(1, pm - 1)];
             }
             3 => {
                 case.zs = vec![];
-                case.z = vec![1.0; rng.pick(&[1, pm - 1, pm + 1, 2 * pm])];
+                case.z = vec![1.0; rng.pick(&[pm - 1, pm + 1, 2 * pm])];
             }
             // Inputs.
             4..=7 => {
@@ -274,7 +303,7 @@ impl Maker<'_> {
 
     /// Only the smoother's own parts are too short.
     pub fn smoother_alone(&mut self) -> Case {
-        let mut case = self.base(false);
+        let mut case = self.base(&[]);
         let at = parts::FILTER_PARTS + self.rng.below(2);
         let need = parts::needed(case.p, case.m, case.n)[at];
         case.lent[at] = self.rng.pick(&[0, need - 1]);
@@ -286,14 +315,14 @@ impl Maker<'_> {
         match k {
             1 if self.rng.chance(1, 2) => self.dimension_alone(),
             1 => {
-                let mut case = self.base(false);
+                let mut case = self.base(&[1]);
                 self.absurd_size(&mut case);
                 case
             }
             2 => self.length_alone(),
             12 => self.silent(),
             _ => {
-                let mut case = self.base(false);
+                let mut case = self.base(&[k]);
                 while !holds(k, &case.inputs()) {
                     self.spoil(&mut case, k);
                 }
@@ -305,14 +334,14 @@ impl Maker<'_> {
     /// Refusal 12, by one of several causes.
     fn silent(&mut self) -> Case {
         match self.rng.below(3) {
-            0 => self.base(true),
+            0 => self.base(&[12]),
             1 => {
                 // Nothing is uncertain.
                 let (p, m) = (self.rng.within(1, 2), self.rng.within(1, 2));
                 let n = self.rng.within(1, 3);
                 let mut case = self.bare(p, m, n);
                 for y in &mut case.y {
-                    *y = self.rng.plain();
+                    *y = self.any();
                 }
                 case
             }
@@ -320,7 +349,7 @@ impl Maker<'_> {
                 // The start is known, and only the first period is heard.
                 let mut case = self.bare(1, 1, 2);
                 case.q = vec![2.0];
-                case.y = vec![self.rng.plain(), self.rng.gap()];
+                case.y = vec![self.any(), self.rng.gap()];
                 case
             }
         }
@@ -328,7 +357,7 @@ impl Maker<'_> {
 
     /// Refusals a and b together, a < b.
     pub fn refused_twice(&mut self, a: usize, b: usize) -> Case {
-        let mut case = self.base(b == 12);
+        let mut case = self.base(&[a, b]);
         let spoilt: Vec<usize> = [a, b]
             .into_iter()
             .filter(|k| (3..=11).contains(k))

@@ -47,7 +47,7 @@ fn cost(case: &Case) -> f64 {
 }
 
 /// Cases that between them have every mark that a small case can have; then
-/// further ones, the cheapest of each kind of scene first.
+/// further ones.
 pub fn choose(seed: u64, count: usize) -> Vec<(Case, Expected)> {
     let mut scenes = deck();
     scenes.sort_by_key(|s| format!("{s:?}"));
@@ -65,34 +65,50 @@ pub fn choose(seed: u64, count: usize) -> Vec<(Case, Expected)> {
         pool.push((cost(&case), scene, case, e));
     }
     pool.sort_by(|a, b| a.0.total_cmp(&b.0));
-    let all = pool.iter().fold(0, |m, x| m | mask(&x.3)) & !unwanted();
-    let mut left = all;
+    // Plain numbers first; what only overflow shows comes last.
+    let ran_off = 1 << marks::INFINITY | 1 << marks::NAN;
+    let masks: Vec<u64> = pool.iter().map(|x| mask(&x.3)).collect();
     let mut chosen: Vec<usize> = Vec::new();
-    while left != 0 && chosen.len() < count {
-        // The rarest mark that is left, and the cheapest case that has it.
-        let share = |k: &u32| pool.iter().filter(|x| mask(&x.3) >> k & 1 == 1).count();
-        let k = (0..64)
-            .filter(|k| left >> k & 1 == 1)
-            .min_by_key(share)
-            .unwrap();
-        let worth = |x: &Case, e: &Expected| cost(x) / f64::from((mask(e) & left).count_ones());
-        let best = (0..pool.len())
-            .filter(|&i| mask(&pool[i].3) >> k & 1 == 1)
-            .min_by(|&i, &j| {
-                worth(&pool[i].2, &pool[i].3).total_cmp(&worth(&pool[j].2, &pool[j].3))
-            })
-            .unwrap();
-        left &= !mask(&pool[best].3);
-        chosen.push(best);
+    for late in [false, true] {
+        let usable: Vec<usize> = (0..pool.len())
+            .filter(|&i| late || masks[i] & ran_off == 0)
+            .collect();
+        let all = usable.iter().fold(0, |m, &i| m | masks[i]);
+        let had = chosen.iter().fold(0, |m, &i: &usize| m | masks[i]);
+        let mut left = all & !unwanted() & !had;
+        while left != 0 && chosen.len() < count {
+            // The rarest mark that is left, and the case that has it at the
+            // least cost for the marks it adds.
+            let share = |k: &u32| masks.iter().filter(|&&m| m >> k & 1 == 1).count();
+            let k = (0..64)
+                .filter(|k| left >> k & 1 == 1)
+                .min_by_key(share)
+                .unwrap();
+            let worth = |i: usize| {
+                let adds = f64::from((masks[i] & left).count_ones());
+                pool[i].0 / (3.0 + adds)
+            };
+            let best = usable
+                .iter()
+                .copied()
+                .filter(|&i| masks[i] >> k & 1 == 1)
+                .min_by(|&i, &j| worth(i).total_cmp(&worth(j)))
+                .unwrap();
+            left &= !masks[best];
+            chosen.push(best);
+        }
     }
-    // Further cases: the cheapest whose set of marks is new.
-    let mut seen: Vec<u64> = chosen.iter().map(|&i| mask(&pool[i].3)).collect();
+    // Further cases: the cheapest of two periods or more whose set of marks
+    // is new.
+    let mut seen: Vec<u64> = chosen.iter().map(|&i| masks[i]).collect();
     for (i, x) in pool.iter().enumerate() {
         if chosen.len() >= count {
             break;
         }
-        if x.3.filter.is_ok() && !seen.contains(&mask(&x.3)) {
-            seen.push(mask(&x.3));
+        let ran = masks[i] & (1 << Branch::Usual as usize | 1 << Branch::Diffuse as usize) != 0;
+        let plain = ran && x.2.n > 1 && masks[i] & ran_off == 0;
+        if x.3.filter.is_ok() && plain && !seen.contains(&masks[i]) {
+            seen.push(masks[i]);
             chosen.push(i);
         }
     }

@@ -780,8 +780,7 @@ pub fn filter_univariate(
                     || f_star > 0.0 && f_star == TOLERANCE_RANK * f_star_scale
             });
             probe::hit_if(Branch::DiffuseRefused, || {
-                f_inf > TOLERANCE_RANK * f_inf_scale
-                    && (f_root.is_nan() || f_root <= TOLERANCE_CANCEL * f_inf_unres)
+                f_inf > TOLERANCE_RANK * f_inf_scale && !(f_root > TOLERANCE_CANCEL * f_inf_unres)
             });
             if f_inf > TOLERANCE_RANK * f_inf_scale && f_root > TOLERANCE_CANCEL * f_inf_unres {
                 // Exact-diffuse element update (Koopman & Durbin 2003).
@@ -875,11 +874,7 @@ pub fn filter_univariate(
                 // a zero (or roundoff) variance, or one an earlier element
                 // of y_t has already pinned (a series with zero
                 // idiosyncratic variance that is redundant given another).
-                probe::hit_if(Branch::Scale, || {
-                    f_star.is_nan()
-                        || f_star_scale.is_nan()
-                        || f_star <= TOLERANCE_RANK * f_star_scale
-                });
+                probe::hit_if(Branch::Scale, || !(f_star > TOLERANCE_RANK * f_star_scale));
                 out.steps.push(ObsStep::skipped());
             }
         }
