@@ -9,6 +9,7 @@ use crate::case::{self, Case};
 use crate::file;
 use crate::makers::{Flavour, Maker, Room};
 use crate::marks::Tally;
+use crate::pointed;
 use crate::rng::Rng;
 
 /// What a case is made for.
@@ -20,7 +21,8 @@ pub enum Scene {
     LongDiffuse,
     PlaceN,
     SmootherAlone,
-    LongList,
+    /// Pointed at a slip, see `pointed`.
+    Pointed(usize),
     Refused(usize),
     Pair(usize, usize),
 }
@@ -47,7 +49,9 @@ pub fn deck() -> Vec<Scene> {
     put(2, Scene::LongDiffuse);
     put(2, Scene::PlaceN);
     put(2, Scene::SmootherAlone);
-    put(1, Scene::LongList);
+    for k in 0..pointed::KINDS {
+        put(1, Scene::Pointed(k));
+    }
     for a in 1..=12 {
         put(1, Scene::Refused(a));
         for b in a + 1..=12 {
@@ -115,7 +119,7 @@ pub fn make(rng: &mut Rng, room: Room, scene: Scene) -> Case {
         Scene::LongDiffuse => mk.long_diffuse(),
         Scene::PlaceN => mk.shrinks(),
         Scene::SmootherAlone => mk.smoother_alone(),
-        Scene::LongList => mk.long_list(),
+        Scene::Pointed(k) => mk.pointed(k),
         Scene::Refused(k) => mk.refused(k),
         Scene::Pair(a, b) => mk.refused_twice(a, b),
     }

@@ -11,6 +11,7 @@ pub mod gen;
 pub mod list;
 pub mod makers;
 pub mod marks;
+pub mod pointed;
 pub mod refuse;
 pub mod replay;
 pub mod rng;

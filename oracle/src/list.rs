@@ -7,6 +7,7 @@ use crate::case;
 use crate::file;
 use crate::gen::{check_scene, Cases, Scene};
 use crate::marks::{Tally, COUNT};
+use crate::pointed;
 
 /// At least so many cases of every mark.
 const OF_MARK: u64 = 20;
@@ -14,6 +15,8 @@ const OF_MARK: u64 = 20;
 const OF_PAIR: u64 = 2;
 /// At least so many cases of every flavour of general cases.
 const OF_GENERAL: usize = 40;
+/// So many cases of every slip.
+const OF_POINTED: usize = 4;
 /// A case above this many words is taken only for its scene's own sake.
 const WORDS: usize = 1200;
 /// Cases looked at.
@@ -25,14 +28,15 @@ pub fn list() -> (Vec<u8>, Tally) {
     let mut writer = file::Writer::new();
     let mut bytes = Vec::new();
     let mut general = [0; 5];
-    let mut long = 0;
+    let mut aimed = [0; pointed::KINDS];
     for (scene, case) in Cases::new(1).take(LOOKED_AT) {
         let e = case::run(&case);
         check_scene(scene, &e);
         let words = file::words(&case, &e).len();
         let short_of = (0..COUNT).any(|k| e.hits[k] > 0 && tally.in_cases[k] < OF_MARK);
         let wanted = match scene {
-            Scene::LongList => long < 2,
+            Scene::Pointed(k) if words > WORDS => aimed[k] < 1,
+            Scene::Pointed(k) => aimed[k] < OF_POINTED,
             _ if words > WORDS => false,
             Scene::General(f) => general[f as usize] < OF_GENERAL || short_of,
             Scene::Pair(a, b) => tally.pairs[a][b] < OF_PAIR || short_of,
@@ -43,7 +47,7 @@ pub fn list() -> (Vec<u8>, Tally) {
         }
         match scene {
             Scene::General(f) => general[f as usize] += 1,
-            Scene::LongList => long += 1,
+            Scene::Pointed(k) => aimed[k] += 1,
             _ => (),
         }
         tally.add(&e.hits, case.pair);

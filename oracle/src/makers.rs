@@ -163,7 +163,7 @@ impl Maker<'_> {
     }
 
     /// Readings of this flavour with gaps, `share` in 8.
-    fn readings(&mut self, case: &mut Case, flavour: Flavour, share: usize) {
+    pub(crate) fn readings(&mut self, case: &mut Case, flavour: Flavour, share: usize) {
         let scale = self.scale(flavour);
         case.y = (0..case.n * case.p)
             .map(|_| {
@@ -718,7 +718,7 @@ fn case_floats(case: &mut Case) -> impl Iterator<Item = &mut f64> {
 }
 
 /// A number h with h = share·of(h), rounding included.
-fn fixed(share: f64, of: impl Fn(f64) -> f64) -> f64 {
+pub(crate) fn fixed(share: f64, of: impl Fn(f64) -> f64) -> f64 {
     let mut h = 0.0;
     for _ in 0..20 {
         h = share * of(h);

@@ -292,11 +292,11 @@ impl Maker<'_> {
         case
     }
 
-    /// A list of 4096 designs, which is fine, or of 4097, which is not.
-    pub fn long_list(&mut self) -> Case {
+    /// A list of 4096 designs, which is fine, and `more`, which is not.
+    pub(crate) fn long_list(&mut self, more: usize) -> Case {
         let mut case = self.bare(1, 1, 1);
         case.z = vec![];
-        case.zs = vec![1.0; MAX_PERIODS + self.rng.below(2)];
+        case.zs = vec![1.0; MAX_PERIODS + more];
         case.h = vec![1.0];
         case
     }

@@ -6,7 +6,7 @@ use oracle::makers::{Maker, Room};
 use oracle::marks::{self, Tally};
 use oracle::replay::{read, replay, Calls, Oracle};
 use oracle::rng::Rng;
-use oracle::{demand3, list, small};
+use oracle::{demand3, list, pointed, small};
 use parts::{Inputs, Outcome, Outputs, Smoothed};
 use tsecon_ssm_probed::probe::Branch;
 
@@ -119,6 +119,44 @@ fn each_tolerance_is_met_exactly() {
             let case = mk.at_tolerance_of(which);
             let hits = probe_hits(&case);
             assert!(hits[Branch::AtTolerance as usize] > 0, "{which} {case:?}");
+        }
+    }
+}
+
+/// The outcome and the kinds that each pointed case is made to have.
+#[test]
+fn pointed_cases_hit_their_mark() {
+    use Branch::*;
+    let marks: [&[Branch]; pointed::KINDS] = [
+        &[SuspectDiffuse],
+        &[AtTolerance],
+        &[AtTolerance, DiffuseRefused],
+        &[AtTolerance, SuspectRefused],
+        &[ClearBound],
+        &[DiffuseRefused],
+        &[DowndateEarly, SuspectAccepted],
+        &[DiffuseRefused],
+        &[SuspectAccepted],
+        &[Diffuse, Below],
+        &[SuspectAccepted],
+        &[SuspectAccepted, RankShort],
+        &[Usual],
+        &[],
+        &[Usual],
+        &[],
+        &[SuspectRefused, RankShort],
+    ];
+    for (k, want) in marks.iter().enumerate() {
+        for seed in 0..10 {
+            let mut rng = Rng::new(seed);
+            let mut mk = Maker {
+                rng: &mut rng,
+                room: Room::Usual,
+            };
+            let hits = probe_hits(&mk.pointed(k));
+            for b in want.iter() {
+                assert!(hits[*b as usize] > 0, "{}: {b:?}", pointed::SLIPS[k]);
+            }
         }
     }
 }

@@ -777,6 +777,7 @@ pub fn filter_univariate(
 
             probe::hit_if(Branch::AtTolerance, || {
                 f_inf > 0.0 && f_inf == TOLERANCE_RANK * f_inf_scale
+                    || f_root > 0.0 && f_root == TOLERANCE_CANCEL * f_inf_unres
                     || f_star > 0.0 && f_star == TOLERANCE_RANK * f_star_scale
             });
             probe::hit_if(Branch::DiffuseRefused, || {

@@ -1,0 +1,268 @@
+//! Cases pointed at one slip each: a version that makes the slip gives
+//! another answer on them. Chance alone hardly ever finds these.
+
+use crate::case::Case;
+use crate::makers::{fixed, Flavour, Maker};
+use crate::rng::pow2;
+
+/// Count of kinds.
+pub const KINDS: usize = 17;
+
+/// The slip that each kind is pointed at.
+pub const SLIPS: [&str; KINDS] = [
+    "a diffuse period's suspect element tested by replay",
+    "F∞ at its tolerance accepted",
+    "the diffuse root's F at its tolerance accepted",
+    "F at 1e-6 of the reference taken as clear",
+    "outer_sub multiplies through a zero",
+    "abs_quad_form leaves out an inner zero",
+    "a star root's downdate that does not return early",
+    "the unresolved matrix does not go by T",
+    "a star root's support from one row alone",
+    "a diffuse update not counted as an update",
+    "Potter's update in another order",
+    "a star root with spare columns of zeros",
+    "the logarithm's 1.5 not halved",
+    "a listed design past n not checked",
+    "4096 designs refused",
+    "4097 designs let through",
+    "a pivot below 0",
+];
+
+impl Maker<'_> {
+    pub fn pointed(&mut self, kind: usize) -> Case {
+        match kind {
+            0 => self.suspect_in_diffuse(),
+            1 => self.f_inf_at_tolerance(),
+            2 => self.f_root_at_tolerance(),
+            3 => self.at_reference(),
+            4 => self.infinite_gain(),
+            5 => self.unresolved_nan(),
+            6 => self.early_return_shows(),
+            7 => self.unresolved_grows(),
+            8 => self.two_supports(),
+            9 => self.diffuse_then_dust(),
+            10 => self.infinite_downdate(1),
+            11 => self.infinite_downdate(2),
+            12 => self.logarithm_at_half(),
+            13 => self.spoilt_past_the_end(),
+            14 => self.long_list(0),
+            15 => self.long_list(1),
+            _ => self.negative_pivot(),
+        }
+    }
+
+    fn short_readings(&mut self, case: &mut Case) {
+        self.readings(case, Flavour::Short, 0);
+    }
+
+    /// f is 2·c, the root's F is 0, and one state more is diffuse.
+    fn suspect_in_diffuse(&mut self) -> Case {
+        let c = self.rng.power(-40, -22);
+        let mut case = self.bare(2, 4, 1);
+        case.z = vec![1.0, 0.0, 0.0, 0.0, 1.0, 1.0, 1.0, 0.0];
+        case.p_star[0] = 1.0;
+        case.p_star[4 + 2] = c;
+        case.p_star[8 + 1] = c;
+        case.flags[3] = 1;
+        self.short_readings(&mut case);
+        case
+    }
+
+    /// Both states flagged go to (1, g), a third to s: F∞ is exactly 1e-10
+    /// of its scale.
+    fn f_inf_at_tolerance(&mut self) -> Case {
+        loop {
+            let g = 0.5 + self.rng.unit();
+            let w = -(1.0 - 1.4e-5) / g;
+            let mut s = 1.4e-5;
+            for _ in 0..200 {
+                let (f, scale) = f_inf_of(g, w, s);
+                let want = 1e-10 * scale;
+                if f == want {
+                    let mut case = self.bare(1, 3, 2);
+                    case.z = vec![1.0, w, 1.0];
+                    case.t = vec![1.0, 0.0, 0.0, g, 0.0, 0.0, 0.0, 0.0, s];
+                    case.flags = vec![1; 3];
+                    case.h = vec![1.0];
+                    case.q = vec![1.0];
+                    case.y = vec![self.rng.gap(), self.rng.within(1, 4) as f64];
+                    return case;
+                }
+                let next = (s * s + (want - f)).max(0.0).sqrt();
+                s = if next == s { s.next_up() } else { next };
+            }
+        }
+    }
+
+    /// The first row resolves one state; the second sees the other so weakly
+    /// that the root's F is exactly 1e-14 of what was there.
+    fn f_root_at_tolerance(&mut self) -> Case {
+        loop {
+            let x = 0.5 + self.rng.unit();
+            let start = (1e-14 * (x * x + 1e-14 * (x * x))).sqrt();
+            for off in -3i64..=3 {
+                let w = f64::from_bits((start.to_bits() as i64 + off) as u64);
+                if w * w == 1e-14 * (x * x + w * w) {
+                    let mut case = self.bare(2, 2, 1);
+                    case.z = vec![1.0, 0.0, x, w];
+                    case.flags = vec![1; 2];
+                    case.h = vec![1.0, 0.0, 0.0, 1.0];
+                    self.short_readings(&mut case);
+                    return case;
+                }
+            }
+        }
+    }
+
+    /// Two pins, so that the bound lies above the reference; f is exactly
+    /// 1e-6 of the reference, and the root's F is 0.
+    fn at_reference(&mut self) -> Case {
+        let s = self.rng.power(-6, 6);
+        let c = fixed(0.5e-6, |c| s + c + c + s);
+        let mut case = self.bare(3, 4, 1);
+        case.z = vec![1.0, 0.0, 0.0, 0.0, 0.0, 0.0, 0.0, 1.0, 1.0, 1.0, 1.0, 1.0];
+        for (i, j, x) in [(0, 0, s), (3, 3, s), (1, 2, c), (2, 1, c)] {
+            case.p_star[i * 4 + j] = x;
+        }
+        self.short_readings(&mut case);
+        case
+    }
+
+    /// An infinite F* that is accepted: a gain of 0 beside an infinite
+    /// vector.
+    fn infinite_gain(&mut self) -> Case {
+        let mut case = self.bare(2, 2, 1);
+        case.z = vec![1e-300, 1e10, 0.0, 1.0];
+        let k = self.rng.power(-1, 1);
+        case.p_star = vec![1.0, 1e300 * k, 1e300 * k, 1.0];
+        case.h[3] = self.rng.power(-3, 3);
+        self.short_readings(&mut case);
+        case
+    }
+
+    /// What was resolved goes by T into an infinite mirrored pair of the
+    /// unresolved matrix, which a row sees only through a zero.
+    fn unresolved_nan(&mut self) -> Case {
+        let mut case = self.bare(1, 3, 2);
+        case.z = vec![];
+        case.zs = vec![0.0, 0.0, 1.0, 1.0, 0.0, 0.0];
+        let near = self.rng.power(0, 16);
+        case.t = vec![1.0, 0.0, near, 0.0, 1.0, f64::MAX, 0.0, 0.0, 0.0];
+        if near < 2.0 {
+            case.t[2] = 4.0;
+        }
+        case.flags = vec![1; 3];
+        self.short_readings(&mut case);
+        case
+    }
+
+    /// The second row's F* is seen by the covariance alone; the root keeps a
+    /// column, and its F of that row is 0.
+    fn early_return_shows(&mut self) -> Case {
+        let c = self.rng.power(-30, -24);
+        let mut case = self.bare(3, 3, 1);
+        case.z = vec![1.0, 0.0, 0.0, 0.0, 1.0, 1.0, 1.0, 1.0, 1.0];
+        case.p_star = vec![1.0, 0.0, 0.0, 0.0, 0.0, c, 0.0, c, 0.0];
+        case.h[8] = c * self.rng.power(-4, 2);
+        self.short_readings(&mut case);
+        case
+    }
+
+    /// A resolved state goes hugely into one that is not.
+    fn unresolved_grows(&mut self) -> Case {
+        let mut case = self.bare(1, 2, 2);
+        case.z = vec![];
+        case.zs = vec![0.0, 1.0, 1.0, 0.0];
+        case.t = vec![1.0, self.rng.power(25, 40), 0.0, 0.0];
+        case.flags = vec![1; 2];
+        case.h = vec![self.rng.pick(&[0.0, 1.0])];
+        self.short_readings(&mut case);
+        case
+    }
+
+    /// A suspect row, and a last row that looks at another state.
+    fn two_supports(&mut self) -> Case {
+        let mut case = self.bare(3, 2, 1);
+        case.z = vec![1.0, 0.0, 1.0, 0.0, 0.0, 1.0];
+        case.p_star = vec![1.0, 0.0, 0.0, 1.0];
+        case.h[0] = self.rng.power(-45, -25);
+        case.h[8] = 1.0;
+        if self.rng.chance(1, 2) {
+            // The last row first: a suspect element on the other state.
+            case.z.rotate_right(2);
+            case.h = vec![1.0, 0.0, 0.0, 0.0, case.h[0], 0.0, 0.0, 0.0, 0.0];
+        }
+        self.short_readings(&mut case);
+        case
+    }
+
+    /// A diffuse update leaves dust of a covariance that noise has built up.
+    fn diffuse_then_dust(&mut self) -> Case {
+        let mut case = self.bare(2, 1, 2);
+        case.z = vec![1.0, 1.0];
+        case.flags = vec![1];
+        case.q = vec![1.0];
+        case.h[0] = self.rng.power(-52, -48);
+        self.short_readings(&mut case);
+        case.y[0] = self.rng.gap();
+        case.y[1] = self.rng.gap();
+        case
+    }
+
+    /// A root's downdate whose factor overflows: the order of its product,
+    /// and any spare column, shows.
+    fn infinite_downdate(&mut self, m: usize) -> Case {
+        let mut case = self.bare(2, m, 1);
+        case.z = vec![1.0; 2 * m];
+        // Of rank one, exactly: all entries the same power of four.
+        let s = pow2(-1030 - 2 * self.rng.below(2) as i32);
+        case.p_star.fill(s);
+        case.h[3] = pow2(-1054 - self.rng.below(6) as i32);
+        self.short_readings(&mut case);
+        case
+    }
+
+    /// F* is 1.5 times a power of two.
+    fn logarithm_at_half(&mut self) -> Case {
+        let mut case = self.bare(1, 1, 1);
+        let s = self.rng.power(-20, 20);
+        case.p_star = vec![s];
+        case.h = vec![0.5 * s];
+        case.y = vec![0.0];
+        case
+    }
+
+    /// Not finite, in a design that no period uses.
+    fn spoilt_past_the_end(&mut self) -> Case {
+        let mut case = self.bare(1, 2, 2);
+        case.z = vec![];
+        case.zs = vec![1.0, 1.0, 1.0, 0.0, 1.0, 1.0];
+        case.zs[4 + self.rng.below(2)] = self.rng.gap();
+        case.h = vec![1.0];
+        case
+    }
+
+    /// The root stops at a diagonal below 0; F* is seen by the covariance.
+    fn negative_pivot(&mut self) -> Case {
+        let mut case = self.bare(2, 3, 1);
+        let c = self.rng.power(-34, -25);
+        let b = self.rng.power(-20, -18);
+        case.z = vec![1.0, 0.0, 0.0, 1.0, 1.0, 1.0];
+        case.p_star = vec![1.0, b, 0.0, b, 0.0, c, 0.0, c, 0.0];
+        self.short_readings(&mut case);
+        case
+    }
+}
+
+/// F∞ and its scale for the row (1, w, 1) once P∞ = I has gone by
+/// T = [[1, 0, 0], [g, 0, 0], [0, 0, s]], each step rounded.
+fn f_inf_of(g: f64, w: f64, s: f64) -> (f64, f64) {
+    let (gg, ss) = (g * g, s * s);
+    let m0 = 1.0 + g * w;
+    let m1 = g + gg * w;
+    let f = m0 + w * m1 + ss;
+    let a = w.abs();
+    let scale = 1.0 + a * g + a * g + a * a * gg + ss;
+    (f, scale)
+}
