@@ -6,7 +6,7 @@ use crate::makers::{fixed, Flavour, Maker};
 use crate::rng::pow2;
 
 /// Count of kinds.
-pub const KINDS: usize = 17;
+pub const KINDS: usize = 22;
 
 /// The slip that each kind is pointed at.
 pub const SLIPS: [&str; KINDS] = [
@@ -27,6 +27,11 @@ pub const SLIPS: [&str; KINDS] = [
     "4096 designs refused",
     "4097 designs let through",
     "a pivot below 0",
+    "F at 1e-6 of the bound taken as clear",
+    "F at 1e-14 of the reference not taken as below",
+    "the star root's F at its tolerance accepted",
+    "F* at its tolerance accepted",
+    "P∞ at its tolerance taken as diffuse",
 ];
 
 impl Maker<'_> {
@@ -48,7 +53,8 @@ impl Maker<'_> {
             13 => self.spoilt_past_the_end(),
             14 => self.long_list(0),
             15 => self.long_list(1),
-            _ => self.negative_pivot(),
+            16 => self.negative_pivot(),
+            _ => self.at_tolerance_of(kind - 17),
         }
     }
 
@@ -223,10 +229,10 @@ impl Maker<'_> {
         case
     }
 
-    /// F* is 1.5 times a power of two.
+    /// F* is 1.5 times a power of two, one of those at which it shows.
     fn logarithm_at_half(&mut self) -> Case {
         let mut case = self.bare(1, 1, 1);
-        let s = self.rng.power(-20, 20);
+        let s = pow2(self.rng.pick(&[-356, -33, -23, 1, 5]));
         case.p_star = vec![s];
         case.h = vec![0.5 * s];
         case.y = vec![0.0];
