@@ -1,7 +1,7 @@
 -- Places in a matrix, and lists that loops store into, for every size; and from these to the definition's tables.
 use Prim.Native.Nat.{ℕ, zero, suc, _+_, _*_, _/_, _%_, _≤_, _<_, _-_}
-use mathlib.Core.Path.{_≡_, refl, sym, ap, _∙_, subst}
-use mathlib.Core.List.{List, _∷_}
+use mathlib.Core.Path.{_≡_, refl, sym, ap, ap₂, _∙_, subst}
+use mathlib.Core.List.{List, _∷_, _++_}
 use mathlib.Core.Logic.{_⊎_, inl, inr, ⊎-elim}
 use mathlib.Core.Bool.{Bool, true, false, cond}
 use lib.Dec.{ltb}
@@ -9,8 +9,8 @@ use borrow.Author.Tests.{ltb-true, ltb-false}
 use native.Mathlib.Omega.{arith}
 use native.Mathlib.Numerals.{add-one}
 use native.Mathlib.Nat.{mul-le-mul, mul-le-mul-right, suc-mul, mul-zero, div-add-mod', mod-lt, div-lt-iff-lt-mul, not-suc-le-zero, le-of-suc-le-suc}
-use lib.ListN.{length, getD, set, take, replicate, length-set}
-use lib.Seq.{getD-set-same, getD-set-other, ext-getD, getD-take, length-take-le, take-all}
+use lib.ListN.{length, getD, set, take, replicate, length-set, length-append, List·getD-append}
+use lib.Seq.{getD-set-same, getD-set-other, ext-getD, getD-take, length-take-le, take-all, getD-append-add}
 use lib.Ieee.{Float, nan}
 use mir.Val.{Fits}
 use mir.Syntax.{w64}
@@ -291,6 +291,31 @@ saved-vec k {n} {a} h s = s .holds ∙ ap (λ (x : ℕ). take x a) h
 pub saved-rect : (r c : ℕ) {n : ℕ} {a out : List Float} → n ≡ r * c → Saved n a out → out ≡ rect r c a
 unfolding vec rect
 saved-rect r c h s = saved-vec (r * c) h s
+
+-- a row after the others
+pub next-row : (k r : ℕ) (l out x : List Float) → r * k + k ≤ length l → k ≤ length x → out ≡ row (copied nan x) (r * k) k l → rect (r + 1) k out ≡ rect r k l ++ vec k x
+unfolding rect vec copied
+next-row k r l out x h g e =
+    let n : length out ≡ length l = ap length e ∙ length-row (copied nan x) (r * k) k l in
+    let w : (r + 1) * k ≡ r * k + k = omega arith in
+    let a : length (take (r * k) l) ≡ r * k = length-take-le (r * k) l (omega arith) in
+    let b : length (take k x) ≡ k = length-take-le k x g in
+    let o : length (take ((r + 1) * k) out) ≡ (r + 1) * k = length-take-le ((r + 1) * k) out (omega arith) in
+    ext-getD nan (take ((r + 1) * k) out) (take (r * k) l ++ take k x) (o ∙ sym (length-append (take (r * k) l) (take k x) ∙ ap₂ _+_ a b ∙ sym w))
+    (λ i q.
+    let q′ : i < (r + 1) * k = omega arith in
+    getD-take ((r + 1) * k) out i nan q′ ∙ ap (λ (y : List Float). getD y i nan) e
+    ∙ ⊎-elim
+    (λ (s : i < r * k).
+    row-before (copied nan x) (r * k) k l i nan s
+    ∙ sym (getD-take (r * k) l i nan s)
+    ∙ sym (List·getD-append (take (r * k) l) (take k x) nan i (omega arith)))
+    (λ (s : r * k ≤ i).
+    let d : i ≡ length (take (r * k) l) + (i - r * k) = omega arith in
+    row-at (copied nan x) (r * k) k l (i - r * k) nan i (omega arith) (omega arith) h
+    ∙ sym (getD-take k x (i - r * k) nan (omega arith))
+    ∙ sym (ap (λ (y : ℕ). getD (take (r * k) l ++ take k x) y nan) d ∙ getD-append-add (take (r * k) l) (take k x) (i - r * k) nan))
+    (lt-or-le i (r * k)))
 
 -- an array that is all +0.0
 pub vec-zeros : (k n : ℕ) → k ≤ n → vec k (replicate n 0ᶠ) ≡ zeros k

@@ -2,6 +2,7 @@
 // `vec m` of a vector, `mat m` of a square matrix, `rect r c` of one of r rows and c columns.
 ghost use mathlib.Core.Path.{_≡_};
 ghost use mathlib.Core.Bool.{cond};
+ghost use mathlib.Core.List.{_++_};
 ghost use Prim.Native.Nat.{_≤_, _<_, _+_, _*_};
 ghost use lib.ListN.{set, length};
 ghost use Rattle.definition.specs.Num.{isZero, absOf, _⊕_, _⊗_, at, ent, sumFrom};
@@ -447,6 +448,18 @@ pub fn row_to_vec(a: &[f64; 64], p: usize, m: usize, i: usize) -> [f64; 8]
         out[j] = a[i * m + j];
     }
     out
+}
+
+// x becomes row i of a matrix of c columns: what stands before it stays.
+pub fn put_row(a: &mut [f64; 64], x: &[f64; 8], i: usize, c: usize)
+    requires { ⌜ (i < 8) × (c ≤ 8) ⌝ }
+    ensures { λ _. ⌜ rect (i + 1) c (now (a .exit)) ≡ rect i c (now (a .entry)) ++ vec c (now (x .entry)) ⌝ }
+{
+    sized(a);
+    sized8(x);
+    for j in 0..c {
+        a[i * c + j] = x[j];
+    }
 }
 
 // ---- between a lent part and an array

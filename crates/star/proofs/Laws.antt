@@ -1,6 +1,6 @@
 -- The star root: what the calls give, put together, over plain variables.
-use Prim.Native.Nat.{ℕ, zero, suc, _+_, _*_, _-_, _≤_, _<_}
-use mathlib.Core.Path.{_≡_, refl, sym, ap, ap₂, _∙_, subst}
+use Prim.Native.Nat.{ℕ, zero, suc, _+_, _-_, _≤_, _<_}
+use mathlib.Core.Path.{_≡_, refl, sym, ap, _∙_, subst}
 use mathlib.Core.Bool.{Bool, true, false, not, _&&_, _||_, cond}
 use mathlib.Core.List.{List, [], _∷_, _++_}
 use mathlib.Core.Logic.{⊎-elim}
@@ -9,8 +9,8 @@ use native.Mathlib.Omega.{arith}
 use native.Mathlib.Numerals.{add-one}
 use borrow.Author.Tests.{ne-eqb, eq-eqb}
 use lib.ListN.{take, getD, set, replicate, length, length-append, List·getD-append}
-use lib.Seq.{getD-take, length-take-le, ext-getD, getD-append-add, take-set-lt, take-suc-set, take-suc}
-use lib.Ieee.{Float, nan}
+use lib.Seq.{getD-take, getD-append-add, take-set-lt, take-suc-set, take-suc}
+use lib.Ieee.{Float}
 use Rattle.definition.specs.Num.{_>ᶠ_, _⊕_, _⊗_, _⊘_, ent, at, 0ᶠ, 1ᶠ, isZero, matrix, tabulate}
 use Rattle.definition.specs.Dense as Dense
 use Rattle.definition.specs.Dense.{dot}
@@ -49,7 +49,7 @@ use Rattle.definition.specs.Star.{
   againOn,
 }
 use Rattle.dense.specs.Views.{vec, mat, rect}
-use Rattle.dense.proofs.Laws.{row, row-at, row-before, length-row, lt-or-le}
+use Rattle.dense.proofs.Laws.{row, lt-or-le}
 use Rattle.star.specs.Views.{Found, Joined, States, Sound, Downdated, Followed, Holds, factorOf, rootOn, placesOf, projectedAt}
 use Rattle.star.specs.declared.Factor.{Factor}
 use Rattle.star.specs.declared.StarRoot.{StarRoot}
@@ -102,31 +102,6 @@ module _ (k : ℕ) (a : List Float) (u : List Bool) (j : ℕ) (sd : Float) (i : 
 
 pub marked : (k : ℕ) (u : List Bool) (j : ℕ) → j < k → take k (set u j true) ≡ set (take k u) j true
 marked k u j h = take-set-lt k u j true h
-
--- a column after the others
-pub added : (k r : ℕ) (l out col : List Float) → r * k + k ≤ length l → k ≤ length col → out ≡ row (λ i. getD col i nan) (r * k) k l → rect (r + 1) k out ≡ rect r k l ++ vec k col
-unfolding rect vec
-added k r l out col h g e =
-    let n : length out ≡ length l = ap length e ∙ length-row (λ i. getD col i nan) (r * k) k l in
-    let w : (r + 1) * k ≡ r * k + k = omega arith in
-    let a : length (take (r * k) l) ≡ r * k = length-take-le (r * k) l (omega arith) in
-    let b : length (take k col) ≡ k = length-take-le k col g in
-    let x : length (take ((r + 1) * k) out) ≡ (r + 1) * k = length-take-le ((r + 1) * k) out (omega arith) in
-    ext-getD nan (take ((r + 1) * k) out) (take (r * k) l ++ take k col) (x ∙ sym (length-append (take (r * k) l) (take k col) ∙ ap₂ _+_ a b ∙ sym w))
-    (λ i q.
-    let q′ : i < (r + 1) * k = omega arith in
-    getD-take ((r + 1) * k) out i nan q′ ∙ ap (λ (y : List Float). getD y i nan) e
-    ∙ ⊎-elim
-    (λ (s : i < r * k).
-    row-before (λ i. getD col i nan) (r * k) k l i nan s
-    ∙ sym (getD-take (r * k) l i nan s)
-    ∙ sym (List·getD-append (take (r * k) l) (take k col) nan i (omega arith)))
-    (λ (s : r * k ≤ i).
-    let d : i ≡ length (take (r * k) l) + (i - r * k) = omega arith in
-    row-at (λ i. getD col i nan) (r * k) k l (i - r * k) nan i (omega arith) (omega arith) h
-    ∙ sym (getD-take k col (i - r * k) nan (omega arith))
-    ∙ sym (ap (λ (y : ℕ). getD (take (r * k) l ++ take k col) y nan) d ∙ getD-append-add (take (r * k) l) (take k col) (i - r * k) nan))
-    (lt-or-le i (r * k)))
 
 -- one column more, where there is one
 module _ (k : ℕ) (l c : List Float) (u : List Bool) (r : ℕ) (b : Pivot) (e : b ≡ pivotTo k l u k) where

@@ -2,7 +2,6 @@
 // It is seldom asked, so it goes by value and is small: a period that never asks pays nothing for it.
 ghost use mathlib.Core.Path.{_≡_};
 ghost use mathlib.Core.Bool.{true, not, _||_};
-ghost use mathlib.Core.List.{_++_};
 ghost use Prim.Native.Nat.{_≤_, _<_, _+_};
 ghost use lib.ListN.{take, set};
 ghost use Rattle.definition.specs.Num.{ent, isZero, matrix, tabulate};
@@ -123,17 +122,6 @@ fn take_off(a: &mut [f64; 64], col: &[f64; 8], k: usize)
     }
 }
 
-fn add_column(cols: &mut [f64; 64], col: &[f64; 8], rank: usize, k: usize)
-    requires { ⌜ (k ≤ 8) × (rank < k) ⌝ }
-    ensures { λ _. ⌜ rect (rank + 1) k (now (cols .exit)) ≡ rect rank k (now (cols .entry)) ++ vec k (now (col .entry)) ⌝ }
-{
-    let c: &mut [f64] = cols;
-    let x: &[f64] = col;
-    for a in 0..k {
-        c[rank * k + a] = x[a];
-    }
-}
-
 fn mark(used: &mut [bool; 8], k: usize, j: usize)
     requires { ⌜ (k ≤ 8) × (j < k) ⌝ }
     ensures { λ _. ⌜ take k (now (used .exit)) ≡ set (take k (now (used .entry))) j true ⌝ }
@@ -156,7 +144,7 @@ fn grow(g: Growing, k: usize) -> Growing
     let col = column(&g.left, &g.used, k, j, float::sqrt(b.best));
     take_off(&mut g.left, &col, k);
     mark(&mut g.used, k, j);
-    add_column(&mut g.cols, &col, rank, k);
+    dense::put_row(&mut g.cols, &col, rank, k);
     g.rank = rank + 1;
     g
 }
