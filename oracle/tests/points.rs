@@ -1,0 +1,423 @@
+//! The inputs of docs/DIFFERENCES.md and docs/DECISIONS.md, in the words used there, and what the call makes of each.
+//!
+//! A name and its numbers: `p m r n` the sizes; `Z T R P` matrices row by row (P is P*); `H Q` matrices, or only their diagonals; `c d a y`
+//! vectors (a is a1); `F` flags. Unless said: sizes 1, Z all 1, T the identity, no flag, readings 0, all else 0. `2^k` is a power of two.
+
+use oracle::case::{run, Case, Expected, NAN};
+use oracle::rng::pow2;
+use parts::Answer;
+use tsecon_ssm_probed::probe::Branch;
+
+fn number(word: &str) -> f64 {
+    if word == "NaN" {
+        return f64::NAN;
+    }
+    let (sign, rest) = match word.strip_prefix('-') {
+        Some(rest) => (-1.0, rest),
+        None => (1.0, word),
+    };
+    let term = |t: &str| match t.strip_prefix("2^") {
+        Some(e) => pow2(e.parse().unwrap()),
+        None => t.parse().unwrap(),
+    };
+    sign * rest.split('+').map(term).fold(0.0, |s, x: f64| s + x)
+}
+
+/// A square matrix from all its entries, or from its diagonal.
+fn square(k: usize, given: Vec<f64>) -> Vec<f64> {
+    if given.len() == k * k {
+        return given;
+    }
+    let mut a = vec![0.0; k * k];
+    for (i, x) in given.into_iter().enumerate() {
+        a[i * k + i] = x;
+    }
+    a
+}
+
+fn case(words: &str) -> Case {
+    let mut c = Case {
+        p: 1,
+        m: 1,
+        r: 1,
+        n: 1,
+        ..Case::default()
+    };
+    let mut name = "";
+    for word in words.split_whitespace() {
+        if word.starts_with(char::is_alphabetic) && word != "NaN" {
+            name = word;
+            continue;
+        }
+        let x = number(word);
+        match name {
+            "p" => c.p = x as usize,
+            "m" => c.m = x as usize,
+            "r" => c.r = x as usize,
+            "n" => c.n = x as usize,
+            "Z" => c.z.push(x),
+            "H" => c.h.push(x),
+            "T" => c.t.push(x),
+            "R" => c.rr.push(x),
+            "Q" => c.q.push(x),
+            "c" => c.c.push(x),
+            "d" => c.d.push(x),
+            "a" => c.a1.push(x),
+            "P" => c.p_star.push(x),
+            "F" => c.flags.push(x as u8),
+            "y" => c.y.push(x),
+            _ => panic!("{name}"),
+        }
+    }
+    let (p, m, r, n) = (c.p, c.m, c.r, c.n);
+    if c.z.is_empty() {
+        c.z = vec![1.0; p * m];
+    }
+    if c.t.is_empty() {
+        c.t = square(m, vec![1.0; m]);
+    }
+    c.h = square(p, c.h);
+    c.q = square(r, c.q);
+    for (part, len) in [
+        (&mut c.rr, m * r),
+        (&mut c.c, m),
+        (&mut c.d, p),
+        (&mut c.a1, m),
+        (&mut c.p_star, m * m),
+        (&mut c.y, n * p),
+    ] {
+        part.resize(len, 0.0);
+    }
+    c.flags.resize(m, 0);
+    c.lend_needed();
+    c
+}
+
+fn calls(words: &str) -> Expected {
+    run(&case(words))
+}
+
+fn refused(words: &str) -> u32 {
+    let e = calls(words);
+    assert_eq!(e.filter.unwrap_err(), e.smooth.unwrap_err());
+    e.filter.unwrap_err()
+}
+
+fn answer(e: &Expected) -> Answer {
+    e.filter.unwrap()
+}
+
+const NAMES: [&str; 13] = oracle::case::OUTPUT_NAMES;
+
+/// What stands in an output, as bits with NaNs as one; numbers in the words of a case, `inf` besides.
+fn holds(e: &Expected, name: &str, want: &str) {
+    let k = NAMES.iter().position(|&n| n == name).unwrap();
+    let bits = |w: &str| match w {
+        "NaN" => NAN,
+        _ if name == "kinds" => w.parse().unwrap(),
+        _ => number(w).to_bits(),
+    };
+    let want: Vec<u64> = want.split_whitespace().map(bits).collect();
+    let got = &e.written[k];
+    let shown: Vec<f64> = got.iter().map(|&b| f64::from_bits(b)).collect();
+    assert_eq!(got, &want, "{name} holds {shown:?}");
+}
+
+fn met(e: &Expected, b: Branch) -> bool {
+    e.hits[b as usize] > 0
+}
+
+#[test]
+fn every_input_of_the_documents_is_run() {
+    let here = include_str!("points.rs");
+    let pages = [
+        include_str!("../../docs/DIFFERENCES.md"),
+        include_str!("../../docs/DECISIONS.md"),
+    ];
+    let mut seen = 0;
+    for quoted in pages.iter().flat_map(|page| page.split('`').skip(1).step_by(2)) {
+        let Some((name, rest)) = quoted.split_once(' ') else {
+            continue;
+        };
+        let number = rest.starts_with(|c: char| c == '-' || c == 'N' || c.is_ascii_digit());
+        if name.len() == 1 && number {
+            assert!(here.contains(&format!("\"{quoted}\"")), "not run: {quoted}");
+            seen += 1;
+        }
+    }
+    assert!(seen > 50, "{seen}");
+}
+
+// ---- docs/DIFFERENCES.md
+
+#[test]
+fn difference_1_semidefiniteness_is_not_tested() {
+    assert!(calls("m 2 H 1 P 0 1 1 0").filter.is_ok());
+    let e = calls("m 2 Z 2^40 2^-40 P 0 2^1000 2^1000 0");
+    holds(&e, "kinds", "1");
+    holds(&e, "f_star", "inf");
+    let e = calls("m 2 p 2 Z 1 1 1 -1 H 0 2+2^-20 P 0 1 1 0");
+    assert!(met(&e, Branch::RankZero) && met(&e, Branch::SuspectAccepted));
+    holds(&e, "kinds", "1 1");
+    let e = calls("m 3 p 2 Z 1 0 0 0 1 1 P 1 1 1 1 1 1+2^-21 1 1+2^-21 1");
+    assert!(met(&e, Branch::SuspectRefused));
+    holds(&e, "kinds", "1 0");
+    assert_eq!(refused("m 2 H 1 P 1 1e-9 0 1"), 7);
+    assert_eq!(refused("p 2 H 1 -1e-12"), 4);
+}
+
+#[test]
+fn difference_2_q_and_h_off_the_diagonal() {
+    assert_eq!(refused("m 2 r 2 H 1 R 1 0 0 1 Q 1 0.5 0.5 1"), 5);
+    assert_eq!(refused("p 2 H 1 2 2 1"), 8);
+}
+
+#[test]
+fn difference_3_the_start_is_kept() {
+    let e = calls("m 3 Z 1 0 0 H 1 P 1 0.5 0 0.5 1 0 -0.0 0 1");
+    holds(&e, "pred_cov", "1 0.5 0 0.5 1 0 -0.0 0 1 0.5 0.25 0 0.25 0.875 0 0 0 1");
+    let e = calls("m 2 H 1 P 2^1023 2^1023 2^1023 2^1023 y NaN");
+    assert_eq!(e.written[1][..4], [pow2(1023).to_bits(); 4]);
+    holds(&calls("H 1 a -0.0 y NaN"), "filt_mean", "-0.0");
+}
+
+#[test]
+fn difference_6_sums_start_from_plus_zero() {
+    let e = calls("H 1 P 1 a -0.0 y -0.0");
+    holds(&e, "v", "-0.0");
+    holds(&e, "filt_mean", "-0.0");
+}
+
+#[test]
+fn difference_8_a_nan_scale_is_carried_on() {
+    let e = calls("m 2 n 2 Z 1 0 H 1 T 2^600 0 2^600 0 P 1 0 0 1");
+    holds(&e, "kinds", "1 0");
+}
+
+#[test]
+fn difference_9_the_logarithm() {
+    assert_eq!(answer(&calls("H 0.01")).loglik, 1.3836465597893732);
+}
+
+#[test]
+fn difference_12_the_order_of_refusals() {
+    // Z has NaN and H a wrong length; n is 0 and H not diagonal.
+    let mut c = case("Z NaN H 1");
+    c.h.push(1.0);
+    assert_eq!(run(&c).filter.unwrap_err(), 2);
+    let mut c = case("p 2 H 1 2 2 1");
+    c.n = 0;
+    c.y.clear();
+    assert_eq!(run(&c).filter.unwrap_err(), 1);
+}
+
+// ---- docs/DECISIONS.md: lengths and refusals
+
+#[test]
+fn decision_1_and_2_lists_of_designs() {
+    let listed = |count: usize, last: f64| {
+        let mut c = case("H 1 P 1 y 2");
+        c.z.clear();
+        c.zs = vec![1.0; count];
+        *c.zs.last_mut().unwrap() = last;
+        run(&c).filter
+    };
+    assert!(listed(4096, 1.0).is_ok());
+    assert_eq!(listed(4097, 1.0).unwrap_err(), 2);
+    assert_eq!(listed(2, f64::NAN).unwrap_err(), 3);
+    let mut c = case("m 2 H 1");
+    c.z.clear();
+    c.zs = vec![1.0; 3];
+    assert_eq!(run(&c).filter.unwrap_err(), 2);
+}
+
+#[test]
+fn decision_3_short_outputs() {
+    for k in 0..13 {
+        let mut c = case("H 1 P 1 y 2");
+        c.lent[k] -= 1;
+        let e = run(&c);
+        assert_eq!(e.filter.is_err(), k < 11);
+        assert_eq!(e.smooth.unwrap_err(), 2);
+    }
+}
+
+#[test]
+fn decision_4_refusal_12_blanks() {
+    let mut c = case("y 1");
+    for l in &mut c.lent {
+        *l += 1;
+    }
+    // `run` itself checks that the last place keeps what was lent.
+    let e = run(&c);
+    assert_eq!(e.filter.unwrap_err(), 12);
+    assert!(e.written.iter().flatten().all(|&w| w == 0));
+    holds(&e, "sm_cov", "0");
+}
+
+#[test]
+fn decision_5_all_gaps() {
+    let a = answer(&calls("H 1 P 1 y NaN"));
+    assert_eq!((a.loglik.to_bits(), a.heard, a.news), (0, 0, 0));
+}
+
+#[test]
+fn decision_6_minus_zero_is_zero() {
+    assert!(calls("p 2 r 2 H -0.0 -0.0 -0.0 1 Q -0.0 -0.0 -0.0 -0.0 P 1").filter.is_ok());
+    assert!(calls("m 2 H 1 T 1 -0.0 0 1 a -0.0 0 P -0.0 0 -0.0 1 F 1 0").filter.is_ok());
+    assert!(calls("m 2 H 1 T 1 0 -0.0 1 F 1 0").filter.is_ok());
+}
+
+#[test]
+fn decision_7_noise_after_symmetrising() {
+    assert_eq!(refused("m 2 H 1 R 1 1 Q 2^1023"), 11);
+    assert!(calls("H 1 R 1 Q 2^1023").filter.is_ok());
+}
+
+#[test]
+fn decision_8_any_nan_is_a_gap() {
+    for bits in [0x7FF0_0000_0000_0001, 0xFFFF_FFFF_FFFF_FFFF, NAN] {
+        let mut c = case("H 1 P 1");
+        c.y[0] = f64::from_bits(bits);
+        assert_eq!(run(&c).filter.unwrap().heard, 0);
+    }
+}
+
+// ---- forward
+
+#[test]
+fn decision_10_the_sum_of_squares() {
+    let e = calls("m 2 n 2 Z 1 0 H 1 T 2^600 -2^600 2^600 2^600 F 1 1 y NaN 2");
+    holds(&e, "pred_inf", "1 0 0 1 0 0 0 0 0 0 0 0");
+    assert_eq!(answer(&e).d_diffuse, 1);
+    let e = calls("n 2 Z 0 H 1 T 2^600 F 1");
+    holds(&e, "pred_inf", "1 inf inf");
+    assert_eq!(answer(&e).d_diffuse, 2);
+}
+
+#[test]
+fn decision_11_symmetrising_and_place_n() {
+    holds(&calls("m 2 Z 0 1 F 1 1 P 0 0 -0.0 0"), "filt_cov", "0 0 0 0");
+    let e = calls("m 2 Z 1 3 T 0 0 1 1 F 1 1");
+    holds(&e, "pred_inf", "1 0 0 1 0 0 0 0.4");
+    let e = calls("m 2 Z 0 0 H 1 T 2^1023 0 1 0 P 1 0 0 0");
+    holds(&e, "pred_cov", "1 0 0 0 inf inf inf 1");
+    let e = calls("m 2 Z 1 2 T 0 3 1 1 F 1 1");
+    assert_eq!(e.written[2][5], e.written[2][6]);
+    let e = calls("m 2 n 2 Z 0 1 T 0 -2^1023 1 1 F 1 1");
+    holds(&e, "kinds", "2 2");
+    holds(&calls("H 1 T 2^-9 F 1 y NaN"), "pred_inf", "1 2^-18");
+}
+
+#[test]
+fn decision_12_a_diffuse_update_is_an_update() {
+    let e = calls("p 2 n 2 Z 1 2^500 H 0 1 R 1 Q 1 F 1 y NaN NaN 0 0");
+    assert!(met(&e, Branch::Below));
+    holds(&e, "kinds", "0 0 2 0");
+}
+
+#[test]
+fn decision_13_a_suspect_of_a_diffuse_period() {
+    let e = calls("m 4 p 2 Z 1 0 0 0 0 1 1 0 P 1 1 1 0 1 1 1+2^-21 0 1 1+2^-21 1 0 0 0 0 0 F 0 0 0 1");
+    assert!(met(&e, Branch::SuspectDiffuse));
+    holds(&e, "kinds", "1 1");
+    let e = calls("m 2 p 3 Z 1 0 0 1 1 1 H 2^-40 0 0 T 0 0 0 0 P 0 0 0 1 F 1 0");
+    assert!(met(&e, Branch::SuspectDiffuse));
+    holds(&e, "kinds", "2 1 1");
+}
+
+#[test]
+fn decision_14_bound_leaves_nothing_out() {
+    let e = calls("m 3 p 3 n 2 Z 1 1 0 1 1 0 0 0 1 H 0 2^-30 0 T 1 0 0 0 1 0 0 0 2^600 P 0 1 0 1 0 0 0 0 1 y NaN NaN NaN 0 0 NaN");
+    assert!(met(&e, Branch::BoundNan));
+    holds(&e, "kinds", "0 0 0 1 0 0");
+}
+
+#[test]
+fn decision_15_abs_quad_form() {
+    let e = calls("m 2 n 2 Z 1 0 T 2 1 2^1023 0 F 1 1");
+    holds(&e, "kinds", "2 0");
+    let e = calls("m 2 p 2 Z 0 2^-500 1 0 H 1 0 T 0 0 0 0 P 1 0 0 0 F 0 1");
+    holds(&e, "kinds", "2 1");
+    assert_eq!(refused("Z 2^600 H 1 F 1"), 12);
+}
+
+#[test]
+fn decision_16_what_is_left_out() {
+    holds(&calls("Z 2^-500 H 1 F 1"), "sm_mean", "NaN");
+    holds(&calls("Z 0 H 1 a -0.0"), "filt_mean", "0");
+    holds(&calls("n 2 Z 0 H 1 T 2^1023 F 1"), "sm_mean", "0 0");
+}
+
+#[test]
+fn decision_17_the_support() {
+    let e = calls("m 2 p 2 Z 1 0 1 2^-15 P 1 0 0 1");
+    assert!(met(&e, Branch::SuspectAccepted));
+    holds(&e, "kinds", "1 1");
+    // The third element is a gap, and its row counts.
+    let e = calls("m 2 p 3 n 2 Z 1 0 1 0 0 1 H 2^-40 0 0 T 1 0 0 2^600 P 1 0 0 1 y NaN NaN NaN 0 0 NaN");
+    assert!(met(&e, Branch::SuspectRefused));
+    holds(&e, "kinds", "0 0 0 1 0 0");
+}
+
+#[test]
+fn decision_18_the_star_root_keeps_its_rank() {
+    let e = calls("m 2 p 2 H 2^-1068 0 P 2^-1030 2^-1030 2^-1030 2^-1030");
+    assert!(met(&e, Branch::RankShort) && met(&e, Branch::SuspectAccepted));
+    holds(&e, "kinds", "1 1");
+}
+
+#[test]
+fn decision_20_downdate_returns_early() {
+    let e = calls("m 3 p 3 Z 1 1 0 0 0 1 0 0 1 H 0 2^-40 0 P 0 1 0 1 0 0 0 0 1");
+    assert!(met(&e, Branch::DowndateEarly));
+    holds(&e, "kinds", "1 1 1");
+}
+
+#[test]
+fn decision_21_pivots() {
+    // An infinite one is chosen.
+    let e = calls("m 2 p 3 n 2 Z 1 0 1 0 0 1 H 2^-40 0 0 T 1 0 0 2^600 P 1 0 0 1 y NaN NaN NaN 0 0 NaN");
+    holds(&e, "kinds", "0 0 0 1 0 0");
+    // A NaN is not.
+    let e = calls("m 3 p 3 n 2 Z 1 0 0 1 0 0 0 1 0 H 2^-40 0 0 T 1 0 0 0 2^600 2^600 0 0 0 P 1 0 0 0 4 -2 0 -2 1 y NaN NaN NaN 0 0 NaN");
+    holds(&e, "kinds", "0 0 0 1 1 0");
+    // The lowest index on a tie.
+    let e = calls("m 3 p 2 Z -1 1 1 -1 1 1+2^-15 P 1 0 1 0 1 1 1 1 1");
+    assert!(met(&e, Branch::PivotTie));
+    holds(&e, "kinds", "1 1");
+}
+
+#[test]
+fn decision_22_grouping() {
+    holds(&calls("Z 0.1 H 1 d 1 a 1 y 1"), "v", "-0.1");
+    assert_eq!(answer(&calls("Z 0 H 3 y 1")).loglik, -1.6349113442053944);
+    let e = calls("Z 2^511 P 1 a 2");
+    assert_eq!(answer(&e).loglik, f64::NEG_INFINITY);
+    holds(&calls("Z 1.5137382941684145 H 1 F 1"), "filt_cov", "0.4364137290616456");
+    holds(&calls("Z 2^-500 F 1"), "sm_cov", "0");
+    holds(&calls("Z 3 H 1 P 1"), "sm_cov", "0.09999999999999987");
+    let e = calls("p 2 H 2^1000 0 P 2^1023");
+    holds(&e, "kinds", "1 1");
+    let e = calls("m 2 Z 1 2 T 1 1 0 0 c 1 0 d 1 F 1 1");
+    holds(&e, "pred_mean", "0 0 0.3999999999999999 0");
+}
+
+// ---- backward
+
+#[test]
+fn decision_23_a_usual_element_of_a_diffuse_period() {
+    let e = calls("m 2 p 2 n 2 Z 0 1 2^-40 1 H 1 0 T 0 0 1 1 c 1 0 F 1 1");
+    holds(&e, "sm_mean", "-2^-40 0 1 -2^-40");
+    let e = calls("m 2 p 2 n 2 Z 2 1 2 1 H 1 1 T 0 0 1 0 F 1 1");
+    holds(&e, "sm_cov", "0.5 -1 -1 2.5000000000000013 0 0 0 0.49999999999999994");
+}
+
+// ---- numbers
+
+#[test]
+fn decision_24_the_tolerances() {
+    assert_eq!(1e-10f64.to_bits(), 0x3DDB_7CDF_D9D7_BDBB);
+    assert_eq!(1e-14f64.to_bits(), 0x3D06_849B_86A1_2B9B);
+    assert_eq!(1e-6f64.to_bits(), 0x3EB0_C6F7_A0B5_ED8D);
+}
