@@ -1,21 +1,26 @@
 -- The counts of an answered call, the filter's or the smoother's: heard is the number of readings that are not NaN, news the number of records that are
 -- not skipped, and d_diffuse the number of diffuse periods, which are the first ones.
-use mathlib.Core.Path.{_≡_, refl, sym, ap, _∙_}
-use Prim.Native.Nat.{ℕ, zero, suc, _+_, _*_, _<_}
+use mathlib.Core.Path.{_≡_, refl, sym, ap, ap₂, _∙_}
+use Prim.Native.Nat.{ℕ, zero, suc, _+_, _*_, _≤_, _<_}
+use native.Mathlib.Nat.{le-refl}
 use native.Mathlib.Omega.{arith}
-use mathlib.Core.Bool.{Bool, true, false, not, cond}
+use mathlib.Core.Bool.{Bool, true, false, not, cond, _&&_}
 use mathlib.Core.List.{List, [], _∷_, map}
 use lib.Dec.{ltb, eqb}
-use lib.ListN.{length, getD, take, drop, replicate, length-map}
+use lib.ListN.{length, getD, take, drop, replicate, getD-replicate, length-map}
 use lib.Seq.{take-at}
-use lib.Ieee.{Float, isNan}
-use Rattle.definition.specs.Run.{count, join}
-use Rattle.definition.specs.Cov.{CovPeriod, period, covRun}
-use Rattle.definition.specs.Inputs.{Model, Offsets, kindOf, systemOf, startOf, gapRows}
+use lib.Ieee.{Float, nan, isNan}
+use Rattle.definition.specs.Num.{_⊕_, _⊗_, _>ᶠ_, 0ᶠ, rank-tol, zeros, sumFrom}
+use Rattle.definition.specs.Dense.{sqTerm, sqTo, frobSq}
+use Rattle.definition.specs.Run.{scan, count, join}
+use Rattle.definition.specs.Cov.{System, Cov, CovPeriod, isLive, entered, ended, periodOf, period, covRun}
+use Rattle.definition.specs.Inputs.{Model, Offsets, kindOf, systemOf, startOf, gapRows, systemFrom}
 use Rattle.definition.specs.Parts.{kindNo}
 use Rattle.definition.specs.Outcome.{CovParts, MeanParts, CovOutcome, Counts, Fate, answered, fateOf, numberOf, fate, after, countsIn, kindsNeed, kindsWritten, covOf, countsOf, decisionsOf, roomy, roomySmoothed, covOutcome, outcome, outcomeAt, smoothOutcome, smoothOutcomeAt}
+use Rattle.definition.specs.Computed.{opened}
 use Rattle.definition.specs.Tracks.{heard-is}
-use Rattle.laws.specs.Lists.{length-join, length-chunks}
+use Rattle.laws.specs.Lists.{length-join, length-chunks, place-lt}
+use Rattle.laws.specs.ReadBack.{AllOf}
 use Rattle.laws.specs.Shapes.{run-whole, run-length, first-ones, period-first}
 use Rattle.demands.specs.Unheard.{answered-by, readings-fit, each-many, kinds-join, noPeriod}
 
@@ -29,6 +34,60 @@ pub record Totals (x : Model) (y : List Float) (c : CovOutcome) : Type 0 where
   pub dDiffuse : c .counts .dDiffuse ≡ count (λ (c : CovPeriod). c .diffuse) (periodsOf x y)
   -- period t is diffuse exactly when t is below that count
   pub firsts : (t : ℕ) → t < x .n → getD (periodsOf x y) t noPeriod .diffuse ≡ ltb t (c .counts .dDiffuse)
+  -- and exactly when the diffuse covariance that is stored for it has a sum of squares above 1e-10
+  pub shown : AllOf (λ (c : CovPeriod). c .diffuse ≡ (frobSq (x .m) (c .predInf) >ᶠ rank-tol)) (periodsOf x y)
+
+-- ---- a period that is not diffuse stores zeros, whose sum of squares is 0
+
+zero-plus : 0ᶠ ⊕ 0ᶠ ≡ 0ᶠ
+unfolding opened
+zero-plus = refl
+
+zero-times : 0ᶠ ⊗ 0ᶠ ≡ 0ᶠ
+unfolding opened
+zero-times = refl
+
+zero-low : (0ᶠ >ᶠ rank-tol) ≡ false
+unfolding opened
+zero-low = refl
+
+zero-sum : (f : ℕ → Float) (k : ℕ) → ((i : ℕ) → i < k → f i ≡ 0ᶠ) → sumFrom 0ᶠ k f ≡ 0ᶠ
+unfolding sumFrom
+zero-sum f zero h = refl
+zero-sum f (suc k) h = ap₂ _⊕_ (zero-sum f k (λ i l. h i (omega arith))) (h k (omega arith)) ∙ zero-plus
+
+sq-zeros : (m k : ℕ) → k ≤ m → sqTo m (zeros (m * m)) k ≡ 0ᶠ
+unfolding sqTo sqTerm
+sq-zeros m zero l = refl
+sq-zeros m (suc k) l =
+    ap (λ (s : Float). sumFrom s m (sqTerm m (zeros (m * m)) k)) (sq-zeros m k (omega arith))
+    ∙ zero-sum
+    (sqTerm m (zeros (m * m)) k)
+    m
+    (λ i h. let e = getD-replicate (m * m) (i * m + k) 0ᶠ nan (place-lt m m i k h l) in ap₂ _⊗_ e e ∙ zero-times)
+
+washed : (m : ℕ) → (frobSq m (zeros (m * m)) >ᶠ rank-tol) ≡ false
+unfolding frobSq
+washed m = ap (λ (s : Float). s >ᶠ rank-tol) (sq-zeros m m (le-refl m)) ∙ zero-low
+
+stored : (m : ℕ) (live q : Bool) (pinf : List Float) → (frobSq m pinf >ᶠ rank-tol) ≡ q → (live && q) ≡ (frobSq m (entered m (live && q) pinf) >ᶠ rank-tol)
+unfolding entered
+stored m true true pinf e = sym e
+stored m true false pinf e = sym (washed m)
+stored m false q pinf e = sym (washed m)
+
+period-shown : (y : System) (t : ℕ) (c : Cov) (gaps : List Bool)
+    → period y t c gaps .0 .diffuse ≡ (frobSq (y .m) (period y t c gaps .0 .predInf) >ᶠ rank-tol)
+unfolding periodOf ended isLive
+period-shown y t c gaps = stored (y .m) (c .live) (frobSq (y .m) (c .pinf) >ᶠ rank-tol) (c .pinf) refl
+
+all-shown : (y : System) (gs : List (List Bool)) (t : ℕ) (c : Cov)
+    → AllOf (λ (c : CovPeriod). c .diffuse ≡ (frobSq (y .m) (c .predInf) >ᶠ rank-tol)) (scan (period y) t c gs .0)
+unfolding scan
+all-shown y [] t c = tt
+all-shown y (g ∷ gs) t c = (period-shown y t c g, all-shown y gs (suc t) (period y t c g .1))
+
+-- ---- the counts
 
 none-refused : (r : ℕ) (q : Bool) → numberOf (fateOf r q) ≡ 0 → fateOf r q ≡ answered
 unfolding fateOf numberOf
@@ -75,6 +134,10 @@ module _ (x : Model) (o : Offsets) (y : List Float) (b : CovParts) (room : Bool)
   diffuse-first t h =
       first-ones (period (systemOf x)) (period-first (systemOf x)) noPeriod (gapRows (x .n) (x .p) (map kindOf y)) 0 (startOf x) t (rw rows h)
 
+  run-shown : AllOf (λ (c : CovPeriod). c .diffuse ≡ (frobSq (x .m) (c .predInf) >ᶠ rank-tol)) (periodsOf x y)
+  unfolding covOf covRun systemOf systemFrom
+  run-shown = all-shown (systemOf x) (gapRows (x .n) (x .p) (map kindOf y)) 0 (startOf x)
+
   total : Totals x y (covOutcome x (fate x o (map kindOf y) room) (map kindOf y) b)
   unfolding covOutcome countsOf after
   total =
@@ -90,6 +153,7 @@ module _ (x : Model) (o : Offsets) (y : List Float) (b : CovParts) (room : Bool)
             (ap (λ (f : Fate). take (kindsNeed x) (after f w (replicate (kindsNeed x) 0) (b .kinds))) ok
             ∙ take-at w (drop (length w) (b .kinds)) (kindsNeed x) written));
         dDiffuse = ap (λ (l : Counts). l .dDiffuse) counted;
+        shown = run-shown;
         firsts = λ t h. sym (diffuse-first t h) ∙ ap (λ (l : Counts). ltb t (l .dDiffuse)) (sym counted);
       }
 
