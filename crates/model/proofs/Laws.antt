@@ -6,17 +6,19 @@ use Prim.Native.Nat.{ℕ, _+_, _*_, _≤_, _<_}
 use native.Mathlib.Omega.{arith}
 use native.Mathlib.Nat.{mul-le-mul}
 use lib.ListN.{length}
+use lib.Dec.{eqb}
 use lib.Ieee.{Float, nan, inf, fin}
 use Rattle.definition.specs.Num.{isInfinite}
 use Rattle.definition.specs.Run.{anyOf}
 use Rattle.definition.specs.Dense.{product, transpose, symmetrise}
-use Rattle.definition.specs.Inputs.{isInfinity, kindOf, noiseOf}
+use Rattle.definition.specs.Inputs.{isInfinity, kindOf, noiseOf, startInf, startRoot, startFrom}
 use Rattle.laws.specs.Lists.{place-lt}
 use Rattle.laws.specs.Any.{of-cong, of-map}
 use Rattle.laws.specs.Accepted.{InRange}
 use Rattle.dense.specs.Views.{vec, rect}
 use Rattle.dense.proofs.Laws.{loaded-rect}
-use Rattle.model.specs.Places.{Place, NoiseFits}
+use Rattle.model.specs.Places.{Place, NoiseFits, StartFits}
+use Rattle.model.specs.Start.{covOf}
 
 pub product-most : {a b : ℕ} → a ≤ 8 → b ≤ 8 → a * b ≤ 64
 product-most {a} {b} h g = mul-le-mul {n₁ = a} {m₁ = b} {n₂ = 8} {m₂ = 8} h g
@@ -81,3 +83,9 @@ noise-is m r {rr} {q} a b rq x out f ea eb e1 e2 e3 =
     let la : rect m r a ≡ rr = loaded-rect m r (length rr) a (f .rr) ea in
     let lb : rect r r b ≡ q = loaded-rect r r (length q) b (f .q) eb in
     cc
+
+-- the start, of an array that holds P*
+pub started : (m : ℕ) {p* : List Float} (flags : List ℕ) (star p∞ root : List Float) {live : Bool} → StartFits m (length p*) (length flags) → vec (length p*) star ≡ p* → rect m m p∞ ≡ startInf m flags
+    → rect m m root ≡ startRoot m flags → live ≡ anyOf (eqb 1) flags → covOf m star p∞ root p∞ live ≡ startFrom m p* flags
+unfolding startFrom
+started m {p*} flags star p∞ root {live} f e i r a = let l : rect m m star ≡ p* = loaded-rect m m (length p*) star (f .p*) e in cc

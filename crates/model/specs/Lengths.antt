@@ -1,13 +1,13 @@
 -- Refusal 2 over numbers: the lengths of the lent parts, and that they are the definition's tests.
-use mathlib.Core.Path.{_≡_, refl}
+use mathlib.Core.Path.{_≡_, refl, sym, ap, _∙_}
 use Prim.Native.Nat.{ℕ, _+_, _*_}
-use mathlib.Core.Bool.{Bool, _&&_}
+use mathlib.Core.Bool.{Bool, true, false, _&&_}
 use mathlib.Core.List.{List}
 use lib.ListN.{length}
 use lib.Dec.{eqb, leb}
 use lib.Ieee.{Float}
 use Rattle.definition.specs.Inputs.{Model, Offsets}
-use Rattle.definition.specs.Refusals.{designFits, inputsFit}
+use Rattle.definition.specs.Refusals.{outside, designFits, inputsFit, firstOf, tests, refusal}
 use Rattle.definition.specs.Parts.{predCov, predInf, filtCov, fStar, fInf, mStar, mInf, predMean, filtMean, innovations}
 use Rattle.definition.specs.Outcome.{CovParts, MeanParts, kindsNeed, covNeed, meanNeed, smoothedCovNeed, smoothedMeanNeed, roomy, roomySmoothed}
 
@@ -41,3 +41,27 @@ rooms-are x b b′ = refl
 pub rooms-smoothed-are : (x : Model) (b : CovParts) (b′ : MeanParts) (sc sm : List Float) → roomySmoothed x b b′ sc sm ≡ roomsSmoothed (x .m) (x .n) (roomy x b b′) (length sm) (length sc)
 unfolding roomySmoothed smoothedCovNeed smoothedMeanNeed roomsSmoothed
 rooms-smoothed-are x b b′ sc sm = refl
+
+-- ---- what the code's `room` and `room_smoothed` do for the refusal's number
+
+-- out of range, refusal 1 comes first: the room is not asked
+room-unseen : (x : Model) (o : Offsets) (readings : ℕ) (infinity : Bool) {room room′ : Bool} → (outside (x .p) (x .m) (x .r) (x .n) ≡ false → room ≡ room′) → refusal x o readings infinity room ≡ refusal x o readings infinity room′
+unfolding refusal tests firstOf
+room-unseen x o readings infinity {room} {room′} h = by-test (outside (x .p) (x .m) (x .r) (x .n)) refl
+  where
+    by-test : (t : Bool) → outside (x .p) (x .m) (x .r) (x .n) ≡ t → refusal x o readings infinity room ≡ refusal x o readings infinity room′
+    by-test true e = rw e refl
+    by-test false e = ap (refusal x o readings infinity) (h e)
+
+module _ (x : Model) (o : Offsets) (readings : ℕ) (infinity : Bool) (b : CovParts) (b′ : MeanParts) where
+  -- what `room` ensures
+  abbrev pub Room : Bool → Type 0
+  Room room = outside (x .p) (x .m) (x .r) (x .n) ≡ false → room ≡ rooms (x .p) (x .m) (x .n) (length (b′ predMean)) (length (b .part predCov)) (length (b .part predInf)) (length (b′ filtMean)) (length (b .part filtCov)) (length (b .kinds)) (length (b′ innovations)) (length (b .part fStar)) (length (b .part fInf)) (length (b .part mStar)) (length (b .part mInf))
+
+  pub by-room : {room : Bool} → Room room → refusal x o readings infinity room ≡ refusal x o readings infinity (roomy x b b′)
+  by-room h = room-unseen x o readings infinity (λ e. h e ∙ sym (rooms-are x b b′))
+
+  -- and `room_smoothed`
+  pub by-room-smoothed : (sm sc : List Float) {room both : Bool} → Room room → (outside (x .p) (x .m) (x .r) (x .n) ≡ false → both ≡ roomsSmoothed (x .m) (x .n) room (length sm) (length sc)) → refusal x o readings infinity both ≡ refusal x o readings infinity (roomySmoothed x b b′ sc sm)
+  by-room-smoothed sm sc h g =
+      room-unseen x o readings infinity (λ e. g e ∙ ap (λ (w : Bool). roomsSmoothed (x .m) (x .n) w (length sm) (length sc)) (h e ∙ sym (rooms-are x b b′)) ∙ sym (rooms-smoothed-are x b b′ sc sm))

@@ -2,3 +2,4 @@ pub mod Given
 pub mod Lengths
 pub mod Design
 pub mod Places
+pub mod Start

@@ -25,3 +25,9 @@ pub record NoiseFits (m r size-rr size-q : ℕ) : Type 0 where
   pub r8 : r ≤ 8
   pub rr : size-rr ≡ m * r
   pub q : size-q ≡ r * r
+
+-- P* of m by m, and a flag for each state
+pub record StartFits (m size-p* size-flags : ℕ) : Type 0 where
+  pub m8 : m ≤ 8
+  pub p* : size-p* ≡ m * m
+  pub flags : size-flags ≡ m

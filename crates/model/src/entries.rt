@@ -77,7 +77,7 @@ fn entry(a: &[f64], k: usize, i: usize, j: usize) -> f64
     a[i * k + j]
 }
 
-fn is_flagged(flags: &[u8], i: usize) -> bool
+pub fn is_flagged(flags: &[u8], i: usize) -> bool
     requires { ⌜ i < length (now flags) ⌝ }
     ensures { λ r. ⌜ r ≡ isFlagged (now (flags .entry)) i ⌝ }
 {

@@ -4,15 +4,17 @@ ghost use mathlib.Core.List.{map};
 ghost use Prim.Native.Nat.{_<_, _-_, _*_, _/_, min};
 ghost use lib.ListN.{length};
 ghost use Rattle.definition.specs.Run.{anyOf};
-ghost use Rattle.definition.specs.Inputs.{designFrom, noiseOf, isInfinity, kindOf};
+ghost use Rattle.definition.specs.Inputs.{designFrom, noiseOf, startFrom, isInfinity, kindOf};
 ghost use Rattle.definition.specs.Refusals.{notFinite, refusal};
 ghost use Rattle.dense.specs.Views.{mat};
 ghost use Rattle.model.specs.Given.{modelOf, offsetsOf};
 ghost use Rattle.model.specs.Design.{DesignFits};
-ghost use Rattle.model.specs.Places.{NoiseFits};
+ghost use Rattle.model.specs.Places.{NoiseFits, StartFits};
+ghost use Rattle.model.specs.Start.{covOf};
 
+mod diffuse; // P∞ and its root
+mod entries; // refusals 3 to 10
 pub mod lengths; // refusals 1 and 2
-pub mod entries; // refusals 3 to 10
 
 // ---- the checks
 
@@ -148,4 +150,26 @@ fn bad_noise(rr: &[f64], q: &[f64], m: usize, r: usize) -> bool
     dense::sized(&a);
     let e = m * m;
     entries::not_finite(&a[0..e])
+}
+
+// ---- the start
+
+// P* as given, P∞ and its root by the flags, and P∞ with nothing resolved; whether a state is diffuse.
+pub fn start(
+    p_star: &[f64],
+    flags: &[u8],
+    m: usize,
+    star: &mut [f64; 64],
+    p_inf: &mut [f64; 64],
+    root: &mut [f64; 64],
+    unres: &mut [f64; 64],
+) -> bool
+    requires { ⌜ StartFits m (length (now «p_star»)) (length (now flags)) ⌝ }
+    ensures { λ live. ⌜ covOf m (now (star .exit)) (now («p_inf» .exit)) (now (root .exit)) (now (unres .exit)) live ≡ startFrom m (now («p_star» .entry)) (now (flags .entry)) ⌝ }
+{
+    *star = dense::load64(p_star);
+    *p_inf = diffuse::diffuse_cov(flags, m);
+    *unres = *p_inf;
+    *root = diffuse::diffuse_root(flags, m);
+    diffuse::any_flag(flags)
 }
