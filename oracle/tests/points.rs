@@ -368,6 +368,13 @@ fn decision_18_the_star_root_keeps_its_rank() {
 }
 
 #[test]
+fn decision_19_used_rows() {
+    let e = calls("m 2 p 2 n 3 Z 2^-600 0 2^-1050 0.5 H 0 2^11 T 2^43 -1 1 -1 P 2^-30 2^-20 2^-20 1");
+    assert!(met(&e, Branch::SuspectRefused));
+    holds(&e, "kinds", "0 1 0 1 1 0");
+}
+
+#[test]
 fn decision_20_downdate_returns_early() {
     let e = calls("m 3 p 3 Z 1 1 0 0 0 1 0 0 1 H 0 2^-40 0 P 0 1 0 1 0 0 0 0 1");
     assert!(met(&e, Branch::DowndateEarly));
