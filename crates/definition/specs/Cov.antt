@@ -12,7 +12,7 @@ use Rattle.definition.specs.Root.{sqrtOf}
 use Rattle.definition.specs.Star.{againOf}
 use Rattle.definition.specs.Run.{scan}
 
--- what the covariances go by. H is p by p, all else m by m.
+-- what the covariances go by. A design is p by m, H is p by p, all else m by m.
 pub record System : Type 0 where
   pub p : ℕ
   pub m : ℕ
