@@ -4,8 +4,8 @@ use mathlib.Core.Path.{_≡_, refl, sym, ap, ap₂, _∙_, subst}
 use mathlib.Core.List.{List, _∷_, _++_}
 use mathlib.Core.Logic.{_⊎_, inl, inr, ⊎-elim}
 use mathlib.Core.Bool.{Bool, true, false, cond}
-use lib.Dec.{ltb}
-use borrow.Author.Tests.{ltb-true, ltb-false}
+use lib.Dec.{ltb, eqb}
+use borrow.Author.Tests.{ltb-true, ltb-false, eqb-true, eqb-false}
 use native.Mathlib.Omega.{arith}
 use native.Mathlib.Numerals.{add-one}
 use native.Mathlib.Nat.{mul-le-mul, mul-le-mul-right, suc-mul, mul-zero, div-add-mod', mod-lt, div-lt-iff-lt-mul, not-suc-le-zero, le-of-suc-le-suc}
@@ -170,21 +170,38 @@ vec-row g m l out h e =
     let q : i < m = omega arith in
     getD-take m out i nan q ∙ ap (λ (x : List Float). getD x i nan) e ∙ row-at g 0 m l i nan i (omega arith) q (omega arith) ∙ sym (vector-at m i g q))
 
-pub rect-grid : (f : ℕ → ℕ → Float) (r c : ℕ) (l out : List Float) → r * c ≤ length l → out ≡ grid f c r l → rect r c out ≡ matrix r c f
+-- a matrix is known by its entries
+pub rect-by : (f : ℕ → ℕ → Float) (r c : ℕ) (out : List Float) → r * c ≤ length out → ((i j : ℕ) → i < r → j < c → ent c out i j ≡ f i j) → rect r c out ≡ matrix r c f
 unfolding rect tabFrom
-rect-grid f r zero l out h e = rw mul-zero
-rect-grid f r (suc d) l out h e =
+rect-by f r zero out h e = rw mul-zero
+rect-by f r (suc d) out h e =
     let c = suc d in
-    let n : length out ≡ length l = ap length e ∙ length-grid f c r l in
-    let k : length (take (r * c) out) ≡ r * c = length-take-le (r * c) out (omega arith) in
+    let k : length (take (r * c) out) ≡ r * c = length-take-le (r * c) out h in
     ext-getD nan (take (r * c) out) (matrix r c f) (k ∙ sym (length-tab (r * c) 0 (λ k. f (k / c) (k % c))))
     (λ x b.
     let q : x < r * c = omega arith in
     let hi : x / c < r = div-lt-iff-lt-mul {k = c} (omega arith) .1 q in
     let hj : x % c < c = mod-lt x (omega arith) in
-    getD-take (r * c) out x nan q ∙ ap (λ (y : List Float). getD y x nan) e
-    ∙ subst (λ (y : ℕ). getD (grid f c r l) y nan ≡ at (matrix r c f) y) (div-add-mod' x c)
-    (grid-at f c r l (x / c) (x % c) nan hi hj h ∙ sym (matrix-at r c (x / c) (x % c) f hi hj)))
+    getD-take (r * c) out x nan q
+    ∙ subst (λ (y : ℕ). getD out y nan ≡ at (matrix r c f) y) (div-add-mod' x c)
+    (e (x / c) (x % c) hi hj ∙ sym (matrix-at r c (x / c) (x % c) f hi hj)))
+
+pub rect-grid : (f : ℕ → ℕ → Float) (r c : ℕ) (l out : List Float) → r * c ≤ length l → out ≡ grid f c r l → rect r c out ≡ matrix r c f
+rect-grid f r c l out h e =
+    rect-by f r c out (omega (arith, ap length e, length-grid f c r l)) (λ i j hi hj. ap (λ (y : List Float). ent c y i j) e ∙ grid-at f c r l i j nan hi hj h)
+
+pub rect-self : (r c : ℕ) (l : List Float) → r * c ≤ length l → rect r c l ≡ matrix r c (λ i j. ent c (rect r c l) i j)
+rect-self r c l h = rect-by (λ i j. ent c (rect r c l) i j) r c l h (λ i j hi hj. sym (rect-at r c i j l hi hj))
+
+pub vec-self : (k : ℕ) (l : List Float) → k ≤ length l → vec k l ≡ tabulate k (λ i. at (vec k l) i)
+unfolding vec
+vec-self k l h =
+    let n = length-take-le k l h in
+    ext-getD nan (take k l) (tabulate k (λ i. at (take k l) i)) (n ∙ sym (length-tab k 0 (λ i. at (take k l) i)))
+    (λ i b. sym (vector-at k i (λ i. at (take k l) i) (omega arith)))
+
+pub vec-fresh : (g : ℕ → Float) (m i : ℕ) (l out : List Float) → i < m → out ≡ row g 0 i l → at out i ≡ at (vec m l) i
+vec-fresh g m i l out h e = ap (λ (y : List Float). at y i) e ∙ row-after g 0 i l i nan (omega arith) ∙ sym (vec-at m i l h)
 
 -- ---- a matrix that is changed in place, row by row: what a row reads of itself is still the old
 
@@ -216,6 +233,82 @@ in-place-next f r c n k l mid out hn same h e a b =
     grid-next (f (rect r c l)) c n c l mid out
     (h ∙ rw q (row-cong (f (rect r c mid) n) (f (rect r c l) n) (n * c) c mid (λ j hj. same j hj (grid-fresh (f (rect r c l)) r c n j l mid hn hj e))))
     e (omega arith) (omega arith)
+
+-- ---- one column: old with entry i * c + j replaced by g i, for each i below n
+
+unfoldable pub column : {A : Type 0} → (ℕ → A) → ℕ → ℕ → ℕ → List A → List A
+column g c j zero old = old
+column g c j (suc i) old = set (column g c j i old) (i * c + j) (g i)
+
+module _ (g : ℕ → Float) (c j : ℕ) (l : List Float) where
+  pub column-none : (out : List Float) → out ≡ l → out ≡ column g c j 0 l
+  unfolding column
+  column-none out e = e
+
+  pub column-next : (n : ℕ) (out : List Float) (v : Float) → out ≡ column g c j n l → v ≡ g n → set out (n * c + j) v ≡ column g c j (n + 1) l
+  unfolding column
+  column-next n out v e h = rw add-one (cc)
+
+  pub length-column : (n : ℕ) → length (column g c j n l) ≡ length l
+  unfolding column
+  length-column zero = refl
+  length-column (suc n) = length-set (column g c j n l) (n * c + j) (g n) ∙ length-column n
+
+  -- an entry that no store reached: below in the column, or in another column
+  pub column-after : (n i : ℕ) → j < c → n ≤ i → getD (column g c j n l) (i * c + j) nan ≡ getD l (i * c + j) nan
+  unfolding column
+  column-after zero i hj h = refl
+  column-after (suc n) i hj h =
+      getD-set-other (column g c j n l) (n * c + j) (i * c + j) (g n) nan (λ e. omega (arith, room n i c h)) ∙ column-after n i hj (omega arith)
+
+  pub column-beside : (n i k : ℕ) → j < c → k < c → (k ≡ j → ⊥) → getD (column g c j n l) (i * c + k) nan ≡ getD l (i * c + k) nan
+  unfolding column
+  column-beside zero i k hj hk d = refl
+  column-beside (suc n) i k hj hk d = getD-set-other (column g c j n l) (n * c + j) (i * c + k) (g n) nan apart ∙ column-beside n i k hj hk d
+    where
+      apart : i * c + k ≡ n * c + j → ⊥
+      apart e =
+          ⊎-elim (λ (a : n < i). omega (arith, room n i c a))
+          (λ (a : i ≤ n). ⊎-elim (λ (b : i < n). omega (arith, room i n c b)) (λ (b : n ≤ i). let q : n ≡ i = omega arith in d (omega (arith, ap (λ (x : ℕ). x * c) q))) (lt-or-le i n))
+          (lt-or-le n i)
+
+  pub column-at : (n i r : ℕ) → j < c → i < n → n ≤ r → r * c ≤ length l → getD (column g c j n l) (i * c + j) nan ≡ g i
+  unfolding column
+  column-at zero i r hj h s b = absurd (omega arith)
+  column-at (suc n) i r hj h s b =
+      ⊎-elim
+      (λ (a : i < n).
+      getD-set-other (column g c j n l) (n * c + j) (i * c + j) (g n) nan (λ e. omega (arith, room i n c a))
+      ∙ column-at n i r hj a (omega arith) b)
+      (λ (a : n ≤ i).
+      let q : i ≡ n = omega arith in
+      ap (λ (x : ℕ). getD (set (column g c j n l) (n * c + j) (g n)) (x * c + j) nan) q
+      ∙ getD-set-same (column g c j n l) (n * c + j) (g n) nan (omega (arith, length-column n, room n r c s))
+      ∙ sym (ap g q))
+      (lt-or-le i n)
+
+pub column-end : (g : ℕ → Float) (c j : ℕ) (l : List Float) {n r : ℕ} {out : List Float} → out ≡ column g c j n l → n ≤ r → r ≤ n → out ≡ column g c j r l
+column-end g c j l {n} {r} {out} h a b = let e : n ≡ r = omega arith in cc
+
+-- in the midst of it, the entry that is next is still the old one
+pub column-fresh : (g : ℕ → Float) (r c j i : ℕ) (l out : List Float) → i < r → j < c → out ≡ column g c j i l → ent c (rect r c out) i j ≡ ent c (rect r c l) i j
+column-fresh g r c j i l out hi hj e =
+    rect-at r c i j out hi hj
+    ∙ ap (λ (y : List Float). ent c y i j) e
+    ∙ column-after g c j l i i hj (omega arith)
+    ∙ sym (rect-at r c i j l hi hj)
+
+-- the matrix with that column new
+pub rect-column : (g : ℕ → Float) (r c j : ℕ) (l out : List Float) → j < c → r * c ≤ length l → out ≡ column g c j r l → rect r c out ≡ matrix r c (λ i k. cond (eqb k j) (g i) (ent c (rect r c l) i k))
+rect-column g r c j l out hj h e =
+    rect-by (λ i k. cond (eqb k j) (g i) (ent c (rect r c l) i k)) r c out (omega (arith, ap length e, length-column g c j l r))
+    (λ i k hi hk. ap (λ (y : List Float). ent c y i k) e ∙ by-test i k hi hk (eqb k j) refl)
+  where
+    by-test : (i k : ℕ) → i < r → k < c → (t : Bool) → eqb k j ≡ t → ent c (column g c j r l) i k ≡ cond t (g i) (ent c (rect r c l) i k)
+    by-test i k hi hk true q =
+        let s : k ≡ j = eqb-true k j q in
+        ap (λ (x : ℕ). ent c (column g c j r l) i x) s ∙ column-at g c j l r i r hj hi (omega arith) h
+    by-test i k hi hk false q = column-beside g c j l r i k hj hk (eqb-false k j q) ∙ sym (rect-at r c i k l hi hk)
 
 -- ---- two lists place by place: the left one is changed in place
 

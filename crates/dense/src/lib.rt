@@ -1,15 +1,15 @@
 // dense.rs: vectors in [f64; 8] and matrices in [f64; 64], row by row. A contract speaks of the places in use:
 // `vec m` of a vector, `mat m` of a square matrix, `rect r c` of one of r rows and c columns.
 ghost use mathlib.Core.Path.{_≡_};
-ghost use mathlib.Core.Bool.{cond};
 ghost use mathlib.Core.List.{_++_};
 ghost use Prim.Native.Nat.{_≤_, _<_, _+_, _*_};
 ghost use lib.ListN.{set, length};
-ghost use Rattle.definition.specs.Num.{isZero, absOf, _⊕_, _⊗_, at, ent, sumFrom};
-ghost use Rattle.definition.specs.Dense.{dot, axpy, over, scaled, row, matVec, matVecAt, matTVec, matTVecAt};
-ghost use Rattle.definition.specs.Dense.{lessOf, outerSub, outerScaled, product, productAt, transpose, sandwich, quad};
+ghost use Rattle.definition.specs.Num.{tabulate, matrix, at, ent, sumFrom};
+ghost use Rattle.definition.specs.Dense.{dot, axpy, over, scaled, row, matVec, matTVec, matTVecAt};
+ghost use Rattle.definition.specs.Dense.{outerSub, outerScaled, product, productAt, transpose, sandwich, quad};
 ghost use Rattle.definition.specs.Dense.{plus, minus, symmetrise, symAt, sqTerm, frobSq, absTerm, absColumn, absQuadForm};
 ghost use Rattle.dense.specs.Views.{vec, mat, rect};
+ghost use Rattle.dense.specs.Columns.{moreAt, moreKeptAt, columnLess, columnKept};
 ghost use Rattle.dense.specs.Places.{Within, Cell, Sizes, Entry, Saved};
 
 // A reference to an array that is lent as a slice tells its length.
@@ -113,22 +113,28 @@ pub fn over(x: &[f64; 8], s: f64, m: usize) -> [f64; 8]
     out
 }
 
-// s + a x, or s where x equals 0.
-fn more(s: f64, a: f64, x: f64) -> f64
-    ensures { λ r. ⌜ r ≡ cond (isZero x) s (s ⊕ a ⊗ x) ⌝ }
+// out and column j of M times x_j.
+fn add_column(out: &mut [f64; 8], a: &[f64; 64], x: &[f64; 8], m: usize, j: usize)
+    requires { ⌜ (m ≤ 8) × (j < m) ⌝ }
+    ensures { λ _. ⌜ vec m (now (out .exit)) ≡ tabulate m (moreAt m (mat m (now (a .entry))) (vec m (now (x .entry))) j (vec m (now (out .entry)))) ⌝ }
 {
-    if x == 0.0 { s } else { s + a * x }
+    sized8(out);
+    let xj = nth(x, m, j);
+    for i in 0..m {
+        out[i] = out[i] + get(a, m, i, j) * xj;
+    }
 }
 
-fn mat_vec_at(a: &[f64; 64], x: &[f64; 8], m: usize, i: usize) -> f64
-    requires { ⌜ (m ≤ 8) × (i < m) ⌝ }
-    ensures { λ r. ⌜ r ≡ matVecAt m (mat m (now (a .entry))) (vec m (now (x .entry))) i ⌝ }
+// The same, or nothing where x_j equals 0.
+fn add_column_kept(out: &mut [f64; 8], a: &[f64; 64], x: &[f64; 8], m: usize, j: usize)
+    requires { ⌜ (m ≤ 8) × (j < m) ⌝ }
+    ensures { λ _. ⌜ vec m (now (out .exit)) ≡ tabulate m (moreKeptAt m (mat m (now (a .entry))) (vec m (now (x .entry))) j (vec m (now (out .entry)))) ⌝ }
 {
-    let mut s = 0.0;
-    for j in 0..m {
-        s = more(s, get(a, m, i, j), nth(x, m, j));
+    sized8(out);
+    if nth(x, m, j) == 0.0 {
+        return;
     }
-    s
+    add_column(out, a, x, m, j);
 }
 
 // M x, a column whose multiplier equals 0 left out.
@@ -137,17 +143,35 @@ pub fn mat_vec(a: &[f64; 64], x: &[f64; 8], m: usize) -> [f64; 8]
     ensures { λ r. ⌜ vec m r ≡ matVec m (mat m (now (a .entry))) (vec m (now (x .entry))) ⌝ }
 {
     let mut out = [0.0; 8];
-    for i in 0..m {
-        out[i] = mat_vec_at(a, x, m, i);
+    for j in 0..m {
+        add_column_kept(&mut out, a, x, m, j);
     }
     out
 }
 
-// x less a b, or x where b equals 0.
-fn less(x: f64, a: f64, b: f64) -> f64
-    ensures { λ r. ⌜ r ≡ lessOf x a b ⌝ }
+// Column j of P less a b_j.
+fn sub_column(p: &mut [f64; 64], a: &[f64; 8], b: &[f64; 8], m: usize, j: usize)
+    requires { ⌜ (m ≤ 8) × (j < m) ⌝ }
+    ensures { λ _. ⌜ mat m (now (p .exit)) ≡ matrix m m (columnLess m (mat m (now (p .entry))) (vec m (now (a .entry))) (vec m (now (b .entry))) j) ⌝ }
 {
-    if b == 0.0 { x } else { x - a * b }
+    sized(p);
+    let bj = nth(b, m, j);
+    for i in 0..m {
+        let v = get(p, m, i, j) - nth(a, m, i) * bj;
+        put(p, m, i, j, v);
+    }
+}
+
+// The same, or nothing where b_j equals 0.
+fn sub_column_kept(p: &mut [f64; 64], a: &[f64; 8], b: &[f64; 8], m: usize, j: usize)
+    requires { ⌜ (m ≤ 8) × (j < m) ⌝ }
+    ensures { λ _. ⌜ mat m (now (p .exit)) ≡ matrix m m (columnKept m (mat m (now (p .entry))) (vec m (now (a .entry))) (vec m (now (b .entry))) j) ⌝ }
+{
+    sized(p);
+    if nth(b, m, j) == 0.0 {
+        return;
+    }
+    sub_column(p, a, b, m, j);
 }
 
 // P - a b', a column whose multiplier equals 0 left out.
@@ -156,11 +180,8 @@ pub fn outer_sub(p: &mut [f64; 64], a: &[f64; 8], b: &[f64; 8], m: usize)
     ensures { λ _. ⌜ mat m (now (p .exit)) ≡ outerSub m (mat m (now (p .entry))) (vec m (now (a .entry))) (vec m (now (b .entry))) ⌝ }
 {
     sized(p);
-    for i in 0..m {
-        for j in 0..m {
-            let v = less(get(p, m, i, j), nth(a, m, i), nth(b, m, j));
-            put(p, m, i, j, v);
-        }
+    for j in 0..m {
+        sub_column_kept(p, a, b, m, j);
     }
 }
 
@@ -242,17 +263,25 @@ fn product_at(a: &[f64; 64], b: &[f64; 64], r: usize, k: usize, c: usize, i: usi
 }
 
 // A B, of r rows, k inner places and c columns.
+pub fn product_into(out: &mut [f64; 64], a: &[f64; 64], b: &[f64; 64], r: usize, k: usize, c: usize)
+    requires { ⌜ Sizes r k c ⌝ }
+    ensures { λ _. ⌜ rect r c (now (out .exit)) ≡ product r k c (rect r k (now (a .entry))) (rect k c (now (b .entry))) ⌝ }
+{
+    sized(out);
+    for i in 0..r {
+        for j in 0..c {
+            let v = product_at(a, b, r, k, c, i, j);
+            set_cell(out, r, c, i, j, v);
+        }
+    }
+}
+
 pub fn product(a: &[f64; 64], b: &[f64; 64], r: usize, k: usize, c: usize) -> [f64; 64]
     requires { ⌜ Sizes r k c ⌝ }
     ensures { λ x. ⌜ rect r c x ≡ product r k c (rect r k (now (a .entry))) (rect k c (now (b .entry))) ⌝ }
 {
     let mut out = [0.0; 64];
-    for i in 0..r {
-        for j in 0..c {
-            let v = product_at(a, b, r, k, c, i, j);
-            set_cell(&mut out, r, c, i, j, v);
-        }
-    }
+    product_into(&mut out, a, b, r, k, c);
     out
 }
 
@@ -276,17 +305,32 @@ fn product_t_at(
 }
 
 // A B', of r rows, k inner places and c columns: B has c rows and k columns.
+pub fn product_t_into(
+    out: &mut [f64; 64],
+    a: &[f64; 64],
+    b: &[f64; 64],
+    r: usize,
+    k: usize,
+    c: usize,
+)
+    requires { ⌜ Sizes r k c ⌝ }
+    ensures { λ _. ⌜ rect r c (now (out .exit)) ≡ product r k c (rect r k (now (a .entry))) (transpose c k (rect c k (now (b .entry)))) ⌝ }
+{
+    sized(out);
+    for i in 0..r {
+        for j in 0..c {
+            let v = product_t_at(a, b, r, k, c, i, j);
+            set_cell(out, r, c, i, j, v);
+        }
+    }
+}
+
 pub fn product_t(a: &[f64; 64], b: &[f64; 64], r: usize, k: usize, c: usize) -> [f64; 64]
     requires { ⌜ Sizes r k c ⌝ }
     ensures { λ x. ⌜ rect r c x ≡ product r k c (rect r k (now (a .entry))) (transpose c k (rect c k (now (b .entry)))) ⌝ }
 {
     let mut out = [0.0; 64];
-    for i in 0..r {
-        for j in 0..c {
-            let v = product_t_at(a, b, r, k, c, i, j);
-            set_cell(&mut out, r, c, i, j, v);
-        }
-    }
+    product_t_into(&mut out, a, b, r, k, c);
     out
 }
 
@@ -310,17 +354,32 @@ fn t_product_at(
 }
 
 // A' B, of r rows, k inner places and c columns: A has k rows and r columns.
+pub fn t_product_into(
+    out: &mut [f64; 64],
+    a: &[f64; 64],
+    b: &[f64; 64],
+    r: usize,
+    k: usize,
+    c: usize,
+)
+    requires { ⌜ Sizes r k c ⌝ }
+    ensures { λ _. ⌜ rect r c (now (out .exit)) ≡ product r k c (transpose k r (rect k r (now (a .entry)))) (rect k c (now (b .entry))) ⌝ }
+{
+    sized(out);
+    for i in 0..r {
+        for j in 0..c {
+            let v = t_product_at(a, b, r, k, c, i, j);
+            set_cell(out, r, c, i, j, v);
+        }
+    }
+}
+
 pub fn t_product(a: &[f64; 64], b: &[f64; 64], r: usize, k: usize, c: usize) -> [f64; 64]
     requires { ⌜ Sizes r k c ⌝ }
     ensures { λ x. ⌜ rect r c x ≡ product r k c (transpose k r (rect k r (now (a .entry)))) (rect k c (now (b .entry))) ⌝ }
 {
     let mut out = [0.0; 64];
-    for i in 0..r {
-        for j in 0..c {
-            let v = t_product_at(a, b, r, k, c, i, j);
-            set_cell(&mut out, r, c, i, j, v);
-        }
-    }
+    t_product_into(&mut out, a, b, r, k, c);
     out
 }
 
@@ -339,22 +398,42 @@ pub fn transpose(a: &[f64; 64], r: usize, c: usize) -> [f64; 64]
     out
 }
 
-// T P T'.
+// T P T', as (T P) T'.
+pub fn sandwich_into(out: &mut [f64; 64], t: &[f64; 64], p: &[f64; 64], m: usize)
+    requires { ⌜ m ≤ 8 ⌝ }
+    ensures { λ _. ⌜ mat m (now (out .exit)) ≡ sandwich m (mat m (now (t .entry))) (mat m (now (p .entry))) ⌝ }
+{
+    let mut tp = [0.0; 64];
+    product_into(&mut tp, t, p, m, m, m);
+    product_t_into(out, &tp, t, m, m, m);
+}
+
 pub fn sandwich(t: &[f64; 64], p: &[f64; 64], m: usize) -> [f64; 64]
     requires { ⌜ m ≤ 8 ⌝ }
     ensures { λ r. ⌜ mat m r ≡ sandwich m (mat m (now (t .entry))) (mat m (now (p .entry))) ⌝ }
 {
-    let tp = product(t, p, m, m, m);
-    product_t(&tp, t, m, m, m)
+    let mut out = [0.0; 64];
+    sandwich_into(&mut out, t, p, m);
+    out
 }
 
 // A' N B, as (A' N) B.
+pub fn quad_into(out: &mut [f64; 64], a: &[f64; 64], n: &[f64; 64], b: &[f64; 64], m: usize)
+    requires { ⌜ m ≤ 8 ⌝ }
+    ensures { λ _. ⌜ mat m (now (out .exit)) ≡ quad m (mat m (now (a .entry))) (mat m (now (n .entry))) (mat m (now (b .entry))) ⌝ }
+{
+    let mut an = [0.0; 64];
+    t_product_into(&mut an, a, n, m, m, m);
+    product_into(out, &an, b, m, m, m);
+}
+
 pub fn quad(a: &[f64; 64], n: &[f64; 64], b: &[f64; 64], m: usize) -> [f64; 64]
     requires { ⌜ m ≤ 8 ⌝ }
     ensures { λ r. ⌜ mat m r ≡ quad m (mat m (now (a .entry))) (mat m (now (n .entry))) (mat m (now (b .entry))) ⌝ }
 {
-    let an = t_product(a, n, m, m, m);
-    product(&an, b, m, m, m)
+    let mut out = [0.0; 64];
+    quad_into(&mut out, a, n, b, m);
+    out
 }
 
 // P + Q, in place.

@@ -1,28 +1,28 @@
 use Rattle.dense.proofs.mat_vec.Statement.{statement}
 use Rattle.dense.proofs.mat_vec.Tie as tie
+use borrow.Author.Needs.{needs}
 use native.Mathlib.Omega.{arith}
-use mathlib.Core.Path.{_≡_, refl}
-use Prim.Native.Nat.{_≤_, _<_, _-_, _+_}
-use lib.ListN.{length}
-use Rattle.definition.specs.Dense.{matVec, matVecAt}
+use mathlib.Core.Path.{_≡_}
+use Prim.Native.Nat.{_≤_, _-_}
+use Rattle.definition.specs.Num.{tabulate}
 use Rattle.dense.specs.Views.{vec, mat}
-use Rattle.dense.proofs.Laws as laws
+use Rattle.dense.specs.Columns.{matVecTo}
+use Rattle.dense.proofs.Columns as cols
 
 abbrev Inv-loop : tie.InvT-loop
-Inv-loop a x m out₀ i₀ out i = (i ≤ m) × (length out₀ ≡ 8) × (out ≡ laws.row (matVecAt m (mat m a) (vec m x)) 0 i out₀)
+Inv-loop a x m out₀ j₀ out j = (j ≤ m) × (vec m out ≡ tabulate m (matVecTo m (mat m a) (vec m x) j))
 
 abbrev μ-loop : tie.MeasureT-loop
-μ-loop a x m out₀ i₀ out i = m - i
+μ-loop a x m out₀ j₀ out j = m - j
 
 loop-holds : tie.Need-loop-holds Inv-loop μ-loop
-loop-holds c = (omega arith, refl, laws.row-none _ _ _ _ refl)
+loop-holds c = (omega arith, cols.more-start _ 8 _ _ (c .pre))
 
 loop-again : tie.Need-loop-again Inv-loop μ-loop
-loop-again c = let l = c .before .before in (omega arith, l .loop .inv .1, laws.vec-next _ _ _ _ _ (l .loop .inv .2) (c .mat-vec-at .ensures))
+loop-again c = (omega arith, cols.more-next _ _ _ _ _ _ (c .before .before .before .loop .inv .1) (c .add-column-kept .ensures))
 
 returns : tie.Need-returns Inv-loop μ-loop
-unfolding matVec
-returns c = let l = c .before in laws.vec-row _ _ _ _ (omega arith) (laws.row-end _ _ _ (l .loop .inv .2) (l .loop .inv .0) (c .loop-test .left))
+returns c = let w = c .before .loop in cols.more-all _ _ _ _ (w .inv .1) (w .inv .0) (c .loop-test .left)
 
 pub mat-vec-spec : {M : Type 1} → statement M
-mat-vec-spec = tie.close (tie.spec Inv-loop μ-loop loop-holds (λ c κs. omega arith) (λ c. omega arith) (λ c. omega arith) (λ c. omega arith) (λ c. omega arith) loop-again returns)
+mat-vec-spec = tie.close (tie.spec Inv-loop μ-loop loop-holds (λ c κs. search needs) (λ c. omega arith) (λ c. omega arith) loop-again returns)
