@@ -1,4 +1,65 @@
 // The leaves by the C calling convention, for timing and for comparisons at scale. A size above 8 does nothing.
+ghost use mathlib.Core.Path.{_≡_};
+ghost use lib.Ieee.{isNan};
+ghost use Rattle.definition.specs.Num.{absOf, max0, isInfinite, isFinite};
+ghost use Rattle.definition.specs.Root.{sqrtOf};
+ghost use Rattle.definition.specs.Log.{lnOf, lnTwoPi};
+
+#[no_mangle]
+pub extern "C" fn leaf_abs(x: f64) -> f64
+    ensures { λ r. ⌜ r ≡ absOf x ⌝ }
+{
+    float::abs(x)
+}
+
+#[no_mangle]
+pub extern "C" fn leaf_max0(x: f64) -> f64
+    ensures { λ r. ⌜ r ≡ max0 x ⌝ }
+{
+    float::max0(x)
+}
+
+#[no_mangle]
+pub extern "C" fn leaf_sqrt(x: f64) -> f64
+    ensures { λ r. ⌜ r ≡ sqrtOf x ⌝ }
+{
+    float::sqrt(x)
+}
+
+#[no_mangle]
+pub extern "C" fn leaf_ln(x: f64) -> f64
+    ensures { λ r. ⌜ r ≡ lnOf x ⌝ }
+{
+    float::ln(x)
+}
+
+#[no_mangle]
+pub extern "C" fn leaf_ln_two_pi() -> f64
+    ensures { λ r. ⌜ r ≡ lnTwoPi ⌝ }
+{
+    float::ln_two_pi()
+}
+
+#[no_mangle]
+pub extern "C" fn leaf_is_nan(x: f64) -> bool
+    ensures { λ r. ⌜ r ≡ isNan x ⌝ }
+{
+    float::is_nan(x)
+}
+
+#[no_mangle]
+pub extern "C" fn leaf_is_infinite(x: f64) -> bool
+    ensures { λ r. ⌜ r ≡ isInfinite x ⌝ }
+{
+    float::is_infinite(x)
+}
+
+#[no_mangle]
+pub extern "C" fn leaf_is_finite(x: f64) -> bool
+    ensures { λ r. ⌜ r ≡ isFinite x ⌝ }
+{
+    float::is_finite(x)
+}
 
 #[no_mangle]
 pub extern "C" fn leaf_dot(a: &[f64; 8], b: &[f64; 8], m: usize) -> f64 {

@@ -1,8 +1,9 @@
 -- `float::parts::parts` meets its contract: `proofs/Fields.antt` says what the fields of a bit pattern are. Assumes nothing.
 use mathlib.Core.Path.{sym, subst}
+use Prim.Native.Nat.{_-_, _≤_}
 use native.Mathlib.Omega.{arith}
 use lib.Dec.{T}
-use lib.Count.{leading-le}
+use lib.Count.{leadingZeros, leading-le}
 use lib.Ieee.{binary64, toBits}
 use borrow.Author.Needs.{needs}
 use Rattle.float.proofs.Fields.{Read, read, by, parted-low, parted-high, no-nan}
@@ -18,14 +19,17 @@ float-to-bits-b c = no-nan (c .args .x) (c .pre)
 cast-s : tie.Need-cast-s
 cast-s c = omega (arith, leading-le 64 (toBits binary64 (c .before .args .x)))
 
+by-shift : (c : tie.Then1) → (11 ≤ leadingZeros 64 (toBits binary64 (c .before .args .x))) × (leadingZeros 64 (toBits binary64 (c .before .args .x)) - 11 ≤ 52)
+by-shift c = by (c .before .args .x) (toBits binary64 (c .before .args .x)) (held (c .before)) (c .if1 .taken)
+
 sub-s : tie.Need-sub-s
-sub-s c = by (c .before .args .x) (toBits binary64 (c .before .args .x)) (held (c .before)) (c .if1 .taken) .0
+sub-s c = let h = by-shift c in omega arith
 
 shl-t7 : tie.Need-shl-t7
-shl-t7 c = let h = by (c .before .args .x) (toBits binary64 (c .before .args .x)) (held (c .before)) (c .if1 .taken) in omega arith
+shl-t7 c = let h = by-shift c in omega arith
 
 sub-t8 : tie.Need-sub-t8
-sub-t8 c = by (c .before .args .x) (toBits binary64 (c .before .args .x)) (held (c .before)) (c .if1 .taken) .1
+sub-t8 c = let h = by-shift c in omega arith
 
 returns : tie.Need-returns
 returns c = parted-low (c .before .args .x) (toBits binary64 (c .before .args .x)) (held (c .before)) (c .if1 .taken)
