@@ -1,0 +1,135 @@
+-- Laws of one element and of a period's elements: what is read off the flat parts, and the loop over the elements against the scan.
+use mathlib.Core.Path.{_≡_, refl, sym, ap, ap₂, _∙_}
+use Prim.Native.Nat.{ℕ, zero, suc, _+_, _-_, _*_, _≤_, _<_}
+use native.Mathlib.Nat.{zero-add, suc-mul, mul-le-mul-right, mul-assoc}
+use native.Mathlib.Omega.{arith}
+use native.Mathlib.Numerals.{add-one}
+use mathlib.Core.List.{List, [], _∷_, _++_}
+use lib.ListN.{length, getD, take, drop, set, length-take, length-drop, length-set}
+use lib.Seq.{ext-getD, getD-take, getD-drop, take-suc-set, take-all}
+use lib.Ieee.{Float, nan}
+use Rattle.definition.specs.Num.{0ᶠ, at, tabFrom, tabulate}
+use Rattle.definition.specs.Dense.{axpy, over, row, rowAt}
+use Rattle.definition.specs.Run.{scan, pairs}
+use Rattle.definition.specs.Cov.{Decision, skipped, usual, diffuse}
+use Rattle.definition.specs.Mean.{Mean, MeanPeriod, innovation, told, heed, usualTerm, diffuseTerm, hear, meanStep, meanEnded, meanPeriodOf}
+use Rattle.laws.specs.Lists.{tab-at, length-tab, pairs-at, scan-next}
+use Rattle.laws.specs.Flat.{Flat, decisionOf, readBack, decisionsAt, blockAt}
+use Rattle.dense.specs.Views.{vec}
+use Rattle.mean.specs.View.{meanIn, entryAt, leftIn, Holds}
+
+-- ---- a part of a slice, as the m entries from place k * m on
+
+pub part-block : (k m : ℕ) (l : List Float) → k * m + m ≤ length l → vec m (take (k * m + m - k * m) (drop (k * m) l)) ≡ blockAt m l k
+unfolding vec blockAt
+part-block k m l h =
+    let s : k * m + m - k * m ≡ m = omega arith in
+    rw s
+    (ext-getD nan (take m (take m (drop (k * m) l))) (tabulate m (λ j. at l (k * m + j))) (simp (length-take, length-drop, length-tab) (omega arith)) (λ j b.
+    let j< : j < m = omega (arith, simp (length-take, length-drop) at b) in
+    getD-take m (take m (drop (k * m) l)) j nan j< ∙ getD-take m (drop (k * m) l) j nan j< ∙ getD-drop (k * m) l j nan ∙ sym (tab-at m 0 j (λ j. at l (k * m + j)) nan j< ∙ ap (λ (i : ℕ). at l (k * m + i)) (zero-add j))))
+
+pub part-row : (i m : ℕ) (l : List Float) → i * m + m ≤ length l → vec m (take (i * m + m - i * m) (drop (i * m) l)) ≡ row m l i
+unfolding row rowAt blockAt
+part-row i m l h = part-block i m l h
+
+-- ---- one element, by its kind
+
+a-diffuse : (k : ℕ) (f g : Float) (a b : List Float) → (k ≡ 0 → ⊥) → (k ≡ 1 → ⊥) → decisionOf k f g a b ≡ diffuse f g a b
+unfolding decisionOf
+a-diffuse zero f g a b h o = absurd (h refl)
+a-diffuse (suc zero) f g a b h o = absurd (o refl)
+a-diffuse (suc (suc k)) f g a b h o = refl
+
+-- what is heard of element i by the record at place k: v, and the state after it
+module _ (m : ℕ) (r : Flat) (design ds : List Float) (i k : ℕ) (a : List Float) (l x : Float) where
+  pub heard-none : getD (r .kinds) k 0 ≡ 0 → _≡_ (0ᶠ, meanIn m a l) (hear m design ds i (meanIn m a l) (readBack m r k, x))
+  unfolding hear readBack decisionOf told heed
+  heard-none e = rw e refl
+
+  pub heard-usual : (v l′ : Float) (a′ : List Float) → getD (r .kinds) k 0 ≡ 1 → v ≡ innovation m (row m design i) (at ds i) (vec m a) x → vec m a′ ≡ axpy m (vec m a) v (over m (blockAt m (r .mStars) k) (at (r .fStars) k)) → l′ ≡ usualTerm l (at (r .fStars) k) v
+      → _≡_ (v, meanIn m a′ l′) (hear m design ds i (meanIn m a l) (readBack m r k, x))
+  unfolding hear readBack decisionOf told heed blockAt
+  heard-usual v l′ a′ e ev ea el = rw (e, ea, el, ev) refl
+
+  pub heard-diffuse : (v l′ : Float) (a′ : List Float) → (getD (r .kinds) k 0 ≡ 0 → ⊥) → (getD (r .kinds) k 0 ≡ 1 → ⊥) → v ≡ innovation m (row m design i) (at ds i) (vec m a) x → vec m a′ ≡ axpy m (vec m a) v (over m (blockAt m (r .mInfs) k) (at (r .fInfs) k)) → l′ ≡ diffuseTerm l (at (r .fInfs) k)
+      → _≡_ (v, meanIn m a′ l′) (hear m design ds i (meanIn m a l) (readBack m r k, x))
+  unfolding hear readBack told heed blockAt
+  heard-diffuse v l′ a′ n o ev ea el = rw (a-diffuse (getD (r .kinds) k 0) (at (r .fStars) k) (at (r .fInfs) k) (blockAt m (r .mStars) k) (blockAt m (r .mInfs) k) n o, ea, el, ev) refl
+
+-- ---- the elements of a period, in order
+
+pub length-pairs : {A B : Type 0} (n : ℕ) (xs : List A) (ys : List B) → length xs ≡ n → length ys ≡ n → length (pairs xs ys) ≡ n
+unfolding pairs
+length-pairs n [] ys e f = e
+length-pairs zero (x ∷ xs) ys e f = absurd (omega arith)
+length-pairs (suc n) (x ∷ xs) [] e f = absurd (omega arith)
+length-pairs (suc n) (x ∷ xs) (y ∷ ys) e f = ap suc (length-pairs n xs ys (omega arith) (omega arith))
+
+-- a scan whose outputs a loop writes one by one
+scan-wrote : {A B S : Type 0} (f : ℕ → S → A → B × S) (xs : List A) (i : ℕ) (s₀ s s′ : S) (d : A) (out : List B) (x : B) → i < length xs → i < length out → scan f 0 s₀ (take i xs) ≡ (take i out, s) → (x, s′) ≡ f i s (getD xs i d) → scan f 0 s₀ (take (i + 1) xs) ≡ (take (i + 1) (set out i x), s′)
+scan-wrote f xs i s₀ s s′ d out x h g e q = rw (add-one, scan-next f xs i s₀ d h, e, ← q, take-suc-set out i x g) refl
+
+-- what a period hears: p entries, by place
+module _ (p m t : ℕ) (r : Flat) (ys : List Float) where
+  abbrev pub heardAt : List (Decision × Float)
+  heardAt = pairs (entryAt p m r ys t .0) (entryAt p m r ys t .1)
+
+  decisions-long : length (decisionsAt p m r t) ≡ p
+  unfolding decisionsAt
+  decisions-long = length-tab p 0 (λ i. readBack m r (t * p + i))
+
+  readings-long : t * p + p ≤ length ys → length (take p (drop (t * p) ys)) ≡ p
+  readings-long room = simp (length-take, length-drop) (omega arith)
+
+  heard-long : t * p + p ≤ length ys → length heardAt ≡ p
+  unfolding entryAt
+  heard-long room = length-pairs p (decisionsAt p m r t) (take p (drop (t * p) ys)) decisions-long (readings-long room)
+
+  heard-at : t * p + p ≤ length ys → (i : ℕ) → i < p → getD heardAt i (skipped, nan) ≡ (readBack m r (t * p + i), at ys (t * p + i))
+  unfolding entryAt decisionsAt
+  heard-at room i h =
+      pairs-at (decisionsAt p m r t) (take p (drop (t * p) ys)) i skipped nan (skipped, nan) (rw decisions-long h) (rw (readings-long room) h)
+      ∙ ap₂ (λ (d : Decision) (x : Float). (d, x)) (tab-at p 0 i (λ i. readBack m r (t * p + i)) skipped h ∙ ap (λ (j : ℕ). readBack m r (t * p + j)) (zero-add i)) (getD-take p (drop (t * p) ys) i nan h ∙ getD-drop (t * p) ys i nan)
+
+  -- the loop over them: what holds before element i
+  module _ (design ds : List Float) (s₀ : Mean) where
+    pub record Along (i : ℕ) (v : List Float) (s : Mean) : Type 0 where
+      pub low : i ≤ p
+      pub long : length v ≡ p
+      pub ran : scan (hear m design ds) 0 s₀ (take i heardAt) ≡ (take i v, s)
+
+    pub along-none : (v : List Float) → length v ≡ p → Along 0 v s₀
+    unfolding scan
+    along-none v e = record { low = omega arith; long = e; ran = refl }
+
+    pub along-next : {i : ℕ} {v : List Float} {s s′ : Mean} {x : Float} → Along i v s → i < p → t * p + p ≤ length ys → (x, s′) ≡ hear m design ds i s (readBack m r (t * p + i), at ys (t * p + i)) → Along (i + 1) (set v i x) s′
+    along-next {i} {v} {s} {s′} {x} g h room e =
+        record {
+          low = omega arith;
+          long = length-set v i x ∙ g .long;
+          ran = scan-wrote (hear m design ds) heardAt i s₀ s s′ (skipped, nan) v x (rw (heard-long room) h) (rw (g .long) h) (g .ran) (e ∙ ap (hear m design ds i s) (sym (heard-at room i h)));
+        }
+
+    pub along-all : {i : ℕ} {v : List Float} {s : Mean} → Along i v s → p ≤ i → t * p + p ≤ length ys → (v, s) ≡ scan (hear m design ds) 0 s₀ heardAt
+    along-all {i} {v} {s} g h room =
+        let e : i ≡ p = omega (arith, g .low) in
+        sym (ap (scan (hear m design ds) 0 s₀) (sym (take-all i heardAt (omega (arith, heard-long room)))) ∙ g .ran ∙ ap (λ (l : List Float). (l, s)) (take-all i v (omega (arith, g .long))))
+
+    -- the whole period: what stood there, the elements, and the step by T and c
+    pub whole : (tr c : List Float) (pred filt v a′ next : List Float) (l : Float) → pred ≡ s₀ .a → _≡_ (v, meanIn m a′ l) (scan (hear m design ds) 0 s₀ heardAt) → filt ≡ vec m a′ → vec m next ≡ meanStep m tr c (vec m a′)
+        → _≡_ (leftIn pred v filt, meanIn m next l) (meanPeriodOf m tr c ds design s₀ (entryAt p m r ys t))
+    unfolding meanPeriodOf meanEnded
+    whole tr c pred filt v a′ next l ep e ef en = rw (← e, ep, ef, en) refl
+
+-- ---- the records below fewer places
+
+pub fewer : {m j k : ℕ} {r : Flat} → j ≤ k → Holds m k r → Holds m j r
+fewer {m} {j} {k} {r} h g =
+    record {
+      ks = omega (arith, g .ks);
+      fs = omega (arith, g .fs);
+      fi = omega (arith, g .fi);
+      ms = omega (arith, g .ms, mul-le-mul-right m h);
+      mi = omega (arith, g .mi, mul-le-mul-right m h);
+    }

@@ -1,0 +1,73 @@
+-- What the mean track's functions read off the lent parts, what they need of them, and what they promise.
+use mathlib.Core.Path.{_≡_}
+use Prim.Native.Nat.{ℕ, _+_, _*_, _≤_, _<_}
+use mathlib.Core.List.{List, map}
+use lib.ListN.{length, take, drop}
+use lib.Ieee.{Float}
+use Rattle.definition.specs.Run.{join, pairs, chunks}
+use Rattle.definition.specs.Cov.{Decision}
+use Rattle.definition.specs.Mean.{Mean, MeanPeriod}
+use Rattle.definition.specs.Parts.{predMean, filtMean, innovations, meanBlock}
+use Rattle.definition.specs.Outcome.{meanWritten}
+use Rattle.laws.specs.Flat.{Flat, decisionsAt, decisionRows}
+use Rattle.laws.specs.Passes.{Laid}
+use Rattle.dense.specs.Views.{vec}
+use Rattle.mean.specs.declared.Answer.{Answer}
+
+-- ---- what the arrays and the flat parts stand for
+
+-- the state of the means
+abbrev pub meanIn : ℕ → List Float → Float → Mean
+meanIn m a l = record { a = vec m a; loglik = l }
+
+-- the records: kinds, F*, F∞, M* and M∞
+abbrev pub flatIn : List ℕ → List Float → List Float → List Float → List Float → Flat
+flatIn k f g a b = record { kinds = k; fStars = f; fInfs = g; mStars = a; mInfs = b }
+
+-- what a period hears: its decisions and its readings; and what n periods hear
+unfoldable pub entryAt : ℕ → ℕ → Flat → List Float → ℕ → List Decision × List Float
+entryAt p m r y t = (decisionsAt p m r t, take p (drop (t * p) y))
+
+unfoldable pub entries : ℕ → ℕ → ℕ → Flat → List Float → List (List Decision × List Float)
+entries n p m r y = pairs (decisionRows n p m r) (chunks n p y)
+
+-- what a period leaves
+abbrev pub leftIn : List Float → List Float → List Float → MeanPeriod
+leftIn pred vs filt = record { pred = pred; vs = vs; filt = filt }
+
+-- the counts go through unchanged
+abbrev pub withLoglik : Answer → Float → Answer
+withLoglik a l = record { loglik = l; «d_diffuse» = a .«d_diffuse»; heard = a .heard; news = a .news }
+
+-- ---- what has to be there
+
+-- the records of the places below k
+pub record Holds (m k : ℕ) (r : Flat) : Type 0 where
+  pub ks : k ≤ length (r .kinds)
+  pub fs : k ≤ length (r .fStars)
+  pub fi : k ≤ length (r .fInfs)
+  pub ms : k * m ≤ length (r .mStars)
+  pub mi : k * m ≤ length (r .mInfs)
+
+-- the blocks that n periods leave
+pub record Room (p m n : ℕ) (pm′ fm′ v′ : ℕ) : Type 0 where
+  pub pm : n * m ≤ pm′
+  pub fm : n * m ≤ fm′
+  pub vs : n * p ≤ v′
+
+-- ---- promises
+
+-- what the loop leaves, over the run r: the state, the counts as they were, and the periods' blocks laid over the parts
+pub record Looped (p m n : ℕ) (r : List MeanPeriod × Mean) (x x′ : Answer) (a′ pm₀ pm′ fm₀ fm′ v₀ v′ : List Float) : Type 0 where
+  pub state : meanIn m a′ (x′ .loglik) ≡ r .1
+  pub answer : x′ ≡ withLoglik x (r .1 .loglik)
+  pub pm : Laid (n * m) (join (map (meanBlock predMean) (r .0))) pm₀ pm′
+  pub fm : Laid (n * m) (join (map (meanBlock filtMean) (r .0))) fm₀ fm′
+  pub vs : Laid (n * p) (join (map (meanBlock innovations) (r .0))) v₀ v′
+
+-- what the pass leaves: the answer with the log-likelihood, and each part as the definition writes it, its tail as it was
+pub record Passed (p m n : ℕ) (r : List MeanPeriod × Mean) (x x′ : Answer) (pm₀ pm′ fm₀ fm′ v₀ v′ : List Float) : Type 0 where
+  pub answer : x′ ≡ withLoglik x (r .1 .loglik)
+  pub pm : Laid (n * m + m) (meanWritten r predMean) pm₀ pm′
+  pub fm : Laid (n * m) (meanWritten r filtMean) fm₀ fm′
+  pub vs : Laid (n * p) (meanWritten r innovations) v₀ v′
