@@ -8,32 +8,52 @@ use mathlib.Core.List.{List, [], _∷_, _++_}
 use lib.ListN.{length, getD, take, drop, set, length-take, length-drop, length-set}
 use lib.Seq.{ext-getD, getD-take, getD-drop, take-suc-set, take-all}
 use lib.Ieee.{Float, nan}
-use Rattle.definition.specs.Num.{0ᶠ, at, tabFrom, tabulate}
-use Rattle.definition.specs.Dense.{axpy, over, row, rowAt}
+use Rattle.definition.specs.Num.{_⊖_, 0ᶠ, at, tabFrom, tabulate}
+use Rattle.definition.specs.Dense.{dot, axpy, over, row, rowAt}
 use Rattle.definition.specs.Run.{scan, pairs}
 use Rattle.definition.specs.Cov.{Decision, skipped, usual, diffuse}
 use Rattle.definition.specs.Mean.{Mean, MeanPeriod, innovation, told, heed, usualTerm, diffuseTerm, hear, meanStep, meanEnded, meanPeriodOf}
 use Rattle.laws.specs.Lists.{tab-at, length-tab, pairs-at, scan-next}
+use Rattle.laws.specs.Passes.{block-in}
 use Rattle.laws.specs.Flat.{Flat, decisionOf, readBack, decisionsAt, blockAt}
 use Rattle.dense.specs.Views.{vec}
-use Rattle.mean.specs.View.{meanIn, entryAt, leftIn, Holds}
+use Rattle.dense.specs.Places.{Saved}
+use Rattle.mean.specs.View.{meanIn, entryAt, heardAt, leftIn, Holds, Element, Period, Followed}
 
 -- ---- a part of a slice, as the m entries from place k * m on
 
-pub part-block : (k m : ℕ) (l : List Float) → k * m + m ≤ length l → vec m (take (k * m + m - k * m) (drop (k * m) l)) ≡ blockAt m l k
-unfolding vec blockAt
+pub part-block : (k m : ℕ) (l : List Float) → k * m + m ≤ length l → take (k * m + m - k * m) (drop (k * m) l) ≡ blockAt m l k
+unfolding blockAt
 part-block k m l h =
     let s : k * m + m - k * m ≡ m = omega arith in
     rw s
-    (ext-getD nan (take m (take m (drop (k * m) l))) (tabulate m (λ j. at l (k * m + j))) (simp (length-take, length-drop, length-tab) (omega arith)) (λ j b.
+    (ext-getD nan (take m (drop (k * m) l)) (tabulate m (λ j. at l (k * m + j))) (simp (length-take, length-drop, length-tab) (omega arith)) (λ j b.
     let j< : j < m = omega (arith, simp (length-take, length-drop) at b) in
-    getD-take m (take m (drop (k * m) l)) j nan j< ∙ getD-take m (drop (k * m) l) j nan j< ∙ getD-drop (k * m) l j nan ∙ sym (tab-at m 0 j (λ j. at l (k * m + j)) nan j< ∙ ap (λ (i : ℕ). at l (k * m + i)) (zero-add j))))
+    getD-take m (drop (k * m) l) j nan j< ∙ getD-drop (k * m) l j nan ∙ sym (tab-at m 0 j (λ j. at l (k * m + j)) nan j< ∙ ap (λ (i : ℕ). at l (k * m + i)) (zero-add j))))
 
-pub part-row : (i m : ℕ) (l : List Float) → i * m + m ≤ length l → vec m (take (i * m + m - i * m) (drop (i * m) l)) ≡ row m l i
+pub part-row : (i m : ℕ) (l : List Float) → i * m + m ≤ length l → take (i * m + m - i * m) (drop (i * m) l) ≡ row m l i
 unfolding row rowAt blockAt
 part-row i m l h = part-block i m l h
 
+-- an array that a part of k places was loaded into
+pub loaded : (k : ℕ) {s : List Float} (r : List Float) → length s ≡ k → vec (length s) r ≡ s → vec k r ≡ s
+loaded k r e h = rw e at h
+
+-- a part of k places that an array was saved into
+pub saved : (k n : ℕ) {a out : List Float} → n ≡ k → Saved n a out → out ≡ vec k a
+unfolding vec
+saved k n {a} e h = h .holds ∙ ap (λ (i : ℕ). take i a) e
+
 -- ---- one element, by its kind
+
+-- v and the moved mean, from what the kernels did: zi and mi hold the row and the gain vector, k the gain, w is z a
+pub followed : {m : ℕ} {z gain a a′ : List Float} {d x f : Float} (zi mi k : List Float) (w : Float) → length z ≡ m → length gain ≡ m → vec (length z) zi ≡ z → w ≡ dot m (vec m zi) (vec m a) → vec (length gain) mi ≡ gain → vec m k ≡ over m (vec m mi) f
+    → vec m a′ ≡ axpy m (vec m a) (x ⊖ d ⊖ w) (vec m k) → Followed m z d x gain f a a′ (x ⊖ d ⊖ w)
+unfolding innovation
+followed {m} {z} {gain} {a} {d = d} {x} {f} zi mi k w lz lg ez ew eg ek ea =
+    let e = loaded m zi lz ez in
+    let g = loaded m mi lg eg in
+    record { is = rw (ew, e) refl; moved = rw (ea, ek, g) refl }
 
 a-diffuse : (k : ℕ) (f g : Float) (a b : List Float) → (k ≡ 0 → ⊥) → (k ≡ 1 → ⊥) → decisionOf k f g a b ≡ diffuse f g a b
 unfolding decisionOf
@@ -41,21 +61,26 @@ a-diffuse zero f g a b h o = absurd (h refl)
 a-diffuse (suc zero) f g a b h o = absurd (o refl)
 a-diffuse (suc (suc k)) f g a b h o = refl
 
+-- the row and the gain vector as parts of the lists that hold them
+pub followed-at : (i k : ℕ) (design gains : List Float) {m : ℕ} {a a′ : List Float} {d x f v : Float} → i * m + m ≤ length design → k * m + m ≤ length gains → Followed m (take (i * m + m - i * m) (drop (i * m) design)) d x (take (k * m + m - k * m) (drop (k * m) gains)) f a a′ v → Followed m (row m design i) d x (blockAt m gains k) f a a′ v
+followed-at i k design gains {m} hd hg h = rw (part-row i m design hd, part-block k m gains hg) at h
+
 -- what is heard of element i by the record at place k: v, and the state after it
 module _ (m : ℕ) (r : Flat) (design ds : List Float) (i k : ℕ) (a : List Float) (l x : Float) where
   pub heard-none : getD (r .kinds) k 0 ≡ 0 → _≡_ (0ᶠ, meanIn m a l) (hear m design ds i (meanIn m a l) (readBack m r k, x))
   unfolding hear readBack decisionOf told heed
   heard-none e = rw e refl
 
-  pub heard-usual : (v l′ : Float) (a′ : List Float) → getD (r .kinds) k 0 ≡ 1 → v ≡ innovation m (row m design i) (at ds i) (vec m a) x → vec m a′ ≡ axpy m (vec m a) v (over m (blockAt m (r .mStars) k) (at (r .fStars) k)) → l′ ≡ usualTerm l (at (r .fStars) k) v
-      → _≡_ (v, meanIn m a′ l′) (hear m design ds i (meanIn m a l) (readBack m r k, x))
-  unfolding hear readBack decisionOf told heed blockAt
-  heard-usual v l′ a′ e ev ea el = rw (e, ea, el, ev) refl
+  module _ {v l′ : Float} {a′ : List Float} where
+    pub heard-usual : getD (r .kinds) k 0 ≡ 1 → Followed m (row m design i) (at ds i) x (blockAt m (r .mStars) k) (at (r .fStars) k) a a′ v → l′ ≡ usualTerm l (at (r .fStars) k) v
+        → _≡_ (v, meanIn m a′ l′) (hear m design ds i (meanIn m a l) (readBack m r k, x))
+    unfolding hear readBack decisionOf told heed blockAt
+    heard-usual e h el = rw (e, h .moved, el, h .is) refl
 
-  pub heard-diffuse : (v l′ : Float) (a′ : List Float) → (getD (r .kinds) k 0 ≡ 0 → ⊥) → (getD (r .kinds) k 0 ≡ 1 → ⊥) → v ≡ innovation m (row m design i) (at ds i) (vec m a) x → vec m a′ ≡ axpy m (vec m a) v (over m (blockAt m (r .mInfs) k) (at (r .fInfs) k)) → l′ ≡ diffuseTerm l (at (r .fInfs) k)
-      → _≡_ (v, meanIn m a′ l′) (hear m design ds i (meanIn m a l) (readBack m r k, x))
-  unfolding hear readBack told heed blockAt
-  heard-diffuse v l′ a′ n o ev ea el = rw (a-diffuse (getD (r .kinds) k 0) (at (r .fStars) k) (at (r .fInfs) k) (blockAt m (r .mStars) k) (blockAt m (r .mInfs) k) n o, ea, el, ev) refl
+    pub heard-diffuse : (getD (r .kinds) k 0 ≡ 0 → ⊥) → (getD (r .kinds) k 0 ≡ 1 → ⊥) → Followed m (row m design i) (at ds i) x (blockAt m (r .mInfs) k) (at (r .fInfs) k) a a′ v → l′ ≡ diffuseTerm l (at (r .fInfs) k)
+        → _≡_ (v, meanIn m a′ l′) (hear m design ds i (meanIn m a l) (readBack m r k, x))
+    unfolding hear readBack told heed blockAt
+    heard-diffuse n o h el = rw (a-diffuse (getD (r .kinds) k 0) (at (r .fStars) k) (at (r .fInfs) k) (blockAt m (r .mStars) k) (blockAt m (r .mInfs) k) n o, h .moved, el, h .is) refl
 
 -- ---- the elements of a period, in order
 
@@ -72,9 +97,6 @@ scan-wrote f xs i s₀ s s′ d out x h g e q = rw (add-one, scan-next f xs i s�
 
 -- what a period hears: p entries, by place
 module _ (p m t : ℕ) (r : Flat) (ys : List Float) where
-  abbrev pub heardAt : List (Decision × Float)
-  heardAt = pairs (entryAt p m r ys t .0) (entryAt p m r ys t .1)
-
   decisions-long : length (decisionsAt p m r t) ≡ p
   unfolding decisionsAt
   decisions-long = length-tab p 0 (λ i. readBack m r (t * p + i))
@@ -82,11 +104,11 @@ module _ (p m t : ℕ) (r : Flat) (ys : List Float) where
   readings-long : t * p + p ≤ length ys → length (take p (drop (t * p) ys)) ≡ p
   readings-long room = simp (length-take, length-drop) (omega arith)
 
-  heard-long : t * p + p ≤ length ys → length heardAt ≡ p
+  heard-long : t * p + p ≤ length ys → length (heardAt p m r ys t) ≡ p
   unfolding entryAt
   heard-long room = length-pairs p (decisionsAt p m r t) (take p (drop (t * p) ys)) decisions-long (readings-long room)
 
-  heard-at : t * p + p ≤ length ys → (i : ℕ) → i < p → getD heardAt i (skipped, nan) ≡ (readBack m r (t * p + i), at ys (t * p + i))
+  heard-at : t * p + p ≤ length ys → (i : ℕ) → i < p → getD (heardAt p m r ys t) i (skipped, nan) ≡ (readBack m r (t * p + i), at ys (t * p + i))
   unfolding entryAt decisionsAt
   heard-at room i h =
       pairs-at (decisionsAt p m r t) (take p (drop (t * p) ys)) i skipped nan (skipped, nan) (rw decisions-long h) (rw (readings-long room) h)
@@ -97,7 +119,7 @@ module _ (p m t : ℕ) (r : Flat) (ys : List Float) where
     pub record Along (i : ℕ) (v : List Float) (s : Mean) : Type 0 where
       pub low : i ≤ p
       pub long : length v ≡ p
-      pub ran : scan (hear m design ds) 0 s₀ (take i heardAt) ≡ (take i v, s)
+      pub ran : scan (hear m design ds) 0 s₀ (take i (heardAt p m r ys t)) ≡ (take i v, s)
 
     pub along-none : (v : List Float) → length v ≡ p → Along 0 v s₀
     unfolding scan
@@ -108,21 +130,35 @@ module _ (p m t : ℕ) (r : Flat) (ys : List Float) where
         record {
           low = omega arith;
           long = length-set v i x ∙ g .long;
-          ran = scan-wrote (hear m design ds) heardAt i s₀ s s′ (skipped, nan) v x (rw (heard-long room) h) (rw (g .long) h) (g .ran) (e ∙ ap (hear m design ds i s) (sym (heard-at room i h)));
+          ran = scan-wrote (hear m design ds) (heardAt p m r ys t) i s₀ s s′ (skipped, nan) v x (rw (heard-long room) h) (rw (g .long) h) (g .ran) (e ∙ ap (hear m design ds i s) (sym (heard-at room i h)));
         }
 
-    pub along-all : {i : ℕ} {v : List Float} {s : Mean} → Along i v s → p ≤ i → t * p + p ≤ length ys → (v, s) ≡ scan (hear m design ds) 0 s₀ heardAt
+    pub along-all : {i : ℕ} {v : List Float} {s : Mean} → Along i v s → p ≤ i → t * p + p ≤ length ys → (v, s) ≡ scan (hear m design ds) 0 s₀ (heardAt p m r ys t)
     along-all {i} {v} {s} g h room =
         let e : i ≡ p = omega (arith, g .low) in
-        sym (ap (scan (hear m design ds) 0 s₀) (sym (take-all i heardAt (omega (arith, heard-long room)))) ∙ g .ran ∙ ap (λ (l : List Float). (l, s)) (take-all i v (omega (arith, g .long))))
+        sym (ap (scan (hear m design ds) 0 s₀) (sym (take-all i (heardAt p m r ys t) (omega (arith, heard-long room)))) ∙ g .ran ∙ ap (λ (l : List Float). (l, s)) (take-all i v (omega (arith, g .long))))
 
     -- the whole period: what stood there, the elements, and the step by T and c
-    pub whole : (tr c : List Float) (pred filt v a′ next : List Float) (l : Float) → pred ≡ s₀ .a → _≡_ (v, meanIn m a′ l) (scan (hear m design ds) 0 s₀ heardAt) → filt ≡ vec m a′ → vec m next ≡ meanStep m tr c (vec m a′)
+    pub whole : (tr c : List Float) (pred filt v a′ next : List Float) (l : Float) → pred ≡ s₀ .a → _≡_ (v, meanIn m a′ l) (scan (hear m design ds) 0 s₀ (heardAt p m r ys t)) → filt ≡ vec m a′ → vec m next ≡ meanStep m tr c (vec m a′)
         → _≡_ (leftIn pred v filt, meanIn m next l) (meanPeriodOf m tr c ds design s₀ (entryAt p m r ys t))
     unfolding meanPeriodOf meanEnded
     whole tr c pred filt v a′ next l ep e ef en = rw (← e, ep, ef, en) refl
 
--- ---- the records below fewer places
+-- ---- what has to be there, from what stands there
+
+-- element i of the period
+pub element-in : {p m t i design d y v : ℕ} {r : Flat} → Period p m t design d y v r → i < p → Element m i (t * p + i) design d y r
+element-in {p} {m} {t} {i} h b =
+    let row = block-in i p m b in
+    let place : t * p + i < t * p + p = omega arith in
+    let gain = block-in (t * p + i) (t * p + p) m place in
+    record {
+      kind = omega (arith, h .holds .ks);
+      usual = record { m8 = h .m8; row = omega (arith, h .rows); intercept = omega (arith, h .intercepts); reading = omega (arith, h .readings); variance = omega (arith, h .holds .fs); gain = omega (arith, h .holds .ms) };
+      diffuse = record { m8 = h .m8; row = omega (arith, h .rows); intercept = omega (arith, h .intercepts); reading = omega (arith, h .readings); variance = omega (arith, h .holds .fi); gain = omega (arith, h .holds .mi) };
+    }
+
+-- the records below fewer places
 
 pub fewer : {m j k : ℕ} {r : Flat} → j ≤ k → Holds m k r → Holds m j r
 fewer {m} {j} {k} {r} h g =
@@ -133,3 +169,6 @@ fewer {m} {j} {k} {r} h g =
       ms = omega (arith, g .ms, mul-le-mul-right m h);
       mi = omega (arith, g .mi, mul-le-mul-right m h);
     }
+
+pub at-most : {a b c : ℕ} → a ≡ b → b ≤ c → a ≤ c
+at-most e h = omega arith

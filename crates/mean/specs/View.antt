@@ -1,12 +1,13 @@
 -- What the mean track's functions read off the lent parts, what they need of them, and what they promise.
 use mathlib.Core.Path.{_≡_}
-use Prim.Native.Nat.{ℕ, _+_, _*_, _≤_, _<_}
+use Prim.Native.Nat.{ℕ, suc, _+_, _*_, _≤_, _<_}
 use mathlib.Core.List.{List, map}
 use lib.ListN.{length, take, drop}
 use lib.Ieee.{Float}
 use Rattle.definition.specs.Run.{join, pairs, chunks}
 use Rattle.definition.specs.Cov.{Decision}
-use Rattle.definition.specs.Mean.{Mean, MeanPeriod}
+use Rattle.definition.specs.Dense.{axpy, over}
+use Rattle.definition.specs.Mean.{Mean, MeanPeriod, innovation}
 use Rattle.definition.specs.Parts.{predMean, filtMean, innovations, meanBlock}
 use Rattle.definition.specs.Outcome.{meanWritten}
 use Rattle.laws.specs.Flat.{Flat, decisionsAt, decisionRows}
@@ -24,9 +25,12 @@ meanIn m a l = record { a = vec m a; loglik = l }
 abbrev pub flatIn : List ℕ → List Float → List Float → List Float → List Float → Flat
 flatIn k f g a b = record { kinds = k; fStars = f; fInfs = g; mStars = a; mInfs = b }
 
--- what a period hears: its decisions and its readings; and what n periods hear
+-- what a period hears: its decisions and its readings, the same element by element, and what n periods hear
 unfoldable pub entryAt : ℕ → ℕ → Flat → List Float → ℕ → List Decision × List Float
 entryAt p m r y t = (decisionsAt p m r t, take p (drop (t * p) y))
+
+abbrev pub heardAt : ℕ → ℕ → Flat → List Float → ℕ → List (Decision × Float)
+heardAt p m r y t = pairs (entryAt p m r y t .0) (entryAt p m r y t .1)
 
 unfoldable pub entries : ℕ → ℕ → ℕ → Flat → List Float → List (List Decision × List Float)
 entries n p m r y = pairs (decisionRows n p m r) (chunks n p y)
@@ -49,6 +53,30 @@ pub record Holds (m k : ℕ) (r : Flat) : Type 0 where
   pub ms : k * m ≤ length (r .mStars)
   pub mi : k * m ≤ length (r .mInfs)
 
+-- element i of a period, by the record at place k: its row and intercept, its reading, its F and its M
+pub record Place (m i k : ℕ) (design d y fs gains : ℕ) : Type 0 where
+  pub m8 : m ≤ 8
+  pub row : i * m + m ≤ design
+  pub intercept : i < d
+  pub reading : k < y
+  pub variance : k < fs
+  pub gain : k * m + m ≤ gains
+
+pub record Element (m i k : ℕ) (design d y : ℕ) (r : Flat) : Type 0 where
+  pub kind : k < length (r .kinds)
+  pub usual : Place m i k design d y (length (r .fStars)) (length (r .mStars))
+  pub diffuse : Place m i k design d y (length (r .fInfs)) (length (r .mInfs))
+
+-- the elements of period t: p rows and intercepts, the readings and records of its block, and p places for v
+pub record Period (p m t : ℕ) (design d y v : ℕ) (r : Flat) : Type 0 where
+  pub p8 : p ≤ 8
+  pub m8 : m ≤ 8
+  pub rows : p * m ≤ design
+  pub intercepts : p ≤ d
+  pub readings : t * p + p ≤ y
+  pub vs : v ≡ p
+  pub holds : Holds m (t * p + p) r
+
 -- the blocks that n periods leave
 pub record Room (p m n : ℕ) (pm′ fm′ v′ : ℕ) : Type 0 where
   pub pm : n * m ≤ pm′
@@ -56,6 +84,11 @@ pub record Room (p m n : ℕ) (pm′ fm′ v′ : ℕ) : Type 0 where
   pub vs : n * p ≤ v′
 
 -- ---- promises
+
+-- one element that is not skipped: v by its row z of the design and its intercept d, and the mean moved by v times M / F
+pub record Followed (m : ℕ) (z : List Float) (d reading : Float) (gain : List Float) (f : Float) (a a′ : List Float) (v : Float) : Type 0 where
+  pub is : v ≡ innovation m z d (vec m a) reading
+  pub moved : vec m a′ ≡ axpy m (vec m a) v (over m gain f)
 
 -- what the loop leaves, over the run r: the state, the counts as they were, and the periods' blocks laid over the parts
 pub record Looped (p m n : ℕ) (r : List MeanPeriod × Mean) (x x′ : Answer) (a′ pm₀ pm′ fm₀ fm′ v₀ v′ : List Float) : Type 0 where
