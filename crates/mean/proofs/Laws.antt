@@ -16,7 +16,7 @@ use Rattle.definition.specs.Mean.{Mean, MeanPeriod, innovation, told, heed, usu
 use Rattle.laws.specs.Lists.{tab-at, length-tab, pairs-at, scan-next}
 use Rattle.laws.specs.Passes.{block-in}
 use Rattle.laws.specs.Flat.{Flat, decisionOf, readBack, decisionsAt, blockAt}
-use Rattle.dense.specs.Views.{vec}
+use Rattle.dense.specs.Views.{vec, rect, mat}
 use Rattle.dense.specs.Places.{Saved}
 use Rattle.mean.specs.View.{meanIn, entryAt, heardAt, leftIn, Holds, Element, Period, Followed}
 
@@ -38,6 +38,10 @@ part-row i m l h = part-block i m l h
 -- an array that a part of k places was loaded into
 pub loaded : (k : ℕ) {s : List Float} (r : List Float) → length s ≡ k → vec (length s) r ≡ s → vec k r ≡ s
 loaded k r e h = rw e at h
+
+pub loaded-mat : (m : ℕ) {s : List Float} (r : List Float) → length s ≡ m * m → vec (length s) r ≡ s → mat m r ≡ s
+unfolding vec rect
+loaded-mat m r e h = loaded (m * m) r e h
 
 -- a part of k places that an array was saved into
 pub saved : (k n : ℕ) {a out : List Float} → n ≡ k → Saved n a out → out ≡ vec k a
@@ -143,32 +147,3 @@ module _ (p m t : ℕ) (r : Flat) (ys : List Float) where
         → _≡_ (leftIn pred v filt, meanIn m next l) (meanPeriodOf m tr c ds design s₀ (entryAt p m r ys t))
     unfolding meanPeriodOf meanEnded
     whole tr c pred filt v a′ next l ep e ef en = rw (← e, ep, ef, en) refl
-
--- ---- what has to be there, from what stands there
-
--- element i of the period
-pub element-in : {p m t i design d y v : ℕ} {r : Flat} → Period p m t design d y v r → i < p → Element m i (t * p + i) design d y r
-element-in {p} {m} {t} {i} h b =
-    let row = block-in i p m b in
-    let place : t * p + i < t * p + p = omega arith in
-    let gain = block-in (t * p + i) (t * p + p) m place in
-    record {
-      kind = omega (arith, h .holds .ks);
-      usual = record { m8 = h .m8; row = omega (arith, h .rows); intercept = omega (arith, h .intercepts); reading = omega (arith, h .readings); variance = omega (arith, h .holds .fs); gain = omega (arith, h .holds .ms) };
-      diffuse = record { m8 = h .m8; row = omega (arith, h .rows); intercept = omega (arith, h .intercepts); reading = omega (arith, h .readings); variance = omega (arith, h .holds .fi); gain = omega (arith, h .holds .mi) };
-    }
-
--- the records below fewer places
-
-pub fewer : {m j k : ℕ} {r : Flat} → j ≤ k → Holds m k r → Holds m j r
-fewer {m} {j} {k} {r} h g =
-    record {
-      ks = omega (arith, g .ks);
-      fs = omega (arith, g .fs);
-      fi = omega (arith, g .fi);
-      ms = omega (arith, g .ms, mul-le-mul-right m h);
-      mi = omega (arith, g .mi, mul-le-mul-right m h);
-    }
-
-pub at-most : {a b c : ℕ} → a ≡ b → b ≤ c → a ≤ c
-at-most e h = omega arith

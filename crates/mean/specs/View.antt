@@ -13,6 +13,7 @@ use Rattle.definition.specs.Outcome.{meanWritten}
 use Rattle.laws.specs.Flat.{Flat, decisionsAt, decisionRows}
 use Rattle.laws.specs.Passes.{Laid}
 use Rattle.dense.specs.Views.{vec}
+use Rattle.model.specs.Design.{DesignFits}
 use Rattle.mean.specs.declared.Answer.{Answer}
 
 -- ---- what the arrays and the flat parts stand for
@@ -77,9 +78,38 @@ pub record Period (p m t : ℕ) (design d y v : ℕ) (r : Flat) : Type 0 where
   pub vs : v ≡ p
   pub holds : Holds m (t * p + p) r
 
--- the blocks that n periods leave
+-- all n periods: the design, p intercepts, the readings and the records
+pub record Periods (p m n listed : ℕ) (z zs d y : ℕ) (r : Flat) : Type 0 where
+  pub n4096 : n ≤ 4096
+  pub design : DesignFits p m z zs listed
+  pub intercepts : p ≤ d
+  pub readings : n * p ≤ y
+  pub holds : Holds m (n * p) r
+
+-- the blocks that they leave
 pub record Room (p m n : ℕ) (pm′ fm′ v′ : ℕ) : Type 0 where
   pub pm : n * m ≤ pm′
+  pub fm : n * m ≤ fm′
+  pub vs : n * p ≤ v′
+
+-- what a call that is past refusals 1 and 2 has for the pass: the lengths of Z, the listed Z, T, c, d, a1 and y, and the records
+pub record Ready (p m n listed : ℕ) (z zs t c d a1 y : ℕ) (r : Flat) : Type 0 where
+  pub n4096 : n ≤ 4096
+  pub design : DesignFits p m z zs listed
+  pub transition : t ≡ m * m
+  pub shift : c ≡ m
+  pub intercepts : d ≡ p
+  pub start : a1 ≡ m
+  pub readings : y ≡ n * p
+  pub ks : n * p ≤ length (r .kinds)
+  pub fs : n * p ≤ length (r .fStars)
+  pub fi : n * p ≤ length (r .fInfs)
+  pub ms : n * (p * m) ≤ length (r .mStars)
+  pub mi : n * (p * m) ≤ length (r .mInfs)
+
+-- and the outputs: one more block of the predicted means
+pub record Rooms (p m n : ℕ) (pm′ fm′ v′ : ℕ) : Type 0 where
+  pub pm : n * m + m ≤ pm′
   pub fm : n * m ≤ fm′
   pub vs : n * p ≤ v′
 

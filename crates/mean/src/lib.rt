@@ -6,12 +6,11 @@ ghost use lib.ListN.{length};
 ghost use Rattle.definition.specs.Num.{at};
 ghost use Rattle.definition.specs.Dense.{row};
 ghost use Rattle.definition.specs.Run.{scan};
-ghost use Rattle.definition.specs.Mean.{innovation, usualTerm, diffuseTerm, hear, meanStep, meanPeriodOf};
+ghost use Rattle.definition.specs.Mean.{innovation, usualTerm, diffuseTerm, hear, meanStep, meanPeriodOf, meanRun};
+ghost use Rattle.definition.specs.Inputs.{frameFrom};
 ghost use Rattle.laws.specs.Flat.{readBack, blockAt};
 ghost use Rattle.dense.specs.Views.{vec, mat};
-ghost use Rattle.mean.specs.View.{meanIn, flatIn, entryAt, heardAt, leftIn, Followed, Place, Element, Period};
-
-const LN_TWO_PI: f64 = 1.8378770664093453;
+ghost use Rattle.mean.specs.View.{meanIn, flatIn, entryAt, entries, heardAt, leftIn, Followed, Place, Element, Period, Periods, Room, Ready, Rooms, Looped, Passed};
 
 // The answer, carried through the loop over the periods.
 pub struct Answer {
@@ -30,13 +29,13 @@ pub struct Heard {
 fn usual_term(loglik: f64, f: f64, v: f64) -> f64
     ensures { λ r. ⌜ r ≡ usualTerm loglik f v ⌝ }
 {
-    loglik - 0.5 * (LN_TWO_PI + float::ln(f) + v * v / f)
+    loglik - 0.5 * (float::ln_two_pi() + float::ln(f) + v * v / f)
 }
 
 fn diffuse_term(loglik: f64, f: f64) -> f64
     ensures { λ r. ⌜ r ≡ diffuseTerm loglik f ⌝ }
 {
-    loglik - 0.5 * (LN_TWO_PI + float::ln(f))
+    loglik - 0.5 * (float::ln_two_pi() + float::ln(f))
 }
 
 // v = (y - d) - z a; then a moves by v times the gain M / F.
@@ -222,4 +221,121 @@ fn mean_period(
     dense::save8(filt, a);
     mean_step(a, tr, c, m);
     loglik
+}
+
+// All n periods, in order. Each is handed its own block of each output.
+fn mean_loop<'a>(
+    a: &mut [f64; 8],
+    pred_mean: &mut [f64],
+    filt_mean: &mut [f64],
+    v: &mut [f64],
+    answer: Answer,
+    z: &'a [f64],
+    zs: &'a [f64],
+    tr: &[f64; 64],
+    c: &[f64; 8],
+    d: &[f64],
+    y: &[f64],
+    kinds: &[u8],
+    f_star: &[f64],
+    f_inf: &[f64],
+    m_star: &[f64],
+    m_inf: &[f64],
+    p: usize,
+    m: usize,
+    n: usize,
+    listed: usize,
+) -> Answer
+    requires { ⌜ Periods p m n listed (length (now z)) (length (now zs)) (length (now d)) (length (now y)) (flatIn (now kinds) (now «f_star») (now «f_inf») (now «m_star») (now «m_inf»)) × Room p m n (length (now «pred_mean»)) (length (now «filt_mean»)) (length (now v)) ⌝ }
+    ensures { λ r. ⌜ Looped p m n (meanRun (frameFrom p m (now (z .entry)) (now (zs .entry)) (mat m (now (tr .entry)))) (record { c = vec m (now (c .entry)); d = now (d .entry) }) 0 (meanIn m (now (a .entry)) (answer .loglik))
+        (entries n p m (flatIn (now (kinds .entry)) (now («f_star» .entry)) (now («f_inf» .entry)) (now («m_star» .entry)) (now («m_inf» .entry))) (now (y .entry))))
+        answer r (now (a .exit)) (now («pred_mean» .entry)) (now («pred_mean» .exit)) (now («filt_mean» .entry)) (now («filt_mean» .exit)) (now (v .entry)) (now (v .exit)) ⌝ }
+{
+    let mut answer = answer;
+    for t in 0..n {
+        let design = model::design(z, zs, p, m, listed, t);
+        let from = t * m;
+        let to = from + m;
+        let first = t * p;
+        let last = first + p;
+        answer.loglik = mean_period(
+            a,
+            &mut pred_mean[from..to],
+            &mut filt_mean[from..to],
+            &mut v[first..last],
+            answer.loglik,
+            design,
+            tr,
+            c,
+            d,
+            y,
+            kinds,
+            f_star,
+            f_inf,
+            m_star,
+            m_inf,
+            p,
+            m,
+            t,
+        );
+    }
+    answer
+}
+
+// The mean pass: v, the predicted and the filtered means of n periods, place n of the predicted ones, and the log-likelihood. The counts of the
+// answer go through as they came. `listed` is how many designs the list has.
+pub fn mean_pass<'a>(
+    answer: Answer,
+    z: &'a [f64],
+    zs: &'a [f64],
+    t: &[f64],
+    c: &[f64],
+    d: &[f64],
+    a1: &[f64],
+    y: &[f64],
+    kinds: &[u8],
+    f_star: &[f64],
+    f_inf: &[f64],
+    m_star: &[f64],
+    m_inf: &[f64],
+    pred_mean: &mut [f64],
+    filt_mean: &mut [f64],
+    v: &mut [f64],
+    p: usize,
+    m: usize,
+    n: usize,
+    listed: usize,
+) -> Answer
+    requires { ⌜ Ready p m n listed (length (now z)) (length (now zs)) (length (now t)) (length (now c)) (length (now d)) (length (now a1)) (length (now y)) (flatIn (now kinds) (now «f_star») (now «f_inf») (now «m_star») (now «m_inf»)) × Rooms p m n (length (now «pred_mean»)) (length (now «filt_mean»)) (length (now v)) ⌝ }
+    ensures { λ r. ⌜ Passed p m n (meanRun (frameFrom p m (now (z .entry)) (now (zs .entry)) (now (t .entry))) (record { c = now (c .entry); d = now (d .entry) }) 0 (record { a = now (a1 .entry); loglik = answer .loglik })
+        (entries n p m (flatIn (now (kinds .entry)) (now («f_star» .entry)) (now («f_inf» .entry)) (now («m_star» .entry)) (now («m_inf» .entry))) (now (y .entry))))
+        answer r (now («pred_mean» .entry)) (now («pred_mean» .exit)) (now («filt_mean» .entry)) (now («filt_mean» .exit)) (now (v .entry)) (now (v .exit)) ⌝ }
+{
+    let tr = dense::load64(t);
+    let shift = dense::load8(c);
+    let mut a = dense::load8(a1);
+    let answer = mean_loop(
+        &mut a,
+        pred_mean,
+        filt_mean,
+        v,
+        answer,
+        z,
+        zs,
+        &tr,
+        &shift,
+        d,
+        y,
+        kinds,
+        f_star,
+        f_inf,
+        m_star,
+        m_inf,
+        p,
+        m,
+        n,
+        listed,
+    );
+    blocks::put8(pred_mean, &a, n, m);
+    answer
 }

@@ -3,6 +3,7 @@ use Prim.Native.Nat.{_-_}
 use native.Mathlib.Omega.{arith}
 use Rattle.mean.specs.View.{meanIn, flatIn}
 use Rattle.mean.proofs.Laws as laws
+use Rattle.mean.proofs.Sizes as sizes
 use Rattle.mean.proofs.elements.Statement.{statement}
 use Rattle.mean.proofs.elements.Tie as tie
 
@@ -23,7 +24,7 @@ add-hear : tie.Need-add-hear Inv-loop μ-loop
 add-hear c = omega (arith, c .before .before .before .before .before .before .before .before .before .before .before .before .pre .readings, c .before .loop-test .taken)
 
 hear-requires : tie.Need-hear-requires Inv-loop μ-loop
-hear-requires c κs = laws.element-in (c .before .before .before .before .before .before .before .before .before .before .before .before .pre) (c .before .loop-test .taken)
+hear-requires c κs = sizes.element-in (c .before .before .before .before .before .before .before .before .before .before .before .before .pre) (c .before .loop-test .taken)
 
 mul-v : tie.Need-mul-v Inv-loop μ-loop
 mul-v c = omega (arith, c .before .before .before .before .before .before .before .before .before .before .before .before .before .pre .p8, c .before .before .loop-test .taken)

@@ -1,16 +1,17 @@
 use mathlib.Core.Path.{_∙_}
 use Rattle.mean.proofs.Laws as laws
+use Rattle.mean.proofs.Sizes as sizes
 use Rattle.mean.proofs.mean_period.Statement.{statement}
 use Rattle.mean.proofs.mean_period.Tie as tie
 
 save8-requires : tie.Need-save8-requires
-save8-requires c κs = laws.at-most (c .before .before .before .before .before .before .before .before .before .before .before .before .before .pre .0) (c .before .before .before .before .before .before .before .before .before .before .before .before .before .pre .1 .1 .m8)
+save8-requires c κs = sizes.at-most (c .before .before .before .before .before .before .before .before .before .before .before .before .before .pre .0) (c .before .before .before .before .before .before .before .before .before .before .before .before .before .pre .1 .1 .m8)
 
 elements-requires : tie.Need-elements-requires
 elements-requires c κs = c .before .before .before .before .before .before .before .before .before .before .before .before .before .before .before .before .before .before .pre .1 .1
 
 save8-requires-2 : tie.Need-save8-requires-2
-save8-requires-2 c κs = laws.at-most (c .before .before .before .before .before .before .before .before .before .before .before .before .before .before .before .before .before .before .before .before .before .before .before .pre .1 .0) (c .before .before .before .before .before .before .before .before .before .before .before .before .before .before .before .before .before .before .before .before .before .before .before .pre .1 .1 .m8)
+save8-requires-2 c κs = sizes.at-most (c .before .before .before .before .before .before .before .before .before .before .before .before .before .before .before .before .before .before .before .before .before .before .before .pre .1 .0) (c .before .before .before .before .before .before .before .before .before .before .before .before .before .before .before .before .before .before .before .before .before .before .before .pre .1 .1 .m8)
 
 mean-step-requires : tie.Need-mean-step-requires
 mean-step-requires c κs = c .before .before .before .before .before .before .before .before .before .before .before .before .before .before .before .before .before .before .before .before .before .before .before .before .before .before .before .pre .1 .1 .m8

@@ -2,11 +2,10 @@ use borrow.Author.Needs.{needs}
 use Rattle.mean.proofs.usual_term.Statement.{statement}
 use Rattle.mean.proofs.usual_term.Tie as tie
 use Rattle.definition.specs.Mean.{usualTerm}
-use Rattle.mean.proofs.TwoPi.{two-pi}
 
 returns : tie.Need-returns
 unfolding usualTerm
-returns c = cc two-pi
+returns c = cc
 
 pub usual-term-spec : {M : Type 1} → statement M
-usual-term-spec = tie.close (tie.spec (λ c κs. search needs) returns)
+usual-term-spec = tie.close (tie.spec (λ c κs. search needs) (λ c κs. search needs) returns)

@@ -1,0 +1,117 @@
+-- Places and lengths: block t of a part, what a period needs of what the pass has.
+use mathlib.Core.Path.{_≡_, refl, sym, ap, _∙_}
+use Prim.Native.Nat.{ℕ, zero, suc, _+_, _-_, _*_, _≤_, _<_}
+use native.Mathlib.Nat.{mul-le-mul, mul-le-mul-right, mul-assoc}
+use native.Mathlib.Omega.{arith}
+use mathlib.Core.List.{List}
+use lib.ListN.{length, take, drop, length-take, length-drop}
+use lib.Ieee.{Float}
+use mir.Val.{Fits}
+use mir.Syntax.{w64}
+use Rattle.definition.specs.Inputs.{designFrom}
+use Rattle.laws.specs.Flat.{Flat}
+use Rattle.laws.specs.Passes.{block-in}
+use Rattle.model.specs.Design.{DesignFits, length-design}
+use Rattle.mean.specs.View.{Holds, Place, Element, Period, Periods, Room, Ready, Rooms}
+
+pub at-most : {a b c : ℕ} → a ≡ b → b ≤ c → a ≤ c
+at-most e h = omega arith
+
+pub square-most : {m a : ℕ} → a ≡ m * m → m ≤ 8 → a ≤ 64
+square-most {m} e h = omega (arith, mul-le-mul {n₁ = m} {m₁ = m} {n₂ = 8} {m₂ = 8} h h)
+
+pub same-room : {a b c : ℕ} → a ≤ b → c ≡ b → a ≤ c
+same-room h e = omega arith
+
+-- ---- block t of k places, of at most 4096 blocks of at most 8
+
+module _ {n k t : ℕ} (few : n ≤ 4096) (small : k ≤ 8) (h : t < n) where
+  within : t * k + k ≤ 32768
+  within = omega (arith, block-in t n k h, mul-le-mul {n₁ = n} {m₁ = k} {n₂ = 4096} {m₂ = 8} few small)
+
+  pub from-fits : Fits w64 (t * k)
+  from-fits = omega (arith, within)
+
+  pub to-fits : Fits w64 (t * k + k)
+  to-fits = omega (arith, within)
+
+  pub bytes-fit : Fits w64 (t * k * 8)
+  bytes-fit = omega (arith, within)
+
+pub next-fits : {n t : ℕ} → n ≤ 4096 → t < n → Fits w64 (t + 1)
+next-fits few h = omega arith
+
+pub falls : (n t : ℕ) → t < n → n - (t + 1) < n - t
+falls n t h = omega arith
+
+pub ordered : (a k : ℕ) → a ≤ a + k
+ordered a k = omega arith
+
+-- a part that is as long as it was has room for block t
+pub part-in : {n t long long₀ : ℕ} (k : ℕ) → t < n → n * k ≤ long₀ → long ≡ long₀ → t * k + k ≤ long
+part-in {n} {t} k h room e = omega (arith, block-in t n k h)
+
+pub block-long : {A : Type 0} (t k : ℕ) (l : List A) → t * k + k ≤ length l → length (take (t * k + k - t * k) (drop (t * k) l)) ≡ k
+block-long t k l h = simp (length-take, length-drop) (omega arith)
+
+-- ---- what has to be there
+
+-- the records below fewer places
+fewer : {m j k : ℕ} {r : Flat} → j ≤ k → Holds m k r → Holds m j r
+fewer {m} h g =
+    record {
+      ks = omega (arith, g .ks);
+      fs = omega (arith, g .fs);
+      fi = omega (arith, g .fi);
+      ms = omega (arith, g .ms, mul-le-mul-right m h);
+      mi = omega (arith, g .mi, mul-le-mul-right m h);
+    }
+
+-- element i of a period
+pub element-in : {p m t i design d y v : ℕ} {r : Flat} → Period p m t design d y v r → i < p → Element m i (t * p + i) design d y r
+element-in {p} {m} {t} {i} h b =
+    let row = block-in i p m b in
+    let place : t * p + i < t * p + p = omega arith in
+    let gain = block-in (t * p + i) (t * p + p) m place in
+    record {
+      kind = omega (arith, h .holds .ks);
+      usual =
+          record {
+            m8 = h .m8;
+            row = omega (arith, h .rows);
+            intercept = omega (arith, h .intercepts);
+            reading = omega (arith, h .readings);
+            variance = omega (arith, h .holds .fs);
+            gain = omega (arith, h .holds .ms);
+          };
+      diffuse =
+          record {
+            m8 = h .m8;
+            row = omega (arith, h .rows);
+            intercept = omega (arith, h .intercepts);
+            reading = omega (arith, h .readings);
+            variance = omega (arith, h .holds .fi);
+            gain = omega (arith, h .holds .mi);
+          };
+    }
+
+-- period t of n
+pub period-in : (z zs : List Float) {design : List Float} {p m n listed d y v t : ℕ} {r : Flat} → Periods p m n listed (length z) (length zs) d y r → t < n → design ≡ designFrom p m z zs t → v ≡ p → Period p m t (length design) d y v r
+period-in z zs {p = p} {n = n} {t = t} g h e l =
+    let b = block-in t n p h in
+    let long = ap length e ∙ length-design z zs t (g .design) in
+    record { p8 = g .design .p8; m8 = g .design .m8; rows = omega (arith, long); intercepts = g .intercepts; readings = omega (arith, g .readings); vs = l; holds = fewer b (g .holds) }
+
+-- the pass's inputs, for the loop
+pub periods : {p m n listed z zs t c d a1 y : ℕ} {r : Flat} → Ready p m n listed z zs t c d a1 y r → Periods p m n listed z zs d y r
+periods {p} {m} {n} g =
+    record {
+      n4096 = g .n4096;
+      design = g .design;
+      intercepts = omega (arith, g .intercepts);
+      readings = omega (arith, g .readings);
+      holds = record { ks = g .ks; fs = g .fs; fi = g .fi; ms = rw mul-assoc (g .ms); mi = rw mul-assoc (g .mi) };
+    }
+
+pub rooms : {p m n pm fm v : ℕ} → Rooms p m n pm fm v → Room p m n pm fm v
+rooms g = record { pm = omega (arith, g .pm); fm = g .fm; vs = g .vs }
