@@ -1,4 +1,5 @@
 // The natural logarithm of document 01.
+use crate::parts::TWO_52;
 use crate::parts::parts;
 ghost use mathlib.Core.Path.{_≡_};
 ghost use Prim.Native.Nat.{_<_};
@@ -54,7 +55,7 @@ pub fn ln(x: f64) -> f64
             return x;
         }
         let p = parts(x);
-        let s = f64::from_bits(p.digits + 1022 * 4503599627370496);
+        let s = f64::from_bits(p.digits + 1022 * TWO_52);
         if s < 1.5 {
             return log_of(p.place, s);
         }

@@ -3,6 +3,9 @@ ghost use lib.Dec.{T};
 ghost use lib.Ieee.Positive.{positive};
 ghost use Rattle.float.specs.Inner.{Parted};
 
+// the weight of a bit pattern's exponent, and of a normal value's leading digit
+pub const TWO_52: u64 = 1 << 52;
+
 pub struct Apart {
     pub digits: u64,
     pub place: u64,
@@ -23,7 +26,7 @@ pub fn parts(x: f64) -> Apart
         };
     }
     Apart {
-        digits: b % 4503599627370496 + 4503599627370496,
+        digits: b % TWO_52 + TWO_52,
         place: e + 51,
     }
 }

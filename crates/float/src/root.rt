@@ -1,10 +1,15 @@
 // The square root of IEEE 754: a guess, an exact test of it and of the two numbers beside it, and the long way where the test fails.
+use crate::parts::TWO_52;
 use crate::parts::parts;
 ghost use mathlib.Core.Path.{_≡_};
 ghost use Prim.Native.Nat.{_+_, _*_, _^_, _≤_, _<_};
 ghost use Rattle.definition.specs.Root.{sqrtOf};
 ghost use Rattle.laws.specs.Squares.{IsRoot, NearRoot};
 ghost use Rattle.float.specs.Inner.{Beside};
+
+const TWO_27: u64 = 1 << 27;
+
+const TWO_25: u64 = 1 << 25;
 
 // The root of m * 2^54, cut to a whole number: a binary digit a turn.
 // r is what the digits so far leave, and w holds the digits to come.
@@ -39,17 +44,18 @@ fn square(g: u64) -> Wide
     requires { ⌜ g < 2 ^ 54 ⌝ }
     ensures { λ r. ⌜ (r .high * 2 ^ 52 + r .low ≡ g * g) × (r .low < 2 ^ 52) ⌝ }
 {
-    let h = g / 134217728;
-    let l = g % 134217728;
+    let h = g / TWO_27;
+    let l = g % TWO_27;
     let mid = h * l * 2;
-    let low = mid % 33554432 * 134217728 + l * l;
+    let low = mid % TWO_25 * TWO_27 + l * l;
     Wide {
-        high: h * h * 4 + mid / 33554432 + low / 4503599627370496,
-        low: low % 4503599627370496,
+        high: h * h * 4 + mid / TWO_25 + low / TWO_52,
+        low: low % TWO_52,
     }
 }
 
-// How far the root of m * 2^52 lies from g - 3/2, in units of 1 / (2 * g): from 1 up to 6 * g where it is nearest to g - 1, g or g + 1. Else 0.
+// m * 2^52 less (g - 1) * (g - 2), where that is from 1 up to 6 * g; else 0.
+// A whole number q is nearest to the root of n where q * (q - 1) < n <= q * (q + 1). So in that range the nearest one is g - 1, g or g + 1.
 fn beside(m: u64, g: u64) -> u64
     requires { ⌜ (m < 2 ^ 54) × (g < 2 ^ 54) ⌝ }
     ensures { λ r. ⌜ (0 < r → Beside m g r) ⌝ }
@@ -58,8 +64,8 @@ fn beside(m: u64, g: u64) -> u64
     if s.high <= m + 8 {
         let d = m + 8 - s.high;
         if d < 16 {
-            let upper = d * 4503599627370496 + 3 * g;
-            let lower = 8 * 4503599627370496 + 2 + s.low;
+            let upper = d * TWO_52 + 3 * g;
+            let lower = 8 * TWO_52 + 2 + s.low;
             if lower < upper {
                 let u = upper - lower;
                 if u <= 6 * g {
@@ -71,8 +77,8 @@ fn beside(m: u64, g: u64) -> u64
     0
 }
 
-// A guess at the root of the number from 1 up to 4 with the bit pattern b, in units of 2^-52: Newton's steps for 1 / root, and one for the root.
-// Nothing is proved of how near it is.
+// A guess at the root of the number with the bit pattern b, from 1 up to 4, in units of 2^-52: a start by the pattern's half, three of Newton's
+// steps for 1 / root, one for the root. Nothing is proved of how near it is.
 fn guess(b: u64) -> u64
     requires { ⌜ b < 1025 * 2 ^ 52 ⌝ }
     ensures { λ r. ⌜ (0 < r) × (r < 2 ^ 54) ⌝ }
@@ -93,7 +99,7 @@ fn guess(b: u64) -> u64
             }
         }
     }
-    4503599627370496
+    TWO_52
 }
 
 // The whole number nearest to the root of m * 2^52: beside the guess if an exact test says so, and else the long way.
@@ -106,6 +112,7 @@ fn rounded(m: u64, b: u64) -> u64
     if u == 0 {
         return (long_root(m) + 1) / 2;
     }
+    // g * (g - 1) and g * (g + 1), each less (g - 1) * (g - 2)
     g - 1 + (2 * g - 2 < u) as u64 + (4 * g - 2 < u) as u64
 }
 
@@ -118,8 +125,8 @@ pub fn sqrt(x: f64) -> f64
         }
         let p = parts(x);
         let odd = p.place % 2;
-        let q = rounded(p.digits << odd, p.digits + (1022 + odd) * 4503599627370496);
-        return f64::from_bits((p.place / 2 + 485) * 4503599627370496 + q);
+        let q = rounded(p.digits << odd, p.digits + (1022 + odd) * TWO_52);
+        return f64::from_bits((p.place / 2 + 485) * TWO_52 + q);
     }
     if x == 0.0 {
         return x;
