@@ -3,32 +3,26 @@
 use mathlib.Core.Path.{_≡_, refl, sym, ap, _∙_, subst}
 use mathlib.Core.Bool.{Bool, true, false, not, cond}
 use Prim.Native.Nat.{ℕ, zero, suc, _+_, _-_, _*_, _/_, _%_, _^_, _≤_, _<_}
-use native.Mathlib.Nat.{add-comm, le-of-suc-le-suc, lt-of-lt-of-le, lt-of-le-of-lt, mul-one, mul-comm, mul-assoc, mul-le-mul-right, mul-div-cancel, mod-eq-of-lt}
+use native.Mathlib.Nat.{add-comm, le-of-suc-le-suc, lt-of-lt-of-le, lt-of-le-of-lt, mul-one, mul-comm, mul-assoc, mul-le-mul-right, mod-eq-of-lt}
 use native.Mathlib.Omega.{arith}
 use lib.Dec.{T, T-not, leb, eqb, nleb→lt, lit≤}
 use lib.Arith.{lt-of-le-ne}
 use lib.Count.{leadingZeros, leading-top}
 use lib.Pow.{pow-pos, pow-add, shl-lt}
-use lib.Ieee.{Float, nan, inf, fin, binary64, down, odd, ofFields, ofBits, toBits, fits, isNan}
-use lib.Ieee.Fits.{down-pos}
+use lib.Ieee.{Float, nan, inf, binary64, odd, ofFields, ofBits, toBits, fits, isNan}
 use lib.Ieee.Exact.{HasValue, odd-sign}
 use lib.Ieee.Positive.{positive, value-pos}
 use lib.Ieee.Bits.{ofBits-toBits}
 use Rattle.definition.specs.Root.{count}
 use Rattle.laws.specs.Squares.{pow-lt-back}
+use Rattle.laws.specs.RootLaws.{count-val, positive-cases}
 use Rattle.float.specs.Inner.{Parted}
 
 -- ---- the count of a value
-pub count-of : (x : Float) (s : Bool) (a : ℕ) → T (positive x) → HasValue x s a (2 ^ 1074) → (s ≡ false) × (count binary64 x ≡ a) × (0 < a)
-unfolding count
-count-of nan s a p v = absurd p
-count-of (inf t) s a p v = absurd p
-count-of (fin true m e) s a p v = absurd p
-count-of (fin false m e) s a p v = (
-  sym (v .0),
-  ap (λ (y : ℕ). y / down e) (v .1) ∙ mul-div-cancel a (down-pos e),
-  value-pos (fin false m e) a (2 ^ 1074) p (pow-pos 1074) (refl, v .1),
-)
+count-of : (x : Float) (s : Bool) (a : ℕ) → T (positive x) → HasValue x s a (2 ^ 1074) → (s ≡ false) × (count binary64 x ≡ a) × (0 < a)
+count-of x s a p v =
+    let plus : s ≡ false = positive-cases (λ (x : Float). HasValue x s a (2 ^ 1074) → s ≡ false) (λ m e. λ v. sym (v .0)) x p v in
+    (plus, count-val binary64 x s a v, value-pos x a (2 ^ 1074) p (pow-pos 1074) (subst (λ (t : Bool). HasValue x t a (2 ^ 1074)) plus v))
 
 -- ---- what the fields say
 abbrev pub Says : ℕ → ℕ → ℕ → Type 0
@@ -147,6 +141,4 @@ parted-high x b r n = says-high x (b / 2 ^ 52) (b % 2 ^ 52) n (omega arith) (r .
 
 pub no-nan : (x : Float) → T (positive x) → T (not (isNan x))
 unfolding isNan
-no-nan nan p = p
-no-nan (inf s) p = tt
-no-nan (fin s m e) p = tt
+no-nan = positive-cases (λ (x : Float). T (not (isNan x))) (λ m e. tt)

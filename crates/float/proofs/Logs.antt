@@ -1,14 +1,14 @@
 -- The logarithm's laws: its k and s from a value taken apart, `j as i64 - 1074` as an `f64`, and its cases. Assumes nothing.
 use mathlib.Core.Path.{_≡_, refl, sym, ap, _∙_, subst}
 use mathlib.Core.Bool.{Bool, true, false, not, cond}
-use Prim.Native.Nat.{ℕ, zero, suc, _+_, _-_, _*_, _/_, _%_, _^_, _≤_, _<_, compare}
+use Prim.Native.Nat.{ℕ, suc, _+_, _-_, _*_, _/_, _%_, _^_, _≤_, _<_, compare}
 use native.Mathlib.Nat.{le-trans, le-of-eq, le-of-lt, lt-of-lt-of-le, add-comm, mul-comm, mul-assoc, mul-le-mul-right, mul-lt-mul-of-pos-right, le-of-mul-le-mul-right, lt-of-mul-lt-mul-right, mul-div-cancel, mul-mod-left, pow-succ'}
 use native.Mathlib.Omega.{arith}
 use lib.Dec.{T, leb, ltb, leb→le, nleb→lt, ltb→lt, nltb→le, lit≤, le→leb, lt→ltb}
 use lib.IntN.{ℤ, pos, negsuc, _-ℤ_}
 use lib.Signed.{mag}
 use lib.Pow.{pow-pos}
-use lib.Ieee.{Float, nan, inf, fin, binary64, size, nearest, units, round, ofBits, neg, lt, mul, div, minus, inFloat}
+use lib.Ieee.{Float, inf, binary64, size, nearest, units, round, ofBits, neg, lt, mul, div, minus, inFloat}
 use lib.Ieee.Fits.{core, round-is}
 use lib.Ieee.Positive.{positive}
 use lib.Ieee.Scale.{round-same}
@@ -20,8 +20,9 @@ use Rattle.definition.specs.Num.{0ᶠ}
 use Rattle.definition.specs.Root.{count}
 use Rattle.definition.specs.Log.{half, lnOf, logOf, logCount, reduced}
 use Rattle.laws.specs.Squares.{size-exact}
+use Rattle.laws.specs.RootLaws.{positive-cases}
 use Rattle.float.specs.Inner.{Parted}
-use Rattle.float.proofs.Tests.{top, Zero, Outside}
+use Rattle.float.proofs.Tests.{top, Zero, Outside, zero-cases, outside-cases}
 use Rattle.float.proofs.Units.{bits-units}
 
 -- ---- s = d / 2 ^ 52, with its pattern d + 1022 * 2 ^ 52, is what the definition divides
@@ -40,11 +41,7 @@ round-digits d lo hi =
 
 ln-positive : (x : Float) → T (positive x) → lnOf x ≡ logCount (count binary64 x)
 unfolding lnOf
-ln-positive nan p = absurd p
-ln-positive (inf s) p = absurd p
-ln-positive (fin true m e) p = absurd p
-ln-positive (fin false zero e) p = absurd p
-ln-positive (fin false (suc m) e) p = refl
+ln-positive = positive-cases (λ (x : Float). lnOf x ≡ logCount (count binary64 x)) (λ m e. refl)
 
 below-middle : (j : ℕ) (s : Float) → lt s (ofBits binary64 0x3FF8000000000000) ≡ true → logOf (minus j 1074) s ≡ reduced j s
 unfolding reduced ofBits
@@ -135,17 +132,8 @@ at-top x e = e ∙ ap lnOf (sym e)
 
 pub at-zero : (x : Float) → Zero x → neg top ≡ lnOf x
 unfolding lnOf neg ofBits
-at-zero nan z = absurd z
-at-zero (inf s) z = absurd z
-at-zero (fin true zero e) z = refl
-at-zero (fin false zero e) z = refl
-at-zero (fin s (suc m) e) z = absurd z
+at-zero = zero-cases (λ (x : Float). neg top ≡ lnOf x) (λ e. refl) (λ e. refl)
 
 pub at-outside : (x : Float) → Outside x → div binary64 0ᶠ 0ᶠ ≡ lnOf x
 unfolding lnOf div ofBits
-at-outside nan z = refl
-at-outside (inf true) z = refl
-at-outside (inf false) z = absurd z
-at-outside (fin s zero e) z = absurd z
-at-outside (fin true (suc m) e) z = refl
-at-outside (fin false (suc m) e) z = absurd z
+at-outside = outside-cases (λ (x : Float). div binary64 0ᶠ 0ᶠ ≡ lnOf x) refl refl (λ m e. refl)

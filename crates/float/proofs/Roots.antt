@@ -1,20 +1,20 @@
 -- The square root's laws on whole numbers: a square by halves, the number beside the guess, and what the root of a value taken apart is. Assumes nothing.
 use mathlib.Core.Path.{_≡_, refl, sym, ap, _∙_, subst}
 use mathlib.Core.Bool.{Bool, true, false, not}
-use Prim.Native.Nat.{ℕ, zero, suc, _+_, _-_, _*_, _/_, _%_, _^_, _≤_, _<_}
+use Prim.Native.Nat.{ℕ, _+_, _-_, _*_, _/_, _%_, _^_, _≤_, _<_}
 use native.Mathlib.Nat.{le-of-lt, le-trans, le-of-eq, lt-of-le-of-lt, lt-of-lt-of-le, mod-eq-of-lt, mul-one, mul-comm, mul-assoc, mul-left-comm, mul-add, add-mul, add-assoc, add-comm, add-left-comm, mul-le-mul-left, mul-le-mul-right, mul-lt-mul-of-pos-right, div-add-mod'}
 use native.Mathlib.Omega.{arith}
 use mir.Val.{boolByte}
 use lib.Dec.{T, ltb, ltb→lt, nltb→le, lit≤}
 use lib.Pow.{pow-pos, pow-add, pow-mono, shl-lt}
 use lib.Ieee.Positive.{positive}
-use lib.Ieee.{Float, nan, inf, fin, binary64, ofBits, div}
+use lib.Ieee.{Float, inf, binary64, ofBits, div}
 use Rattle.definition.specs.Num.{0ᶠ}
 use Rattle.definition.specs.Root.{count, sqrtIn, sqrtOf}
 use Rattle.laws.specs.Squares.{IsRoot, NearRoot, next-sq, by-next, by-last, sq-lt-back, four-two, near-least, near-most, near-half}
 use Rattle.laws.specs.RootLaws.{root-at, sqrt-positive}
 use Rattle.float.specs.Inner.{Beside, Parted}
-use Rattle.float.proofs.Tests.{Zero, Outside}
+use Rattle.float.proofs.Tests.{Zero, Outside, zero-cases, outside-cases}
 use Rattle.float.proofs.Units.{bits-units}
 
 -- ---- a square by halves of 27 digits
@@ -146,17 +146,8 @@ at-top x e = e ∙ ap (sqrtIn binary64) (sym e)
 
 pub at-zero : (x : Float) → Zero x → x ≡ sqrtOf x
 unfolding sqrtIn
-at-zero nan z = absurd z
-at-zero (inf s) z = absurd z
-at-zero (fin true zero e) z = refl
-at-zero (fin false zero e) z = refl
-at-zero (fin s (suc m) e) z = absurd z
+at-zero = zero-cases (λ (x : Float). x ≡ sqrtOf x) (λ e. refl) (λ e. refl)
 
 pub at-outside : (x : Float) → Outside x → div binary64 0ᶠ 0ᶠ ≡ sqrtOf x
 unfolding sqrtIn div ofBits
-at-outside nan z = refl
-at-outside (inf true) z = refl
-at-outside (inf false) z = absurd z
-at-outside (fin s zero e) z = absurd z
-at-outside (fin true (suc m) e) z = refl
-at-outside (fin false (suc m) e) z = absurd z
+at-outside = outside-cases (λ (x : Float). div binary64 0ᶠ 0ᶠ ≡ sqrtOf x) refl refl (λ m e. refl)

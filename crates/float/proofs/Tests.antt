@@ -42,6 +42,21 @@ Outside (fin s zero e) = ⊥
 Outside (fin true (suc m) e) = Unit
 Outside (fin false (suc m) e) = ⊥
 
+pub zero-cases : (P : Float → Type 0) → ((e : ℤ) → P (fin true 0 e)) → ((e : ℤ) → P (fin false 0 e)) → (x : Float) → Zero x → P x
+zero-cases P g h nan z = absurd z
+zero-cases P g h (inf s) z = absurd z
+zero-cases P g h (fin true zero e) z = g e
+zero-cases P g h (fin false zero e) z = h e
+zero-cases P g h (fin s (suc m) e) z = absurd z
+
+pub outside-cases : (P : Float → Type 0) → P nan → P (inf true) → ((m : ℕ) (e : ℤ) → P (fin true (suc m) e)) → (x : Float) → Outside x → P x
+outside-cases P f g h nan z = f
+outside-cases P f g h (inf true) z = g
+outside-cases P f g h (inf false) z = absurd z
+outside-cases P f g h (fin s zero e) z = absurd z
+outside-cases P f g h (fin true (suc m) e) z = h m e
+outside-cases P f g h (fin false (suc m) e) z = absurd z
+
 -- m * 2 ^ e against 0, as `lt` and `eq` work it out
 
 some-above : (m : ℕ) (e : ℤ) → 0 * down e < suc m * up e * 1

@@ -39,6 +39,14 @@ pub record Rounded (f : Format) (x r : Float) : Type 0 where
   pub above : T (positive r)
   pub nearer : (y : Float) → T (fits f y) → T (unsigned y) → Nearer (count f x * 2 ^ low f) (count f r) (count f y)
 
+-- what is finite and above zero has one form
+pub positive-cases : (P : Float → Type 0) → ((m : ℕ) (e : ℤ) → P (fin false (suc m) e)) → (x : Float) → T (positive x) → P x
+positive-cases P h nan p = absurd p
+positive-cases P h (inf s) p = absurd p
+positive-cases P h (fin true m e) p = absurd p
+positive-cases P h (fin false zero e) p = absurd p
+positive-cases P h (fin false (suc m) e) p = h m e
+
 -- ---- a value of the format is `digits` times 2 ^ `place` smallest values, with `digits` of at most prec binary digits
 
 record Whole (f : Format) (n : ℕ) : Type 0 where
@@ -235,7 +243,7 @@ module _ (p v r k Y : ℕ) (least : 2 ^ (p + p) ≤ v) (near : NearRoot v r) (gr
 
 -- ---- the theorem
 
-count-val : (f : Format) (x : Float) (s : Bool) (a : ℕ) → HasValue x s a (2 ^ low f) → count f x ≡ a
+pub count-val : (f : Format) (x : Float) (s : Bool) (a : ℕ) → HasValue x s a (2 ^ low f) → count f x ≡ a
 unfolding count
 count-val f nan s a v = absurd v
 count-val f (inf t) s a v = absurd v
@@ -261,21 +269,17 @@ one-less binary64 = refl
 -- what is above zero is at least one smallest value
 count-pos : (f : Format) (x : Float) → T (fits f x) → T (positive x) → 0 < count f x
 unfolding count
-count-pos f nan t u = absurd u
-count-pos f (inf s) t u = absurd u
-count-pos f (fin true m e) t u = absurd u
-count-pos f (fin false zero e) t u = absurd u
-count-pos f (fin false (suc m) e) t u =
-    le-div-iff-mul-le (down-pos e) .1
-    (le-trans (le-of-eq (one-mul (down e)))
-    (le-trans (held-of f false m e t .deep)
-    (le-trans (le-of-eq (sym (one-mul (2 ^ low f)))) (mul-le-mul-right (2 ^ low f) (mul-pos (zero-lt-suc m) (up-pos e))))))
+count-pos f x t p = positive-cases (λ (x : Float). T (fits f x) → 0 < count f x) some x p t
+  where
+    some : (m : ℕ) (e : ℤ) → T (fits f (fin false (suc m) e)) → 0 < suc m * up e * 2 ^ low f / down e
+    some m e t =
+        le-div-iff-mul-le (down-pos e) .1
+        (le-trans (le-of-eq (one-mul (down e)))
+        (le-trans (held-of f false m e t .deep)
+        (le-trans (le-of-eq (sym (one-mul (2 ^ low f)))) (mul-le-mul-right (2 ^ low f) (mul-pos (zero-lt-suc m) (up-pos e))))))
 
 no-sign : (x : Float) → T (positive x) → T (unsigned x)
-no-sign nan p = absurd p
-no-sign (inf s) p = absurd p
-no-sign (fin true m e) p = absurd p
-no-sign (fin false m e) p = tt
+no-sign = positive-cases (λ (x : Float). T (unsigned x)) (λ m e. tt)
 
 module _ (f : Format) (p n : ℕ) (P : prec f ≡ suc p) (some : 0 < n) (w : Whole f n) where
   abbrev N : ℕ
@@ -356,11 +360,7 @@ module _ (f : Format) (p n : ℕ) (P : prec f ≡ suc p) (some : 0 < n) (w : Who
 
 pub sqrt-positive : (f : Format) (x : Float) → T (positive x) → sqrtIn f x ≡ rootOf f (count f x)
 unfolding sqrtIn
-sqrt-positive f nan p = absurd p
-sqrt-positive f (inf s) p = absurd p
-sqrt-positive f (fin true m e) p = absurd p
-sqrt-positive f (fin false zero e) p = absurd p
-sqrt-positive f (fin false (suc m) e) p = refl
+sqrt-positive f = positive-cases (λ (x : Float). sqrtIn f x ≡ rootOf f (count f x)) (λ m e. refl)
 
 pub correctly-rounded : (f : Format) (x : Float) → T (fits f x) → T (positive x) → Rounded f x (sqrtIn f x)
 correctly-rounded f x t u =
@@ -378,10 +378,7 @@ pattern f n = 0 + (size n - prec f) * hid f + n / 2 ^ (size n - prec f)
 
 bits : (f : Format) (x : Float) → T (positive x) → toBits f x ≡ pattern f (count f x)
 unfolding toBits count
-bits f nan p = absurd p
-bits f (inf s) p = absurd p
-bits f (fin true m e) p = absurd p
-bits f (fin false m e) p = refl
+bits f = positive-cases (λ (x : Float). toBits f x ≡ pattern f (count f x)) (λ m e. refl)
 
 same-count : (f : Format) (x y : Float) → T (fits f x) → T (fits f y) → T (positive x) → T (positive y) → count f x ≡ count f y → x ≡ y
 same-count f x y t u p q e = sym (ofBits-toBits f x t) ∙ ap (ofBits f) (bits f x p ∙ ap (pattern f) e ∙ sym (bits f y q)) ∙ ofBits-toBits f y u
