@@ -3,8 +3,7 @@
 use mathlib.Core.Path.{_≡_, sym, _∙_}
 use Prim.Native.Nat.{ℕ, _*_}
 use native.Mathlib.Omega.{arith}
-use mathlib.Core.Bool.{Bool}
-use mathlib.Core.List.{List, map}
+use mathlib.Core.List.{map}
 use lib.ListN.{length, drop}
 use borrow.Author.Needs.{needs}
 use Rattle.definition.specs.Run.{anyOf}
@@ -45,8 +44,17 @@ after1 c h = first.next _ _ _ _ (sym (c .before .outside .ensures) ∙ c .if1 .l
 abbrev start2 : tie.Else2 → tie.Start
 start2 c = start1 (c .before .before)
 
-inputs : (c : tie.Else2) → InputsFit (model (start2 c)) (offsets (start2 c))
-inputs c = first.inputs (model (start2 c)) (offsets (start2 c)) _ _ _ (c .before .lengths-fit .ensures) (c .if2 .left)
+-- what every later test may use
+record Known (x : Model) (o : Offsets) : Type 0 where
+  sizes : InRange (x .p) (x .m) (x .r) (x .n)
+  inputs : InputsFit x o
+
+known2 : (c : tie.Else2) → Known (model (start2 c)) (offsets (start2 c))
+known2 c =
+    record {
+      sizes = sizes (c .before .before);
+      inputs = first.inputs (model (start2 c)) (offsets (start2 c)) _ _ _ (c .before .lengths-fit .ensures) (c .if2 .left);
+    }
 
 after2 : (c : tie.Else2) {k : ℕ} → Left 2 (start2 c) k → Left 0 (start2 c) k
 unfolding tests
@@ -57,12 +65,18 @@ after2 c h = after1 (c .before .before) (first.next _ _ _ _ (first.bad-length (m
 abbrev start3 : tie.Else3 → tie.Start
 start3 c = start2 (c .before .before)
 
+known3 : (c : tie.Else3) → Known (model (start3 c)) (offsets (start3 c))
+known3 c = known2 (c .before .before)
+
 after3 : (c : tie.Else3) {k : ℕ} → Left 3 (start3 c) k → Left 0 (start3 c) k
 unfolding tests badSystem
 after3 c h = after2 (c .before .before) (first.next _ _ _ _ (sym (c .before .bad-system .ensures) ∙ c .if3 .left) h)
 
 abbrev start4 : tie.Else4 → tie.Start
 start4 c = start3 (c .before .before)
+
+known4 : (c : tie.Else4) → Known (model (start4 c)) (offsets (start4 c))
+known4 c = known3 (c .before .before)
 
 after4 : (c : tie.Else4) {k : ℕ} → Left 4 (start4 c) k → Left 0 (start4 c) k
 unfolding tests notPsd
@@ -71,12 +85,18 @@ after4 c h = after3 (c .before .before) (first.next _ _ _ _ (sym (c .before .not
 abbrev start5 : tie.Else5 → tie.Start
 start5 c = start4 (c .before .before)
 
+known5 : (c : tie.Else5) → Known (model (start5 c)) (offsets (start5 c))
+known5 c = known4 (c .before .before)
+
 after5 : (c : tie.Else5) {k : ℕ} → Left 5 (start5 c) k → Left 0 (start5 c) k
 unfolding tests
 after5 c h = after4 (c .before .before) (first.next _ _ _ _ (sym (c .before .off-diagonal .ensures) ∙ c .if5 .left) h)
 
 abbrev start6 : tie.Else6 → tie.Start
 start6 c = start5 (c .before .before)
+
+known6 : (c : tie.Else6) → Known (model (start6 c)) (offsets (start6 c))
+known6 c = known5 (c .before .before)
 
 after6 : (c : tie.Else6) {k : ℕ} → Left 6 (start6 c) k → Left 0 (start6 c) k
 unfolding tests badStart
@@ -85,12 +105,18 @@ after6 c h = after5 (c .before .before) (first.next _ _ _ _ (sym (c .before .bad
 abbrev start7 : tie.Else7 → tie.Start
 start7 c = start6 (c .before .before)
 
+known7 : (c : tie.Else7) → Known (model (start7 c)) (offsets (start7 c))
+known7 c = known6 (c .before .before)
+
 after7 : (c : tie.Else7) {k : ℕ} → Left 7 (start7 c) k → Left 0 (start7 c) k
 unfolding tests
 after7 c h = after6 (c .before .before) (first.next _ _ _ _ (sym (c .before .start-shape .ensures) ∙ c .if7 .left) h)
 
 abbrev start8 : tie.Else8 → tie.Start
 start8 c = start7 (c .before .before)
+
+known8 : (c : tie.Else8) → Known (model (start8 c)) (offsets (start8 c))
+known8 c = known7 (c .before .before)
 
 after8 : (c : tie.Else8) {k : ℕ} → Left 8 (start8 c) k → Left 0 (start8 c) k
 unfolding tests
@@ -99,12 +125,18 @@ after8 c h = after7 (c .before .before) (first.next _ _ _ _ (sym (c .before .off
 abbrev start9 : tie.Else9 → tie.Start
 start9 c = start8 (c .before .before)
 
+known9 : (c : tie.Else9) → Known (model (start9 c)) (offsets (start9 c))
+known9 c = known8 (c .before .before)
+
 after9 : (c : tie.Else9) {k : ℕ} → Left 9 (start9 c) k → Left 0 (start9 c) k
 unfolding tests
 after9 c h = after8 (c .before .before) (first.next _ _ _ _ (sym (c .before .any-infinite .ensures) ∙ c .if9 .left) h)
 
 abbrev start10 : tie.Else10 → tie.Start
 start10 c = start9 (c .before .before)
+
+known10 : (c : tie.Else10) → Known (model (start10 c)) (offsets (start10 c))
+known10 c = known9 (c .before .before)
 
 after10 : (c : tie.Else10) {k : ℕ} → Left 10 (start10 c) k → Left 0 (start10 c) k
 unfolding tests
@@ -134,9 +166,15 @@ returns-3 : tie.Need-returns-3
 unfolding refusal tests badSystem
 returns-3 c = after2 (c .before .before) (first.here _ _ _ (sym (c .before .bad-system .ensures) ∙ c .if3 .taken))
 
+not-psd-requires : tie.Need-not-psd-requires
+not-psd-requires c κs = let k = known3 c in (record { most = omega arith; whole = omega arith }, record { most = omega arith; whole = omega arith })
+
 returns-4 : tie.Need-returns-4
 unfolding refusal tests notPsd
 returns-4 c = after3 (c .before .before) (first.here _ _ _ (sym (c .before .not-psd .ensures) ∙ c .if4 .taken))
+
+off-diagonal-requires : tie.Need-off-diagonal-requires
+off-diagonal-requires c κs = let k = known4 c in record { most = omega arith; whole = omega arith }
 
 returns-5 : tie.Need-returns-5
 unfolding refusal tests
@@ -146,9 +184,15 @@ returns-6 : tie.Need-returns-6
 unfolding refusal tests badStart
 returns-6 c = after5 (c .before .before) (first.here _ _ _ (sym (c .before .bad-start .ensures) ∙ c .if6 .taken))
 
+start-shape-requires : tie.Need-start-shape-requires
+start-shape-requires c κs = let k = known6 c in (record { most = omega arith; whole = omega arith }, omega arith, omega arith)
+
 returns-7 : tie.Need-returns-7
 unfolding refusal tests
 returns-7 c = after6 (c .before .before) (first.here _ _ _ (sym (c .before .start-shape .ensures) ∙ c .if7 .taken))
+
+off-diagonal-requires-2 : tie.Need-off-diagonal-requires-2
+off-diagonal-requires-2 c κs = let k = known7 c in record { most = omega arith; whole = omega arith }
 
 returns-8 : tie.Need-returns-8
 unfolding refusal tests
@@ -158,9 +202,15 @@ returns-9 : tie.Need-returns-9
 unfolding refusal tests
 returns-9 c = after8 (c .before .before) (first.here _ _ _ (sym (c .before .any-infinite .ensures) ∙ c .if9 .taken))
 
+mixed-driven-requires : tie.Need-mixed-driven-requires
+mixed-driven-requires c κs = let k = known9 c in (record { most = omega arith; whole = omega arith }, omega arith)
+
 returns-10 : tie.Need-returns-10
 unfolding refusal tests
 returns-10 c = after9 (c .before .before) (first.here _ _ _ (sym (c .before .mixed-driven .ensures) ∙ c .if10 .taken))
+
+bad-noise-requires : tie.Need-bad-noise-requires
+bad-noise-requires c κs = let k = known10 c in record { m8 = omega arith; r8 = omega arith; rr = omega arith; q = omega arith }
 
 returns-11 : tie.Need-returns-11
 unfolding refusal tests noise
@@ -169,24 +219,6 @@ returns-11 c = after10 (c .before .before) (first.here _ _ _ (sym (c .before .ba
 returns-12 : tie.Need-returns-12
 unfolding refusal tests
 returns-12 c = after11 c first.none
-
-not-psd-requires : tie.Need-not-psd-requires
-not-psd-requires c κs = (record { most = sizes (c .before .before .before .before) .p8; whole = inputs (c .before .before) .h }, record { most = sizes (c .before .before .before .before) .r8; whole = inputs (c .before .before) .q })
-
-off-diagonal-requires : tie.Need-off-diagonal-requires
-off-diagonal-requires c κs = record { most = sizes (c .before .before .before .before .before .before) .r8; whole = inputs (c .before .before .before .before) .q }
-
-start-shape-requires : tie.Need-start-shape-requires
-start-shape-requires c κs = (record { most = sizes (c .before .before .before .before .before .before .before .before .before .before) .m8; whole = inputs (c .before .before .before .before .before .before .before .before) .pStar }, inputs (c .before .before .before .before .before .before .before .before) .flags, inputs (c .before .before .before .before .before .before .before .before) .a1)
-
-off-diagonal-requires-2 : tie.Need-off-diagonal-requires-2
-off-diagonal-requires-2 c κs = record { most = sizes (c .before .before .before .before .before .before .before .before .before .before .before .before) .p8; whole = inputs (c .before .before .before .before .before .before .before .before .before .before) .h }
-
-mixed-driven-requires : tie.Need-mixed-driven-requires
-mixed-driven-requires c κs = (record { most = sizes (c .before .before .before .before .before .before .before .before .before .before .before .before .before .before .before .before) .m8; whole = inputs (c .before .before .before .before .before .before .before .before .before .before .before .before .before .before) .t }, inputs (c .before .before .before .before .before .before .before .before .before .before .before .before .before .before) .flags)
-
-bad-noise-requires : tie.Need-bad-noise-requires
-bad-noise-requires c κs = record { m8 = sizes (c .before .before .before .before .before .before .before .before .before .before .before .before .before .before .before .before .before .before) .m8; r8 = sizes (c .before .before .before .before .before .before .before .before .before .before .before .before .before .before .before .before .before .before) .r8; rr = inputs (c .before .before .before .before .before .before .before .before .before .before .before .before .before .before .before .before) .rr; q = inputs (c .before .before .before .before .before .before .before .before .before .before .before .before .before .before .before .before) .q }
 
 pub refusal-spec : {M : Type 1} → statement M
 refusal-spec = tie.close (tie.spec (λ c κs. search needs) returns (λ c κs. sizes c) mul-if2 returns-2 (λ c κs. search needs) returns-3 not-psd-requires returns-4 off-diagonal-requires returns-5 (λ c κs. search needs) returns-6 start-shape-requires returns-7 off-diagonal-requires-2 returns-8 (λ c κs. search needs) returns-9 mixed-driven-requires returns-10 bad-noise-requires returns-11 returns-12)
