@@ -1,5 +1,5 @@
 -- What a call past refusal 2 knows of its designs, and how long the period's design then is.
-use mathlib.Core.Path.{_≡_, refl, ap, _∙_}
+use mathlib.Core.Path.{_≡_, refl, ap}
 use mathlib.Core.Logic.{⊎-elim}
 use mathlib.Core.List.{List}
 use mathlib.Core.Bool.{Bool, true, false, cond}
@@ -12,7 +12,7 @@ use lib.Dec.{eqb}
 use lib.Ieee.{Float}
 use borrow.Author.Tests.{eqb-true, eqb-false}
 use Rattle.definition.specs.Inputs.{designFrom}
-use Rattle.laws.specs.Accepted.{InRange, Designs, Constant, Listed}
+use Rattle.laws.specs.Accepted.{Designs, Constant, Listed}
 
 -- the constant design or the list, by their lengths; `listed` is how many designs the list has
 pub record DesignFits (p m once list listed : ℕ) : Type 0 where
@@ -36,10 +36,6 @@ some-listed {p} {m} {once} {list} {listed} f h =
 -- entry i of a list of designs lies within it
 pub entry-in : {k list listed : ℕ} (i : ℕ) → Some k list listed → i < listed → i * k + k ≤ list
 entry-in {k} {list} {listed} i s h = omega (arith, suc-mul i k, mul-le-mul-right {m = suc i} {n = listed} k h, s .whole)
-
--- a caller past refusal 2
-pub design-fits : {p m r n once list listed : ℕ} → InRange p m r n → Designs (p * m) once list → listed ≡ list / (p * m) → DesignFits p m once list listed
-design-fits i d e = record { p0 = i .p0; p8 = i .p8; m0 = i .m0; m8 = i .m8; designs = d; counted = e }
 
 -- without a list the constant design has its numbers
 constant : {p m once list listed : ℕ} → DesignFits p m once list listed → list ≡ 0 → once ≡ p * m

@@ -3,3 +3,4 @@ pub mod Lengths
 pub mod Design
 pub mod Places
 pub mod Start
+pub mod Past

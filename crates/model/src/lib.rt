@@ -1,7 +1,7 @@
 // model.rs: the checks of a call's inputs, the period's design, the noise R Q R', the start.
 ghost use mathlib.Core.Path.{_≡_};
 ghost use mathlib.Core.List.{map};
-ghost use Prim.Native.Nat.{_<_, _-_, _*_, _/_, min};
+ghost use Prim.Native.Nat.{_<_, _≤_, _-_, _*_, _/_, min};
 ghost use lib.ListN.{length};
 ghost use Rattle.definition.specs.Run.{anyOf};
 ghost use Rattle.definition.specs.Inputs.{designFrom, noiseOf, startFrom, isInfinity, kindOf};
@@ -95,6 +95,14 @@ pub fn refusal(
 
 // ---- the period's design
 
+// How many designs the list has: the only division, once a call.
+pub fn listed(zs: &[f64], p: usize, m: usize) -> usize
+    requires { ⌜ (0 < p) × (p ≤ 8) × (0 < m) × (m ≤ 8) ⌝ }
+    ensures { λ r. ⌜ r ≡ length (now (zs .entry)) / (p * m) ⌝ }
+{
+    zs.len() / (p * m)
+}
+
 // Period t takes entry t, or the last once the list has run out.
 fn entry_of(listed: usize, t: usize) -> usize
     requires { ⌜ 0 < listed ⌝ }
@@ -106,7 +114,7 @@ fn entry_of(listed: usize, t: usize) -> usize
     listed - 1
 }
 
-// The design of period t, handed out as a part of whichever was given. `listed` is how many the list has: worked out once a call, since it is a division.
+// The design of period t, handed out as a part of whichever was given.
 pub fn design<'a>(
     z: &'a [f64],
     zs: &'a [f64],

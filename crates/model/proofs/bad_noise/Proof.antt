@@ -2,8 +2,7 @@ use Rattle.model.proofs.bad_noise.Statement.{statement}
 use Rattle.model.proofs.bad_noise.Tie as tie
 use borrow.Author.Needs.{needs}
 use native.Mathlib.Omega.{arith}
-use mathlib.Core.Path.{_≡_, ap, _∙_}
-use Prim.Native.Nat.{_*_, _-_}
+use mathlib.Core.Path.{ap, _∙_}
 use native.Mathlib.Nat.{sub-zero}
 use Rattle.definition.specs.Refusals.{notFinite}
 use Rattle.dense.specs.Views.{rect}

@@ -1,12 +1,14 @@
+-- `model::design` meets its contract: the part that is handed out lies within the list, and starts at the entry that the definition picks. Assumes
+-- nothing.
 use Rattle.model.proofs.design.Statement.{statement}
 use Rattle.model.proofs.design.Tie as tie
 use borrow.Author.Needs.{needs}
 use native.Mathlib.Omega.{arith}
-use mathlib.Core.Path.{_≡_, refl, ap, sym, _∙_}
-use Prim.Native.Nat.{ℕ, _+_, _-_, _*_, _<_, _≤_}
+use mathlib.Core.Path.{refl}
+use Prim.Native.Nat.{_+_, _*_, _≤_}
 use native.Mathlib.Nat.{add-sub-cancel-left}
 use borrow.Author.Tests.{eq-eqb, ne-eqb}
-use lib.ListN.{length, take, drop}
+use lib.ListN.{length}
 use Rattle.definition.specs.Inputs.{designFrom}
 use Rattle.model.specs.Design.{Some, some-listed, entry-in}
 use Rattle.model.proofs.Laws.{product-most}

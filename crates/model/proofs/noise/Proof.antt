@@ -2,7 +2,6 @@ use Rattle.model.proofs.noise.Statement.{statement}
 use Rattle.model.proofs.noise.Tie as tie
 use borrow.Author.Needs.{needs}
 use native.Mathlib.Omega.{arith}
-use Prim.Native.Nat.{_*_}
 use Rattle.model.proofs.Laws.{product-most, noise-is}
 
 load64-requires : tie.Need-load64-requires

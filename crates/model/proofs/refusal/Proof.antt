@@ -1,7 +1,7 @@
 -- `model::refusal` meets its contract. Past test j the number is that of the first test after it: `after j`. What a later test requires comes from the
 -- first two, which say that the sizes are in range and that each input has its length. Assumes nothing.
 use mathlib.Core.Path.{_≡_, sym, _∙_}
-use Prim.Native.Nat.{ℕ, _*_}
+use Prim.Native.Nat.{ℕ}
 use native.Mathlib.Omega.{arith}
 use mathlib.Core.List.{map}
 use lib.ListN.{length, drop}

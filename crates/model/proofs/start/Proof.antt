@@ -2,7 +2,6 @@ use Rattle.model.proofs.start.Statement.{statement}
 use Rattle.model.proofs.start.Tie as tie
 use borrow.Author.Needs.{needs}
 use native.Mathlib.Omega.{arith}
-use Prim.Native.Nat.{_*_}
 use Rattle.model.proofs.Laws.{product-most, started}
 
 load64-requires : tie.Need-load64-requires

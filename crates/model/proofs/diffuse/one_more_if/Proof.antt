@@ -2,7 +2,6 @@ use Rattle.model.proofs.diffuse.one_more_if.Statement.{statement}
 use Rattle.model.proofs.diffuse.one_more_if.Tie as tie
 use borrow.Author.Needs.{needs}
 use native.Mathlib.Omega.{arith}
-use mathlib.Core.Path.{refl}
 
 returns : tie.Need-returns
 returns c = rw (c .if1 .taken) (omega arith)

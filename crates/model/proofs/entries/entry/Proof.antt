@@ -1,7 +1,6 @@
 use Rattle.model.proofs.entries.entry.Statement.{statement}
 use Rattle.model.proofs.entries.entry.Tie as tie
 use native.Mathlib.Omega.{arith}
-use Prim.Native.Nat.{_+_, _*_}
 use mathlib.Core.Path.{refl}
 use Rattle.model.proofs.Laws.{place-in, place-most}
 

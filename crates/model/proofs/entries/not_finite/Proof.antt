@@ -2,8 +2,8 @@ use Rattle.model.proofs.entries.not_finite.Statement.{statement}
 use Rattle.model.proofs.entries.not_finite.Tie as tie
 use native.Mathlib.Omega.{arith}
 use Prim.Native.Nat.{_≤_, _-_}
-use mathlib.Core.Path.{_≡_, refl, ap, _∙_}
-use lib.ListN.{length, take, getD}
+use mathlib.Core.Path.{_≡_, refl, ap}
+use lib.ListN.{length, take}
 use Rattle.definition.specs.Run.{anyOf}
 use Rattle.laws.specs.Any as any
 use mathlib.Core.Bool.{not}

@@ -2,7 +2,6 @@ use Rattle.model.proofs.lengths.design_fits.Statement.{statement}
 use Rattle.model.proofs.lengths.design_fits.Tie as tie
 use borrow.Author.Needs.{needs}
 use native.Mathlib.Omega.{arith}
-use Prim.Native.Nat.{_/_, _*_}
 use mathlib.Core.Path.{refl}
 use native.Mathlib.Nat.{div-mul-le-self}
 use Rattle.definition.specs.Refusals.{designFits}

@@ -1,7 +1,6 @@
 use Rattle.model.proofs.lengths.lengths_fit.Statement.{statement}
 use Rattle.model.proofs.lengths.lengths_fit.Tie as tie
 use native.Mathlib.Omega.{arith}
-use Prim.Native.Nat.{_<_, _*_}
 use Rattle.model.proofs.Laws.{small, product-some}
 use Rattle.model.specs.Lengths.{lengthsFit}
 

@@ -1,0 +1,14 @@
+use Rattle.model.proofs.listed.Statement.{statement}
+use Rattle.model.proofs.listed.Tie as tie
+use borrow.Author.Needs.{needs}
+use native.Mathlib.Omega.{arith}
+use Rattle.model.proofs.Laws.{product-most, product-some}
+
+mul-result : tie.Need-mul-result
+mul-result c = omega (arith, product-most (c .pre .1) (c .pre .3))
+
+div-result : tie.Need-div-result
+div-result c = product-some (c .pre .0) (c .pre .2)
+
+pub listed-spec : {M : Type 1} → statement M
+listed-spec = tie.close (tie.spec mul-result div-result (λ c. search needs))

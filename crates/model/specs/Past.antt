@@ -1,0 +1,18 @@
+-- A call past refusals 1 and 2 may ask for the design, the noise and the start.
+use mathlib.Core.Path.{_≡_}
+use Prim.Native.Nat.{ℕ, _*_, _/_}
+use lib.ListN.{length}
+use Rattle.definition.specs.Inputs.{Model, Offsets}
+use Rattle.laws.specs.Accepted.{InRange, InputsFit}
+use Rattle.model.specs.Places.{NoiseFits, StartFits}
+use Rattle.model.specs.Design.{DesignFits}
+
+module _ {x : Model} {o : Offsets} (sizes : InRange (x .p) (x .m) (x .r) (x .n)) (inputs : InputsFit x o) where
+  pub design-fits : {listed : ℕ} → listed ≡ length (x .zList) / (x .p * x .m) → DesignFits (x .p) (x .m) (length (x .zOnce)) (length (x .zList)) listed
+  design-fits e = record { p0 = sizes .p0; p8 = sizes .p8; m0 = sizes .m0; m8 = sizes .m8; designs = inputs .design; counted = e }
+
+  pub noise-fits : NoiseFits (x .m) (x .r) (length (x .rr)) (length (x .q))
+  noise-fits = record { m8 = sizes .m8; r8 = sizes .r8; rr = inputs .rr; q = inputs .q }
+
+  pub start-fits : StartFits (x .m) (length (x .pStar)) (length (x .flags))
+  start-fits = record { m8 = sizes .m8; p* = inputs .pStar; flags = inputs .flags }
