@@ -6,7 +6,7 @@ ghost use lib.ListN.{length};
 ghost use lib.Dec.{eqb};
 ghost use Rattle.definition.specs.Num.{0ᶠ, 1ᶠ};
 ghost use Rattle.definition.specs.Run.{anyOf};
-ghost use Rattle.definition.specs.Inputs.{startInf, startInfAt, startRoot};
+ghost use Rattle.definition.specs.Inputs.{startInf, startRoot};
 ghost use Rattle.dense.specs.Views.{mat};
 use crate::entries;
 

@@ -2,9 +2,9 @@
 ghost use mathlib.Core.Path.{_≡_};
 ghost use mathlib.Core.Bool.{_||_};
 ghost use mathlib.Core.List.{map};
-ghost use Prim.Native.Nat.{_<_, _≤_, _*_};
+ghost use Prim.Native.Nat.{_<_};
 ghost use lib.ListN.{length};
-ghost use Rattle.definition.specs.Num.{ent, at};
+ghost use Rattle.definition.specs.Num.{ent};
 ghost use Rattle.definition.specs.Run.{anyOf, anyTo};
 ghost use Rattle.definition.specs.Inputs.{isFlagged, isInfinity, kindOf};
 ghost use Rattle.definition.specs.Refusals.{
