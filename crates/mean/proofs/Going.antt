@@ -1,12 +1,12 @@
 -- The loop over the periods: what holds before period i, how a period keeps it, and what it comes to.
 use mathlib.Core.Path.{_≡_, refl, sym, ap, ap₂, _∙_}
-use Prim.Native.Nat.{ℕ, zero, suc, _+_, _-_, _*_, _≤_, _<_}
+use Prim.Native.Nat.{ℕ, _+_, _≤_, _<_}
 use native.Mathlib.Nat.{zero-add}
 use native.Mathlib.Omega.{arith}
-use mathlib.Core.List.{List, [], _∷_, _++_, map}
-use lib.ListN.{length, getD, take, drop}
+use mathlib.Core.List.{List, [], map}
+use lib.ListN.{length, getD, take}
 use lib.Ieee.{Float}
-use Rattle.definition.specs.Run.{scan, join, pairs, chunks}
+use Rattle.definition.specs.Run.{scan, join, chunks}
 use Rattle.definition.specs.Cov.{Decision}
 use Rattle.definition.specs.Mean.{Frame, Shift, Mean, MeanPeriod, meanPeriodOf, meanPeriod, meanRun}
 use Rattle.definition.specs.Parts.{predMean, filtMean, innovations, meanBlock}

@@ -1,24 +1,23 @@
 -- Laws of one element and of a period's elements: what is read off the flat parts, and the loop over the elements against the scan.
 use mathlib.Core.Path.{_≡_, refl, sym, ap, ap₂, _∙_}
 use Prim.Native.Nat.{ℕ, zero, suc, _+_, _-_, _*_, _≤_, _<_}
-use native.Mathlib.Nat.{zero-add, suc-mul, mul-le-mul-right, mul-assoc}
+use native.Mathlib.Nat.{zero-add}
 use native.Mathlib.Omega.{arith}
 use native.Mathlib.Numerals.{add-one}
-use mathlib.Core.List.{List, [], _∷_, _++_}
+use mathlib.Core.List.{List, [], _∷_}
 use lib.ListN.{length, getD, take, drop, set, length-take, length-drop, length-set}
 use lib.Seq.{ext-getD, getD-take, getD-drop, take-suc-set, take-all}
 use lib.Ieee.{Float, nan}
-use Rattle.definition.specs.Num.{_⊖_, 0ᶠ, at, tabFrom, tabulate}
+use Rattle.definition.specs.Num.{_⊖_, 0ᶠ, at, tabulate}
 use Rattle.definition.specs.Dense.{dot, axpy, over, row, rowAt}
 use Rattle.definition.specs.Run.{scan, pairs}
-use Rattle.definition.specs.Cov.{Decision, skipped, usual, diffuse}
-use Rattle.definition.specs.Mean.{Mean, MeanPeriod, innovation, told, heed, usualTerm, diffuseTerm, hear, meanStep, meanEnded, meanPeriodOf}
+use Rattle.definition.specs.Cov.{Decision, skipped, diffuse}
+use Rattle.definition.specs.Mean.{Mean, innovation, told, heed, usualTerm, diffuseTerm, hear, meanStep, meanEnded, meanPeriodOf}
 use Rattle.laws.specs.Lists.{tab-at, length-tab, pairs-at, scan-next}
-use Rattle.laws.specs.Passes.{block-in}
 use Rattle.laws.specs.Flat.{Flat, decisionOf, readBack, decisionsAt, blockAt}
 use Rattle.dense.specs.Views.{vec, rect, mat}
 use Rattle.dense.specs.Places.{Saved}
-use Rattle.mean.specs.View.{meanIn, entryAt, heardAt, leftIn, Holds, Element, Period, Followed}
+use Rattle.mean.specs.View.{meanIn, entryAt, heardAt, leftIn, Followed}
 
 -- ---- a part of a slice, as the m entries from place k * m on
 

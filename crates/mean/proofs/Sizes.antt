@@ -1,6 +1,6 @@
 -- Places and lengths: block t of a part, what a period needs of what the pass has.
-use mathlib.Core.Path.{_≡_, refl, sym, ap, _∙_}
-use Prim.Native.Nat.{ℕ, zero, suc, _+_, _-_, _*_, _≤_, _<_}
+use mathlib.Core.Path.{_≡_, ap, _∙_}
+use Prim.Native.Nat.{ℕ, _+_, _-_, _*_, _≤_, _<_}
 use native.Mathlib.Nat.{mul-le-mul, mul-le-mul-right, mul-assoc}
 use native.Mathlib.Omega.{arith}
 use mathlib.Core.List.{List}
@@ -11,17 +11,14 @@ use mir.Syntax.{w64}
 use Rattle.definition.specs.Inputs.{designFrom}
 use Rattle.laws.specs.Flat.{Flat}
 use Rattle.laws.specs.Passes.{block-in}
-use Rattle.model.specs.Design.{DesignFits, length-design}
-use Rattle.mean.specs.View.{Holds, Place, Element, Period, Periods, Room, Ready, Rooms}
+use Rattle.model.specs.Design.{length-design}
+use Rattle.mean.specs.View.{Holds, Element, Period, Periods, Room, Ready, Rooms}
 
 pub at-most : {a b c : ℕ} → a ≡ b → b ≤ c → a ≤ c
 at-most e h = omega arith
 
 pub square-most : {m a : ℕ} → a ≡ m * m → m ≤ 8 → a ≤ 64
 square-most {m} e h = omega (arith, mul-le-mul {n₁ = m} {m₁ = m} {n₂ = 8} {m₂ = 8} h h)
-
-pub same-room : {a b c : ℕ} → a ≤ b → c ≡ b → a ≤ c
-same-room h e = omega arith
 
 -- ---- block t of k places, of at most 4096 blocks of at most 8
 
@@ -67,12 +64,11 @@ fewer {m} h g =
       mi = omega (arith, g .mi, mul-le-mul-right m h);
     }
 
--- element i of a period
-pub element-in : {p m t i design d y v : ℕ} {r : Flat} → Period p m t design d y v r → i < p → Element m i (t * p + i) design d y r
-element-in {p} {m} {t} {i} h b =
+-- element i of a period, by a record of its block
+pub element-in : {p m t i design d y v : ℕ} {r : Flat} (k : ℕ) → Period p m t design d y v r → i < p → k < t * p + p → Element m i k design d y r
+element-in {p} {m} {t} {i} k h b below =
     let row = block-in i p m b in
-    let place : t * p + i < t * p + p = omega arith in
-    let gain = block-in (t * p + i) (t * p + p) m place in
+    let gain = block-in k (t * p + p) m below in
     record {
       kind = omega (arith, h .holds .ks);
       usual =

@@ -1,6 +1,6 @@
 -- What the mean track's functions read off the lent parts, what they need of them, and what they promise.
 use mathlib.Core.Path.{_≡_}
-use Prim.Native.Nat.{ℕ, suc, _+_, _*_, _≤_, _<_}
+use Prim.Native.Nat.{ℕ, _+_, _*_, _≤_, _<_}
 use mathlib.Core.List.{List, map}
 use lib.ListN.{length, take, drop}
 use lib.Ieee.{Float}

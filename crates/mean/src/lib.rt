@@ -1,16 +1,17 @@
 // The mean track: one element, one period, the mean pass. It takes the decisions and the gain vectors as the covariance pass left them in the
 // flat parts, and works out v, the means and the log-likelihood.
 ghost use mathlib.Core.Path.{_≡_};
-ghost use Prim.Native.Nat.{_≤_, _<_, _*_, _+_};
+ghost use Prim.Native.Nat.{_≤_, _*_, _+_};
 ghost use lib.ListN.{length};
 ghost use Rattle.definition.specs.Num.{at};
 ghost use Rattle.definition.specs.Dense.{row};
 ghost use Rattle.definition.specs.Run.{scan};
-ghost use Rattle.definition.specs.Mean.{innovation, usualTerm, diffuseTerm, hear, meanStep, meanPeriodOf, meanRun};
+ghost use Rattle.definition.specs.Mean.{usualTerm, diffuseTerm, hear, meanStep, meanPeriodOf, meanRun};
 ghost use Rattle.definition.specs.Inputs.{frameFrom};
 ghost use Rattle.laws.specs.Flat.{readBack, blockAt};
 ghost use Rattle.dense.specs.Views.{vec, mat};
-ghost use Rattle.mean.specs.View.{meanIn, flatIn, entryAt, entries, heardAt, leftIn, Followed, Place, Element, Period, Periods, Room, Ready, Rooms, Looped, Passed};
+ghost use Rattle.mean.specs.View.{meanIn, flatIn, entryAt, entries, heardAt, leftIn};
+ghost use Rattle.mean.specs.View.{Place, Element, Period, Periods, Room, Ready, Rooms, Followed, Looped, Passed};
 
 // The answer, carried through the loop over the periods.
 pub struct Answer {
@@ -21,9 +22,9 @@ pub struct Answer {
 }
 
 // What one element leaves besides the mean: v, and the log-likelihood with its term.
-pub struct Heard {
-    pub v: f64,
-    pub loglik: f64,
+struct Heard {
+    v: f64,
+    loglik: f64,
 }
 
 fn usual_term(loglik: f64, f: f64, v: f64) -> f64
@@ -64,7 +65,8 @@ fn follow_at(
     k: usize,
 ) -> f64
     requires { ⌜ Place m i k (length (now design)) (length (now d)) (length (now y)) (length (now fs)) (length (now gains)) ⌝ }
-    ensures { λ v. ⌜ Followed m (row m (now (design .entry)) i) (at (now (d .entry)) i) (at (now (y .entry)) k) (blockAt m (now (gains .entry)) k) (at (now (fs .entry)) k) (now (a .entry)) (now (a .exit)) v ⌝ }
+    ensures { λ v. ⌜ Followed m (row m (now (design .entry)) i) (at (now (d .entry)) i) (at (now (y .entry)) k)
+        (blockAt m (now (gains .entry)) k) (at (now (fs .entry)) k) (now (a .entry)) (now (a .exit)) v ⌝ }
 {
     let row = i * m;
     let row_end = row + m;
@@ -97,8 +99,10 @@ fn hear(
     i: usize,
     k: usize,
 ) -> Heard
-    requires { ⌜ Element m i k (length (now design)) (length (now d)) (length (now y)) (flatIn (now kinds) (now «f_star») (now «f_inf») (now «m_star») (now «m_inf»)) ⌝ }
-    ensures { λ r. ⌜ _≡_ (r .v, meanIn m (now (a .exit)) (r .loglik)) (hear m (now (design .entry)) (now (d .entry)) i (meanIn m (now (a .entry)) loglik)
+    requires { ⌜ Element m i k (length (now design)) (length (now d)) (length (now y))
+        (flatIn (now kinds) (now «f_star») (now «f_inf») (now «m_star») (now «m_inf»)) ⌝ }
+    ensures { λ r. ⌜ _≡_ (r .v, meanIn m (now (a .exit)) (r .loglik)) (hear m (now (design .entry)) (now (d .entry)) i
+        (meanIn m (now (a .entry)) loglik)
         (readBack m (flatIn (now (kinds .entry)) (now («f_star» .entry)) (now («f_inf» .entry)) (now («m_star» .entry)) (now («m_inf» .entry))) k, at (now (y .entry)) k)) ⌝ }
 {
     match kinds[k] {
@@ -137,8 +141,10 @@ fn elements(
     m: usize,
     t: usize,
 ) -> f64
-    requires { ⌜ Period p m t (length (now design)) (length (now d)) (length (now y)) (length (now v)) (flatIn (now kinds) (now «f_star») (now «f_inf») (now «m_star») (now «m_inf»)) ⌝ }
-    ensures { λ r. ⌜ _≡_ (now (v .exit), meanIn m (now (a .exit)) r) (scan (hear m (now (design .entry)) (now (d .entry))) 0 (meanIn m (now (a .entry)) loglik)
+    requires { ⌜ Period p m t (length (now design)) (length (now d)) (length (now y)) (length (now v))
+        (flatIn (now kinds) (now «f_star») (now «f_inf») (now «m_star») (now «m_inf»)) ⌝ }
+    ensures { λ r. ⌜ _≡_ (now (v .exit), meanIn m (now (a .exit)) r) (scan (hear m (now (design .entry)) (now (d .entry))) 0
+        (meanIn m (now (a .entry)) loglik)
         (heardAt p m (flatIn (now (kinds .entry)) (now («f_star» .entry)) (now («f_inf» .entry)) (now («m_star» .entry)) (now («m_inf» .entry))) (now (y .entry)) t)) ⌝ }
 {
     let first = t * p;
@@ -196,9 +202,12 @@ fn mean_period(
     m: usize,
     t: usize,
 ) -> f64
-    requires { ⌜ (length (now pred) ≡ m) × ((length (now filt) ≡ m) × Period p m t (length (now design)) (length (now d)) (length (now y)) (length (now v)) (flatIn (now kinds) (now «f_star») (now «f_inf») (now «m_star») (now «m_inf»))) ⌝ }
+    requires { ⌜ (length (now pred) ≡ m) × ((length (now filt) ≡ m)
+        × Period p m t (length (now design)) (length (now d)) (length (now y)) (length (now v))
+        (flatIn (now kinds) (now «f_star») (now «f_inf») (now «m_star») (now «m_inf»))) ⌝ }
     ensures { λ r. ⌜ _≡_ (leftIn (now (pred .exit)) (now (v .exit)) (now (filt .exit)), meanIn m (now (a .exit)) r)
-        (meanPeriodOf m (mat m (now (tr .entry))) (vec m (now (c .entry))) (now (d .entry)) (now (design .entry)) (meanIn m (now (a .entry)) loglik)
+        (meanPeriodOf m (mat m (now (tr .entry))) (vec m (now (c .entry))) (now (d .entry)) (now (design .entry))
+        (meanIn m (now (a .entry)) loglik)
         (entryAt p m (flatIn (now (kinds .entry)) (now («f_star» .entry)) (now («f_inf» .entry)) (now («m_star» .entry)) (now («m_inf» .entry))) (now (y .entry)) t)) ⌝ }
 {
     dense::save8(pred, a);
@@ -246,23 +255,27 @@ fn mean_loop<'a>(
     n: usize,
     listed: usize,
 ) -> Answer
-    requires { ⌜ Periods p m n listed (length (now z)) (length (now zs)) (length (now d)) (length (now y)) (flatIn (now kinds) (now «f_star») (now «f_inf») (now «m_star») (now «m_inf»)) × Room p m n (length (now «pred_mean»)) (length (now «filt_mean»)) (length (now v)) ⌝ }
-    ensures { λ r. ⌜ Looped p m n (meanRun (frameFrom p m (now (z .entry)) (now (zs .entry)) (mat m (now (tr .entry)))) (record { c = vec m (now (c .entry)); d = now (d .entry) }) 0 (meanIn m (now (a .entry)) (answer .loglik))
+    requires { ⌜ Periods p m n listed (length (now z)) (length (now zs)) (length (now d)) (length (now y))
+        (flatIn (now kinds) (now «f_star») (now «f_inf») (now «m_star») (now «m_inf»))
+        × Room p m n (length (now «pred_mean»)) (length (now «filt_mean»)) (length (now v)) ⌝ }
+    ensures { λ r. ⌜ Looped p m n (meanRun (frameFrom p m (now (z .entry)) (now (zs .entry)) (mat m (now (tr .entry))))
+        (record { c = vec m (now (c .entry)); d = now (d .entry) }) 0 (meanIn m (now (a .entry)) (answer .loglik))
         (entries n p m (flatIn (now (kinds .entry)) (now («f_star» .entry)) (now («f_inf» .entry)) (now («m_star» .entry)) (now («m_inf» .entry))) (now (y .entry))))
-        answer r (now (a .exit)) (now («pred_mean» .entry)) (now («pred_mean» .exit)) (now («filt_mean» .entry)) (now («filt_mean» .exit)) (now (v .entry)) (now (v .exit)) ⌝ }
+        answer r (now (a .exit)) (now («pred_mean» .entry)) (now («pred_mean» .exit))
+        (now («filt_mean» .entry)) (now («filt_mean» .exit)) (now (v .entry)) (now (v .exit)) ⌝ }
 {
     let mut answer = answer;
     for t in 0..n {
         let design = model::design(z, zs, p, m, listed, t);
         let from = t * m;
         let to = from + m;
-        let first = t * p;
-        let last = first + p;
+        let start = t * p;
+        let end = start + p;
         answer.loglik = mean_period(
             a,
             &mut pred_mean[from..to],
             &mut filt_mean[from..to],
-            &mut v[first..last],
+            &mut v[start..end],
             answer.loglik,
             design,
             tr,
@@ -306,10 +319,14 @@ pub fn mean_pass<'a>(
     n: usize,
     listed: usize,
 ) -> Answer
-    requires { ⌜ Ready p m n listed (length (now z)) (length (now zs)) (length (now t)) (length (now c)) (length (now d)) (length (now a1)) (length (now y)) (flatIn (now kinds) (now «f_star») (now «f_inf») (now «m_star») (now «m_inf»)) × Rooms p m n (length (now «pred_mean»)) (length (now «filt_mean»)) (length (now v)) ⌝ }
-    ensures { λ r. ⌜ Passed p m n (meanRun (frameFrom p m (now (z .entry)) (now (zs .entry)) (now (t .entry))) (record { c = now (c .entry); d = now (d .entry) }) 0 (record { a = now (a1 .entry); loglik = answer .loglik })
+    requires { ⌜ Ready p m n listed (length (now z)) (length (now zs)) (length (now t)) (length (now c)) (length (now d))
+        (length (now a1)) (length (now y)) (flatIn (now kinds) (now «f_star») (now «f_inf») (now «m_star») (now «m_inf»))
+        × Rooms p m n (length (now «pred_mean»)) (length (now «filt_mean»)) (length (now v)) ⌝ }
+    ensures { λ r. ⌜ Passed p m n (meanRun (frameFrom p m (now (z .entry)) (now (zs .entry)) (now (t .entry)))
+        (record { c = now (c .entry); d = now (d .entry) }) 0 (record { a = now (a1 .entry); loglik = answer .loglik })
         (entries n p m (flatIn (now (kinds .entry)) (now («f_star» .entry)) (now («f_inf» .entry)) (now («m_star» .entry)) (now («m_inf» .entry))) (now (y .entry))))
-        answer r (now («pred_mean» .entry)) (now («pred_mean» .exit)) (now («filt_mean» .entry)) (now («filt_mean» .exit)) (now (v .entry)) (now (v .exit)) ⌝ }
+        answer r (now («pred_mean» .entry)) (now («pred_mean» .exit))
+        (now («filt_mean» .entry)) (now («filt_mean» .exit)) (now (v .entry)) (now (v .exit)) ⌝ }
 {
     let tr = dense::load64(t);
     let shift = dense::load8(c);

@@ -24,7 +24,7 @@ add-hear : tie.Need-add-hear Inv-loop μ-loop
 add-hear c = omega (arith, c .before .before .before .before .before .before .before .before .before .before .before .before .pre .readings, c .before .loop-test .taken)
 
 hear-requires : tie.Need-hear-requires Inv-loop μ-loop
-hear-requires c κs = sizes.element-in (c .before .before .before .before .before .before .before .before .before .before .before .before .pre) (c .before .loop-test .taken)
+hear-requires c κs = sizes.element-in _ (c .before .before .before .before .before .before .before .before .before .before .before .before .pre) (c .before .loop-test .taken) (omega (arith, c .before .loop-test .taken))
 
 mul-v : tie.Need-mul-v Inv-loop μ-loop
 mul-v c = omega (arith, c .before .before .before .before .before .before .before .before .before .before .before .before .before .pre .p8, c .before .before .loop-test .taken)

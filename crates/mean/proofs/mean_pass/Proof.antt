@@ -1,4 +1,5 @@
 use mathlib.Core.Path.{_∙_}
+use native.Mathlib.Omega.{arith}
 use Rattle.mean.proofs.Sizes as sizes
 use Rattle.mean.proofs.Laws as laws
 use Rattle.mean.proofs.Going as going
@@ -18,7 +19,7 @@ mean-loop-requires : tie.Need-mean-loop-requires
 mean-loop-requires c κs = (sizes.periods (c .before .before .before .before .before .before .before .before .before .before .before .before .before .before .before .before .before .before .before .before .before .before .before .before .pre .0), sizes.rooms (c .before .before .before .before .before .before .before .before .before .before .before .before .before .before .before .before .before .before .before .before .before .before .before .before .pre .1))
 
 put8-requires : tie.Need-put8-requires
-put8-requires c κs = (c .before .before .before .before .before .before .before .before .before .before .before .before .before .before .before .before .before .before .before .before .before .before .before .before .before .before .before .before .before .before .before .before .before .pre .0 .design .m8, sizes.same-room (c .before .before .before .before .before .before .before .before .before .before .before .before .before .before .before .before .before .before .before .before .before .before .before .before .before .before .before .before .before .before .before .before .before .pre .1 .pm) (c .before .before .before .before .before .before .before .before .mean-loop .kept .1 .0))
+put8-requires c κs = (c .before .before .before .before .before .before .before .before .before .before .before .before .before .before .before .before .before .before .before .before .before .before .before .before .before .before .before .before .before .before .before .before .before .pre .0 .design .m8, omega (arith, c .before .before .before .before .before .before .before .before .before .before .before .before .before .before .before .before .before .before .before .before .before .before .before .before .before .before .before .before .before .before .before .before .before .pre .1 .pm, c .before .before .before .before .before .before .before .before .mean-loop .kept .1 .0))
 
 same-length : tie.Need-same-length
 same-length c = c .before .before .put8 .kept .0 ∙ c .before .before .before .before .before .before .before .before .before .before .before .mean-loop .kept .1 .0
