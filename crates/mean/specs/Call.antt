@@ -14,7 +14,7 @@ use Rattle.definition.specs.Inputs.{Model, Offsets, frameFrom, frameOf}
 use Rattle.definition.specs.Outcome.{MeanParts, kindsNeed, covNeed, meanNeed, decisionsOf, meanOf}
 use Rattle.laws.specs.Flat.{Flat, decisionRows}
 use Rattle.laws.specs.Accepted.{Accepted}
-use Rattle.model.specs.Design.{design-fits}
+use Rattle.model.specs.Past.{design-fits}
 use Rattle.mean.specs.View.{entries, Ready, Rooms}
 
 module _ (x : Model) (o : Offsets) where
@@ -25,7 +25,7 @@ module _ (x : Model) (o : Offsets) where
   ready r h e ks fs fi ms mi =
       record {
         n4096 = h .sizes .n4096;
-        design = design-fits (h .sizes) (h .inputs .design) e;
+        design = design-fits (h .sizes) (h .inputs) e;
         transition = h .inputs .t;
         shift = h .inputs .c;
         intercepts = h .inputs .d;
