@@ -8,15 +8,16 @@ use mathlib.Core.List.{List, [], _∷_}
 use lib.ListN.{length, getD, take, drop, set, length-take, length-drop, length-set}
 use lib.Seq.{ext-getD, getD-take, getD-drop, take-suc-set, take-all}
 use lib.Ieee.{Float, nan}
-use Rattle.definition.specs.Num.{_⊖_, 0ᶠ, at, tabulate}
-use Rattle.definition.specs.Dense.{dot, axpy, over, row, rowAt}
+use Rattle.definition.specs.Num.{_⊕_, _⊗_, _⊘_, 0ᶠ, at, tabulate}
+use Rattle.definition.specs.Dense.{axpy, axpyAt, over, overAt, row, rowAt}
 use Rattle.definition.specs.Run.{scan, pairs}
 use Rattle.definition.specs.Cov.{Decision, skipped, diffuse}
-use Rattle.definition.specs.Mean.{Mean, innovation, told, heed, usualTerm, diffuseTerm, hear, meanStep, meanEnded, meanPeriodOf}
-use Rattle.laws.specs.Lists.{tab-at, length-tab, pairs-at, scan-next}
+use Rattle.definition.specs.Mean.{Mean, told, heed, usualTerm, diffuseTerm, hear, meanStep, meanEnded, meanPeriodOf}
+use Rattle.laws.specs.Lists.{tab-at, tab-cong, vector-at, length-tab, pairs-at, scan-next}
 use Rattle.laws.specs.Flat.{Flat, decisionOf, readBack, decisionsAt, blockAt}
 use Rattle.dense.specs.Views.{vec, rect, mat}
 use Rattle.dense.specs.Places.{Saved}
+use Rattle.dense.proofs.Laws.{both, vec-at}
 use Rattle.mean.specs.View.{meanIn, entryAt, heardAt, leftIn, Followed}
 
 -- ---- a part of a slice, as the m entries from place k * m on
@@ -49,14 +50,18 @@ saved k n {a} e h = h .holds ∙ ap (λ (i : ℕ). take i a) e
 
 -- ---- one element, by its kind
 
--- v and the moved mean, from what the kernels did: zi and mi hold the row and the gain vector, k the gain, w is z a
-pub followed : {m : ℕ} {z gain a a′ : List Float} {d x f : Float} (zi mi k : List Float) (w : Float) → length z ≡ m → length gain ≡ m → vec (length z) zi ≡ z → w ≡ dot m (vec m zi) (vec m a) → vec (length gain) mi ≡ gain → vec m k ≡ over m (vec m mi) f
-    → vec m a′ ≡ axpy m (vec m a) (x ⊖ d ⊖ w) (vec m k) → Followed m z d x gain f a a′ (x ⊖ d ⊖ w)
-unfolding innovation
-followed {m} {z} {gain} {a} {d = d} {x} {f} zi mi k w lz lg ez ew eg ek ea =
-    let e = loaded m zi lz ez in
-    let g = loaded m mi lg eg in
-    record { is = rw (ew, e) refl; moved = rw (ea, ek, g) refl }
+-- an entry of the mean moved by v times x / f; and the whole mean
+unfoldable pub moved : Float → Float → Float → Float → Float
+moved v f y x = y ⊕ v ⊗ (x ⊘ f)
+
+pub moved-all : (v f : Float) (m : ℕ) (a gain : List Float) → tabulate m (both (moved v f) (vec m a) (vec m gain)) ≡ axpy m (vec m a) v (over m gain f)
+unfolding both moved axpy axpyAt over overAt
+moved-all v f m a gain =
+    tab-cong m 0 (both (moved v f) (vec m a) (vec m gain)) (axpyAt (vec m a) v (over m gain f)) (λ i low b.
+    let h : i < m = omega arith in
+    let k = vector-at m i (overAt gain f) h in
+    let g = vec-at m i gain h in
+    cc)
 
 a-diffuse : (k : ℕ) (f g : Float) (a b : List Float) → (k ≡ 0 → ⊥) → (k ≡ 1 → ⊥) → decisionOf k f g a b ≡ diffuse f g a b
 unfolding decisionOf

@@ -4,7 +4,7 @@ ghost use mathlib.Core.Path.{_≡_};
 ghost use Prim.Native.Nat.{_≤_, _*_, _+_};
 ghost use lib.ListN.{length};
 ghost use Rattle.definition.specs.Num.{at};
-ghost use Rattle.definition.specs.Dense.{row};
+ghost use Rattle.definition.specs.Dense.{dot, axpy, over, row};
 ghost use Rattle.definition.specs.Run.{scan};
 ghost use Rattle.definition.specs.Mean.{usualTerm, diffuseTerm, hear, meanStep, meanPeriodOf, meanRun};
 ghost use Rattle.definition.specs.Inputs.{frameFrom};
@@ -39,16 +39,36 @@ fn diffuse_term(loglik: f64, f: f64) -> f64
     loglik - 0.5 * (float::ln_two_pi() + float::ln(f))
 }
 
-// v = (y - d) - z a; then a moves by v times the gain M / F.
+// z a, of a row that is a part of the design.
+fn row_dot(z: &[f64], a: &[f64; 8], m: usize) -> f64
+    requires { ⌜ (m ≤ 8) × (length (now z) ≡ m) ⌝ }
+    ensures { λ r. ⌜ r ≡ dot m (now (z .entry)) (vec m (now (a .entry))) ⌝ }
+{
+    let mut s = 0.0;
+    for j in 0..m {
+        s = s + z[j] * dense::nth(a, m, j);
+    }
+    s
+}
+
+// a + v K, with the gain K = M / F worked out entry by entry as it is used.
+fn move_by(a: &mut [f64; 8], v: f64, gain: &[f64], f: f64, m: usize)
+    requires { ⌜ (m ≤ 8) × (length (now gain) ≡ m) ⌝ }
+    ensures { λ _. ⌜ vec m (now (a .exit)) ≡ axpy m (vec m (now (a .entry))) v (over m (now (gain .entry)) f) ⌝ }
+{
+    dense::sized8(a);
+    for j in 0..m {
+        a[j] = a[j] + v * (gain[j] / f);
+    }
+}
+
+// v = (y - d) - z a; then a moves by v times the gain.
 fn follow(a: &mut [f64; 8], reading: f64, d: f64, z: &[f64], gain: &[f64], f: f64, m: usize) -> f64
     requires { ⌜ (m ≤ 8) × ((length (now z) ≡ m) × (length (now gain) ≡ m)) ⌝ }
     ensures { λ v. ⌜ Followed m (now (z .entry)) d reading (now (gain .entry)) f (now (a .entry)) (now (a .exit)) v ⌝ }
 {
-    let zi = dense::load8(z);
-    let v = reading - d - dense::dot(&zi, a, m);
-    let mi = dense::load8(gain);
-    let k = dense::over(&mi, f, m);
-    dense::axpy(a, v, &k, m);
+    let v = reading - d - row_dot(z, a, m);
+    move_by(a, v, gain, f, m);
     v
 }
 

@@ -1,3 +1,4 @@
+-- The row and the gain vector are the parts that the definition reads.
 use borrow.Author.Needs.{needs}
 use Rattle.mean.proofs.Laws.{followed-at}
 use Rattle.mean.proofs.follow_at.Statement.{statement}

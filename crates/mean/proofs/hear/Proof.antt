@@ -1,3 +1,4 @@
+-- One element, by its kind.
 use borrow.Author.Needs.{needs}
 use Rattle.mean.proofs.Laws.{heard-none, heard-usual, heard-diffuse}
 use Rattle.mean.proofs.hear.Statement.{statement}

@@ -1,3 +1,4 @@
+-- The loop over the periods keeps Going. Made of Proof.tpl by tools/expand.
 use mathlib.Core.Path.{refl, _∙_}
 use Prim.Native.Nat.{_-_}
 use Rattle.definition.specs.Inputs.{frameFrom}

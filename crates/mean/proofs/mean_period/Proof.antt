@@ -1,3 +1,4 @@
+-- The period is begin, elements and step. Made of Proof.tpl by tools/expand.
 use Rattle.dense.specs.Views.{vec, mat}
 use Rattle.mean.specs.View.{meanIn, flatIn}
 use Rattle.mean.proofs.Laws as laws

@@ -1,3 +1,4 @@
+-- The step is the product and the sum of the definition.
 use borrow.Author.Needs.{needs}
 use Rattle.definition.specs.Mean.{meanStep}
 use Rattle.mean.proofs.mean_step.Statement.{statement}
