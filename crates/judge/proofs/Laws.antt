@@ -225,7 +225,7 @@ unfolding judgedBy judge
 judged-is m z h live pre sd again fresh unres star pinf root e1 e2 = rw (e2, e1)
 
 -- the elements taken, after a decision
-applied-taken : (m : ℕ) (z : List Float) (i : ℕ) (s : Inner) (d : Decision) → apply m z i s d .taken ≡ takenBy d (s .taken) i
+pub applied-taken : (m : ℕ) (z : List Float) (i : ℕ) (s : Inner) (d : Decision) → apply m z i s d .taken ≡ takenBy d (s .taken) i
 unfolding apply
 applied-taken m z i s skipped = refl
 applied-taken m z i s (usual f m*) = refl

@@ -533,9 +533,9 @@ pub fn element_by_root(
     i: usize,
 ) -> star::StarRoot
     requires { ⌜ Here p m i × (Known m false (now pre) (now sd) × Sound m root) ⌝ }
-    ensures { λ r. ⌜ ByRoot p m (mat p (now (hs .entry))) (now (design .entry)) (now (pre .entry)) i gap
+    ensures { λ r. ⌜ Sound m r × (ByRoot p m (mat p (now (hs .entry))) (now (design .entry)) (now (pre .entry)) i gap
         (now (star .entry)) (notes (now (kinds .entry)) (now (fs .entry)) (now (fi .entry)) (now (ms .entry)) (now (mi .entry))) root
-        (now (star .exit)) (notes (now (kinds .exit)) (now (fs .exit)) (now (fi .exit)) (now (ms .exit)) (now (mi .exit))) r ⌝ }
+        (now (star .exit)) (notes (now (kinds .exit)) (now (fs .exit)) (now (fi .exit)) (now (ms .exit)) (now (mi .exit))) r) ⌝ }
 {
     if gap {
         record_skipped(kinds, fs, fi, ms, mi, i, m);

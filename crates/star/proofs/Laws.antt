@@ -265,6 +265,9 @@ downdated-by e1 e2 d = rw (e1, e2) at d
 pub sound-still : (m : ℕ) (r s : StarRoot) → Sound m r → s .support ≡ r .support → s .count ≡ r .count → s .rank ≡ r .rank → Sound m s
 sound-still m r s w e1 e2 e3 = record { support = rw (e1, e2) (w .support); low = rw (e2, e3) (w .low) }
 
+pub sound-by : (m : ℕ) (z : List Float) (h : Float) (r s : StarRoot) → Sound m r → Downdated z h r s → Sound m s
+sound-by m z h r s w d = sound-still m r s w (d .support) (d .count) (d .rank)
+
 -- the root as it is built
 pub built : (p m : ℕ) (z h pre : List Float) (taken : List ℕ) (s : Support) (a : List Float) (f : Factor) (r : StarRoot) → m ≤ 8 → Found p m m z s
     → a ≡ sub m (s .count) (take (s .count) (s .places)) pre → factorOf (s .count) f ≡ def.rootOf (s .count) a → f .rank ≤ s .count
