@@ -1,73 +1,25 @@
--- The element's and the period's values as the definition's, and what their functions need and promise.
-use Prim.Native.Nat.{ℕ, _≤_, _<_, _+_}
+-- A period's values as the definition's, and what each stretch of its elements leaves.
+use Prim.Native.Nat.{ℕ, suc, _≤_, _<_, _+_}
 use mathlib.Core.Path.{_≡_}
-use mathlib.Core.Bool.{Bool, true, false, cond}
+use mathlib.Core.Bool.{Bool, true, false, not, cond}
 use mathlib.Core.List.{List, [], _∷_, _++_, map}
-use lib.ListN.{take, getD, set, length}
+use lib.Dec.{eqb}
+use lib.ListN.{take, length}
 use lib.Ieee.{Float}
-use Rattle.definition.specs.Dense.{outerSub, over}
-use Rattle.dense.specs.Views.{vec, mat, rect}
-use Rattle.definition.specs.Cov.{Decision, Inner, Fixed, Cov, entered, isLive, skipped, usual, diffuse, apply, k1Of, sdOf}
-use Rattle.definition.specs.Cov as cov
-use Rattle.definition.specs.Dense.{row}
-use Rattle.definition.specs.Num.{_>ᶠ_, _⊗_, cancel-tol, ent}
-use Rattle.definition.specs.Parts.{kindNo, mStarOf, mInfOf}
+use Rattle.definition.specs.Run.{scan, join}
+use Rattle.definition.specs.Inputs.{kindOf, isGap}
+use Rattle.definition.specs.Cov.{Decision, Inner, Fixed, Cov, elementOf, entered, isLive, none-yet}
 use Rattle.definition.specs.Parts as parts
-use Rattle.definition.specs.Run.{join}
-use Rattle.star.specs.Views.{Sound, Holds}
-use Rattle.element.specs.declared.Finding.{Finding}
-use Rattle.element.specs.declared.Finding.the-variants as finding
-use Rattle.element.specs.declared.Ruled.{Ruled}
-use Rattle.element.specs.declared.Keep.{Keep}
-use Rattle.element.specs.declared.Verdict.{Verdict}
-use Rattle.element.specs.declared.Verdict.the-variants.{Skipped, Usual, Diffuse}
-use Rattle.element.specs.declared.Dust.{Dust}
-use Rattle.element.specs.declared.Dust.the-variants.{Clear, Below, Suspect}
-use Rattle.element.specs.declared.Judged.{Judged}
-use Rattle.element.specs.declared.Numbers.{Numbers}
+use Rattle.definition.specs.Parts.{kindNo, mStarOf, mInfOf}
+use Rattle.dense.specs.Views.{mat, rect}
+use Rattle.star.specs.Views.{Holds}
+use Rattle.star.specs.declared.StarRoot.{StarRoot}
+use Rattle.judge.specs.Views.{Notes, Books, notes, books, innerOf, fixedOf}
+use Rattle.judge.specs.declared.Step.{Step}
+use Rattle.judge.specs.declared.Step.the-variants as step
+use Rattle.element.specs.declared.Taken.{Taken}
 
-unfoldable pub dustOf : Dust → cov.Dust
-dustOf Clear = cov.clear
-dustOf Below = cov.below
-dustOf (Suspect r) = cov.suspect r
-
-unfoldable pub decided : ℕ → Verdict → List Float → List Float → Decision
-decided m Skipped a b = skipped
-decided m (Usual f) a b = usual f (vec m a)
-decided m (Diffuse f g) a b = diffuse f g (vec m a) (vec m b)
-
-unfoldable pub decisionOf : ℕ → Judged → Decision
-decisionOf m r = decided m (r .verdict) (r .«m_star») (r .«m_inf»)
-
-abbrev pub innerOf : ℕ → List Float → List Float → List Float → List ℕ → ℕ → Inner
-innerOf m star pinf root taken n = record { star = mat m star; pinf = mat m pinf; root = mat m root; taken = take n taken }
-
--- what a diffuse update leaves of P* and P∞
-pub record Updated (m : ℕ) (p* p∞ m* m∞ : List Float) (f f∞ : Float) (q* q∞ : List Float) : Type 0 where
-  pub star : mat m q* ≡ outerSub m (outerSub m (mat m p*) (vec m m*) (over m (vec m m∞) f∞)) (vec m m∞) (k1Of m (vec m m*) (over m (vec m m∞) f∞) f f∞)
-  pub pinf : mat m q∞ ≡ outerSub m (mat m p∞) (vec m m∞) (over m (vec m m∞) f∞)
-
-abbrev pub fixedOf : ℕ → ℕ → Bool → List Float → List Float → List Float → Fixed
-fixedOf p m live design pre unres = record { diffuse = live; z = rect p m design; pre = mat m pre; unres = mat m unres }
-
--- the list of the elements taken: place n gets i
-pub record Noted (l : List ℕ) (n i : ℕ) (l′ : List ℕ) : Type 0 where
-  pub size : length l ≡ 8
-  pub stored : l′ ≡ set l n i
-
--- what an element leaves of the list: n of them, each below p
-pub record Kept (p i n : ℕ) (taken : List ℕ) : Type 0 where
-  pub few : n ≤ i + 1
-  pub size : length taken ≡ 8
-  pub below : (k : ℕ) → k < n → getD taken k 0 < p
-
-pub record Applied (p i n : ℕ) (taken : List ℕ) (old new : Inner) (m : ℕ) (z : List Float) (d : Decision) : Type 0 where
-  pub inner : new ≡ apply m z i old d
-  pub kept : Kept p i n taken
-
-pub record Done (p i n : ℕ) (taken : List ℕ) (d : Decision) (new : Inner) (want : Decision × Inner) : Type 0 where
-  pub both : (d, new) ≡ want
-  pub kept : Kept p i n taken
+-- ---- what the callers see
 
 -- what the elements of a period leave: their decisions in the flat form, and P*, P∞ and B
 pub record Ran (p m : ℕ) (want : List Decision × Inner) (ks : List ℕ) (fs fi ms mi p* p∞ b : List Float) : Type 0 where
@@ -80,21 +32,9 @@ pub record Ran (p m : ℕ) (want : List Decision × Inner) (ks : List ℕ) (fs f
   pub pinf : mat m p∞ ≡ want .1 .pinf
   pub root : mat m b ≡ want .1 .root
 
--- a decision as numbers
-pub record Flattened (m : ℕ) (d : Decision) (r : Numbers) : Type 0 where
-  pub kind : r .kind ≡ kindNo d
-  pub stars : r .«f_star» ≡ parts.fStarOf d
-  pub infs : r .«f_inf» ≡ parts.fInfOf d
-  pub m-stars : vec m (r .«m_star») ≡ mStarOf m d
-  pub m-infs : vec m (r .«m_inf») ≡ mInfOf m d
-
--- the flat form of one decision more, at place i
-pub record Recorded (m i : ℕ) (d : Decision) (k k′ : List ℕ) (fs fs′ fi fi′ ms ms′ mi mi′ : List Float) : Type 0 where
-  pub kinds : take (i + 1) k′ ≡ take i k ++ (kindNo d ∷ [])
-  pub stars : take (i + 1) fs′ ≡ take i fs ++ (parts.fStarOf d ∷ [])
-  pub infs : take (i + 1) fi′ ≡ take i fi ++ (parts.fInfOf d ∷ [])
-  pub m-stars : rect (i + 1) m ms′ ≡ rect i m ms ++ mStarOf m d
-  pub m-infs : rect (i + 1) m mi′ ≡ rect i m mi ++ mInfOf m d
+-- before the period's first element
+abbrev pub startOf : ℕ → List Float → List Float → List Float → Inner
+startOf m star pinf root = record { star = mat m star; pinf = mat m pinf; root = mat m root; taken = [] }
 
 abbrev pub stateOf : ℕ → List Float → List Float → List Float → List Float → Bool → Cov
 stateOf m star pinf root unres live = record { star = mat m star; pinf = mat m pinf; root = mat m root; unres = mat m unres; live = live }
@@ -103,49 +43,87 @@ pub record Begun (m : ℕ) (live : Bool) (p∞ q∞ : List Float) (r : Bool) : T
   pub lasts : r ≡ isLive m live (mat m p∞)
   pub pinf : mat m q∞ ≡ entered m r (mat m p∞)
 
--- a finding as a decision, by F of the star root
-unfoldable pub ruled : ℕ → Float → Finding → List Float → List Float → Decision
-ruled m again finding.Nothing a b = skipped
-ruled m again (finding.Usual f) a b = usual f (vec m a)
-ruled m again (finding.Diffuse f g) a b = diffuse f g (vec m a) (vec m b)
-ruled m again (finding.Doubtful f r) a b = cond (again >ᶠ cancel-tol ⊗ r) (usual f (vec m a)) skipped
+-- ---- the stretches
 
-unfoldable pub ruledOf : ℕ → Float → Ruled → Decision
-ruledOf m again r = ruled m again (r .finding) (r .«m_star») (r .«m_inf»)
+abbrev pub gapsOf : List Float → List Bool
+gapsOf ys = map isGap (map kindOf ys)
 
--- a root that is kept is the star root of the elements taken
-pub record Keeping (p m : ℕ) (z h pre : List Float) (taken : List ℕ) (k : Keep) : Type 0 where
-  pub holds : k .has ≡ true → Holds p m z h pre taken (k .root)
-
-pub record SoundIf (m : ℕ) (k : Keep) : Type 0 where
-  pub sound : k .has ≡ true → Sound m (k .root)
-
--- element i's row of the design, and its noise
-pub record Element (p m : ℕ) (design hs : List Float) (i : ℕ) (z : List Float) (h : Float) : Type 0 where
-  pub row : z ≡ row m design i
-  pub noise : h ≡ ent p hs i i
-
-unfoldable pub takenAfter : Verdict → List ℕ → ℕ → List ℕ
-takenAfter Skipped t i = t
-takenAfter (Usual f) t i = t ++ (i ∷ [])
-takenAfter (Diffuse f g) t i = t ++ (i ∷ [])
-
--- what is kept, after a verdict on the element (z, h)
-pub record Follows (m : ℕ) (z : List Float) (h : Float) (v : Verdict) (k k′ : Keep) : Type 0 where
-  pub keeping : (p : ℕ) (design hs pre : List Float) (i : ℕ) (taken : List ℕ) → Element p m design hs i z h → Keeping p m design hs pre taken k → Keeping p m design hs pre (takenAfter v taken i) k′
-
--- element i of p, m states, n elements taken of those before it
-pub record Sizes (p m i n : ℕ) (taken : List ℕ) : Type 0 where
+-- element i of a period of p, with n readings
+pub record Sizes (p m i n : ℕ) : Type 0 where
   pub elements : p ≤ 8
   pub states : m ≤ 8
-  pub here : i < p
-  pub few : n ≤ i
-  pub size : length taken ≡ 8
-  pub below : (k : ℕ) → k < n → getD taken k 0 < p
+  pub here : i ≤ p
+  pub readings : n ≡ p
 
--- the standard deviations of the predicted P*, once an element was taken; and whether they are at hand
-pub record Deviated (n m : ℕ) (pre sd : List Float) : Type 0 where
-  pub is : 0 < n → vec m sd ≡ sdOf m (mat m pre)
+unfoldable pub stopsOf : Step → Bool → Bool
+stopsOf step.Passed fresh = false
+stopsOf step.Taken fresh = fresh
+stopsOf step.Doubtful fresh = true
 
-pub record Have (have : Bool) (m : ℕ) (pre sd : List Float) : Type 0 where
-  pub is : have ≡ true → vec m sd ≡ sdOf m (mat m pre)
+unfoldable pub pastOf : Step → ℕ → ℕ
+pastOf step.Passed i = i + 1
+pastOf step.Taken i = i + 1
+pastOf step.Doubtful i = i
+
+-- the first i elements, as the definition has them
+abbrev pub upTo : ℕ → ℕ → List Float → Fixed → List Bool → Inner → ℕ → List Decision × Inner
+upTo p m h fix gaps s i = scan (elementOf p m h fix) 0 s (take i gaps)
+
+-- the records hold the decisions ds
+pub record Flats (m i : ℕ) (ds : List Decision) (n : Notes) : Type 0 where
+  pub kinds : take i (n .kinds) ≡ map kindNo ds
+  pub fs : take i (n .fs) ≡ map parts.fStarOf ds
+  pub fi : take i (n .fi) ≡ map parts.fInfOf ds
+  pub ms : rect i m (n .ms) ≡ join (map (mStarOf m) ds)
+  pub mi : rect i m (n .mi) ≡ join (map (mInfOf m) ds)
+
+-- i elements are done, from the state s on
+pub record Gone (p m : ℕ) (h : List Float) (fix : Fixed) (gaps : List Bool) (s : Inner) (i : ℕ) (b : Books) : Type 0 where
+  pub inner : innerOf m b (upTo p m h fix gaps s i .1 .taken) ≡ upTo p m h fix gaps s i .1
+  pub flats : Flats m i (upTo p m h fix gaps s i .0) (b .notes)
+
+-- whether none of the first i was taken
+abbrev pub none-of : ℕ → ℕ → List Float → Fixed → List Bool → Inner → ℕ → Bool
+none-of p m h fix gaps s i = none-yet (upTo p m h fix gaps s i .1 .taken)
+
+-- a stretch without the star root, to element r: it ends before p only once an element is taken, and one that began so only in a period that is not diffuse
+pub record Stretch (p m : ℕ) (h : List Float) (fix : Fixed) (gaps : List Bool) (fresh : Bool) (from r : ℕ) (b b′ : Books) : Type 0 where
+  pub high : r ≤ p
+  pub gone : (s : Inner) → Gone p m h fix gaps s from b → fresh ≡ none-of p m h fix gaps s from → Gone p m h fix gaps s r b′ × (r < p → none-of p m h fix gaps s r ≡ false)
+  pub calm : r < p → fresh ≡ false → fix .diffuse ≡ false
+
+-- all the elements that are left
+abbrev pub Rest : ℕ → ℕ → List Float → Fixed → List Bool → ℕ → Books → Books → Type 0
+Rest p m h fix gaps from b b′ = (s : Inner) → s .taken ≡ [] → Gone p m h fix gaps s from b → none-of p m h fix gaps s from ≡ false → Gone p m h fix gaps s p b′
+
+-- the same in a period that is not diffuse, whatever P∞, B and the unresolved matrix are
+abbrev pub ByRoots : ℕ → ℕ → List Float → List Float → List Float → List Bool → ℕ → List Float → Notes → List Float → Notes → Type 0
+ByRoots p m h design pre gaps from star n star′ n′ =
+    (p∞ b unres : List Float) → Rest p m h (fixedOf p m false design pre unres) gaps from (books star p∞ b n) (books star′ p∞ b n′)
+
+-- and with the star root of the elements taken at hand
+abbrev pub WithRoot : ℕ → ℕ → List Float → List Float → List Float → List Bool → ℕ → StarRoot → List Float → Notes → List Float → Notes → Type 0
+WithRoot p m h design pre gaps from root star n star′ n′ =
+    (p∞ b unres : List Float) (s : Inner) → Gone p m h (fixedOf p m false design pre unres) gaps s from (books star p∞ b n)
+    → none-of p m h (fixedOf p m false design pre unres) gaps s from ≡ false
+    → Holds p m (rect p m design) h (mat m pre) (upTo p m h (fixedOf p m false design pre unres) gaps s from .1 .taken) root
+    → Gone p m h (fixedOf p m false design pre unres) gaps s p (books star′ p∞ b n′)
+
+-- ---- the elements taken
+
+-- the places from k on at which a kind is not 0
+unfoldable pub placesFrom : ℕ → List ℕ → List ℕ
+placesFrom k [] = []
+placesFrom k (x ∷ xs) = let rest = placesFrom (suc k) xs in cond (eqb x 0) rest (k ∷ rest)
+
+-- element i joins those taken, by its kind
+pub record TookIn (t : Taken) (kind i : ℕ) (r : Taken) : Type 0 where
+  pub count : r .count ≡ cond (eqb kind 0) (t .count) (t .count + 1)
+  pub places : take (r .count) (r .places) ≡ cond (eqb kind 0) (take (t .count) (t .places)) (take (t .count) (t .places) ++ (i ∷ []))
+  pub size : length (r .places) ≡ length (t .places)
+
+-- those taken of the first n
+pub record Listed (n : ℕ) (kinds : List ℕ) (r : Taken) : Type 0 where
+  pub size : length (r .places) ≡ 8
+  pub few : r .count ≤ n
+  pub places : take (r .count) (r .places) ≡ placesFrom 0 kinds

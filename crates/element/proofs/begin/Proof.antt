@@ -1,8 +1,7 @@
 use Rattle.element.proofs.begin.Statement.{statement}
 use Rattle.element.proofs.begin.Tie as tie
 use borrow.Author.Needs.{needs}
-use mathlib.Core.Path.{sym, refl, _∙_}
-use native.Mathlib.Omega.{arith}
+use mathlib.Core.Path.{sym, _∙_}
 use Rattle.element.proofs.Whole as laws
 
 returns : tie.Need-returns

@@ -1,8 +1,5 @@
 use Rattle.element.proofs.clear.Statement.{statement}
 use Rattle.element.proofs.clear.Tie as tie
-use borrow.Author.Needs.{needs}
-use mathlib.Core.Path.{sym, refl, _∙_}
-use native.Mathlib.Omega.{arith}
 use Rattle.element.proofs.Whole as laws
 use Rattle.laws.specs.Lists.{square-le}
 

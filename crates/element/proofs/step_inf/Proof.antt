@@ -1,8 +1,6 @@
 use Rattle.element.proofs.step_inf.Statement.{statement}
 use Rattle.element.proofs.step_inf.Tie as tie
 use borrow.Author.Needs.{needs}
-use mathlib.Core.Path.{sym, refl, _∙_}
-use native.Mathlib.Omega.{arith}
 use Rattle.element.proofs.Whole as laws
 
 returns : tie.Need-returns
