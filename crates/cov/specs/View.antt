@@ -1,0 +1,140 @@
+-- What the covariance pass's functions need of the lent parts, and what they promise.
+use mathlib.Core.Path.{_≡_}
+use Prim.Native.Nat.{ℕ, _+_, _*_, _≤_, _<_}
+use mathlib.Core.Bool.{Bool}
+use mathlib.Core.List.{List, [], map}
+use lib.ListN.{length, take, drop}
+use lib.Ieee.{Float}
+use Rattle.definition.specs.Dense.{symmetrise}
+use Rattle.definition.specs.Run.{scan, join, count}
+use Rattle.definition.specs.Cov.{Cov, CovPeriod, Decision, Inner, isLive, entered, elementOf, stepped}
+use Rattle.definition.specs.Parts.{CovPart, predCov, predInf, filtCov, fStar, fInf, mStar, mInf, covBlock, kindBlock, kindNo, mStarOf, mInfOf}
+use Rattle.definition.specs.Parts as parts
+use Rattle.definition.specs.Outcome.{covWritten, kindsWritten}
+use Rattle.definition.specs.Inputs.{Kind, isGap}
+use Rattle.laws.specs.Passes.{Laid, over}
+use Rattle.dense.specs.Views.{mat}
+use Rattle.model.specs.Design.{DesignFits}
+use Rattle.model.specs.Places.{NoiseFits, StartFits}
+
+-- ---- one period, in three steps; block t of a part, of k places, is replaced by what the step stores
+
+-- the gaps of period t
+abbrev pub gapsAt : ℕ → List Kind → ℕ → List Bool
+gapsAt p ks t = take p (drop (t * p) (map isGap ks))
+
+pub record Two (m t : ℕ) (pc pi : ℕ) : Type 0 where
+  pub m8 : m ≤ 8
+  pub pred : t * (m * m) + m * m ≤ pc
+  pub pred-inf : t * (m * m) + m * m ≤ pi
+
+pub record Entered (m t : ℕ) (live : Bool) (p* p∞ q∞ pc pc′ pi pi′ : List Float) (r : Bool) : Type 0 where
+  pub lasts : r ≡ isLive m live (mat m p∞)
+  pub pinf : mat m q∞ ≡ entered m r (mat m p∞)
+  pub pred : pc′ ≡ over t (m * m) pc (mat m p*)
+  pub pred-inf : pi′ ≡ over t (m * m) pi (mat m q∞)
+  pub long : length (mat m p*) ≡ m * m
+  pub long-inf : length (mat m q∞) ≡ m * m
+
+pub record Five (p m t : ℕ) (design y ks fs fi ms mi : ℕ) : Type 0 where
+  pub p8 : p ≤ 8
+  pub m8 : m ≤ 8
+  pub t4096 : t < 4096
+  pub designed : design ≡ p * m
+  pub readings : t * p + p ≤ y
+  pub kinds : t * p + p ≤ ks
+  pub stars : t * p + p ≤ fs
+  pub infs : t * p + p ≤ fi
+  pub m-stars : t * (p * m) + p * m ≤ ms
+  pub m-infs : t * (p * m) + p * m ≤ mi
+
+-- the decisions, and the state after the elements
+unfoldable pub absorbOf : ℕ → ℕ → List Float → List Float → Bool → List Float → List Bool → List Float → List Float → List Float → List Decision × Inner
+absorbOf p m h z live unres gaps star pinf root =
+    scan (elementOf p m h (record { diffuse = live; z = z; pre = star; unres = unres })) 0 (record { star = star; pinf = pinf; root = root; taken = [] }) gaps
+
+-- a block written: its contents, as many as there are places
+pub record Wrote {A : Type 0} (t k : ℕ) (b old new : List A) : Type 0 where
+  pub is : new ≡ over t k old b
+  pub long : length b ≡ k
+
+pub record Absorbed (p m t : ℕ) (want : List Decision × Inner) (q* q∞ b′ : List Float) (ks ks′ : List ℕ) (fs fs′ fi fi′ ms ms′ mi mi′ : List Float) : Type 0 where
+  pub kinds : Wrote t p (map kindNo (want .0)) ks ks′
+  pub stars : Wrote t p (map parts.fStarOf (want .0)) fs fs′
+  pub infs : Wrote t p (map parts.fInfOf (want .0)) fi fi′
+  pub m-stars : Wrote t (p * m) (join (map (mStarOf m) (want .0))) ms ms′
+  pub m-infs : Wrote t (p * m) (join (map (mInfOf m) (want .0))) mi mi′
+  pub star : mat m q* ≡ want .1 .star
+  pub pinf : mat m q∞ ≡ want .1 .pinf
+  pub root : mat m b′ ≡ want .1 .root
+
+-- the filtered P* stored, and the state gone on by T
+pub record Left (m t : ℕ) (live : Bool) (tr rqr : List Float) (c c′ : Cov) (fc fc′ : List Float) : Type 0 where
+  pub filt : Wrote t (m * m) (symmetrise m (c .star)) fc fc′
+  pub state : c′ ≡ stepped m tr rqr live (symmetrise m (c .star)) (symmetrise m (c .pinf)) (c .root) (c .unres)
+
+-- ---- all n periods: the design and the readings, and room for the blocks
+
+pub record Periods (p m n listed : ℕ) (z zs y : ℕ) : Type 0 where
+  pub n4096 : n ≤ 4096
+  pub design : DesignFits p m z zs listed
+  pub readings : y ≡ n * p
+
+pub record Room (p m n : ℕ) (pc pi fc ks fs fi ms mi : ℕ) : Type 0 where
+  pub pred : n * (m * m) ≤ pc
+  pub pred-inf : n * (m * m) ≤ pi
+  pub filt : n * (m * m) ≤ fc
+  pub kinds : n * p ≤ ks
+  pub stars : n * p ≤ fs
+  pub infs : n * p ≤ fi
+  pub m-stars : n * (p * m) ≤ ms
+  pub m-infs : n * (p * m) ≤ mi
+
+-- what the loop leaves, over the run r: the state, the count of diffuse periods, and the periods' blocks laid over the parts
+pub record LoopedTo (p m n : ℕ) (r : List CovPeriod × Cov) (p* p∞ : List Float) (dd : ℕ) (pc₀ pc pi₀ pi fc₀ fc : List Float) (ks₀ ks : List ℕ) (fs₀ fs fi₀ fi ms₀ ms mi₀ mi : List Float) : Type 0 where
+  pub star : mat m p* ≡ r .1 .star
+  pub pinf : mat m p∞ ≡ r .1 .pinf
+  pub diffuse : dd ≡ count (λ c. c .diffuse) (r .0)
+  pub pred : Laid (n * (m * m)) (join (map (covBlock m predCov) (r .0))) pc₀ pc
+  pub pred-inf : Laid (n * (m * m)) (join (map (covBlock m predInf) (r .0))) pi₀ pi
+  pub filt : Laid (n * (m * m)) (join (map (covBlock m filtCov) (r .0))) fc₀ fc
+  pub kinds : Laid (n * p) (join (map kindBlock (r .0))) ks₀ ks
+  pub stars : Laid (n * p) (join (map (covBlock m fStar) (r .0))) fs₀ fs
+  pub infs : Laid (n * p) (join (map (covBlock m fInf) (r .0))) fi₀ fi
+  pub m-stars : Laid (n * (p * m)) (join (map (covBlock m mStar) (r .0))) ms₀ ms
+  pub m-infs : Laid (n * (p * m)) (join (map (covBlock m mInf) (r .0))) mi₀ mi
+
+-- ---- the pass
+
+-- what a call that is past refusals 1 and 2 has for it: the lengths of Z, the listed Z, H, T, R, Q, P*, the flags and y
+pub record Ready (p m r n listed : ℕ) (z zs h t rr q p* flags y : ℕ) : Type 0 where
+  pub n4096 : n ≤ 4096
+  pub design : DesignFits p m z zs listed
+  pub noise : h ≡ p * p
+  pub transition : t ≡ m * m
+  pub disturbance : NoiseFits m r rr q
+  pub start : StartFits m p* flags
+  pub readings : y ≡ n * p
+
+-- and the outputs: one more block of the predicted moments
+pub record Rooms (p m n : ℕ) (pc pi fc ks fs fi ms mi : ℕ) : Type 0 where
+  pub pred : n * (m * m) + m * m ≤ pc
+  pub pred-inf : n * (m * m) + m * m ≤ pi
+  pub filt : n * (m * m) ≤ fc
+  pub kinds : n * p ≤ ks
+  pub stars : n * p ≤ fs
+  pub infs : n * p ≤ fi
+  pub m-stars : n * (p * m) ≤ ms
+  pub m-infs : n * (p * m) ≤ mi
+
+-- what it leaves: the count of diffuse periods, and each part as the definition writes it, its tail as it was
+pub record Passed (p m n : ℕ) (r : List CovPeriod × Cov) (dd : ℕ) (pc₀ pc pi₀ pi fc₀ fc : List Float) (ks₀ ks : List ℕ) (fs₀ fs fi₀ fi ms₀ ms mi₀ mi : List Float) : Type 0 where
+  pub diffuse : dd ≡ count (λ c. c .diffuse) (r .0)
+  pub pred : Laid (n * (m * m) + m * m) (covWritten m r predCov) pc₀ pc
+  pub pred-inf : Laid (n * (m * m) + m * m) (covWritten m r predInf) pi₀ pi
+  pub filt : Laid (n * (m * m)) (covWritten m r filtCov) fc₀ fc
+  pub kinds : Laid (n * p) (kindsWritten r) ks₀ ks
+  pub stars : Laid (n * p) (covWritten m r fStar) fs₀ fs
+  pub infs : Laid (n * p) (covWritten m r fInf) fi₀ fi
+  pub m-stars : Laid (n * (p * m)) (covWritten m r mStar) ms₀ ms
+  pub m-infs : Laid (n * (p * m)) (covWritten m r mInf) mi₀ mi
