@@ -16,7 +16,8 @@ use Rattle.definition.specs.Cov.{Cov, Decision, Inner, elementOf, stepped}
 use Rattle.definition.specs.Inputs.{kindOf, isGap}
 use Rattle.dense.specs.Views.{vec, mat, rect}
 use Rattle.blocks.specs.Block.{Put}
-use Rattle.element.specs.Views.{Ran, innerOf, fixedOf, stateOf}
+use Rattle.judge.specs.Views.{fixedOf}
+use Rattle.element.specs.Views.{Ran, stateOf}
 use Rattle.cov.specs.View.{gapsAt, absorbOf, Absorbed, Wrote, Left}
 use Rattle.laws.specs.Passes.{over}
 
@@ -62,7 +63,7 @@ gaps-part p t y =
 
 module _ (p m t : ℕ) (h unres design ys star pinf root : List Float) (live : Bool) (z : List Float) where
   pub absorbed : {q* q∞ b′ : List Float} {ks : List ℕ} {fs fi ms mi : List Float} {k k′ : List ℕ} {fs₀ fs′ fi₀ fi′ ms₀ ms′ mi₀ mi′ : List Float} → length design ≡ p * m → vec (length design) z ≡ design
-      → Ran p m (scan (elementOf p m h (fixedOf p m live z star unres)) 0 (innerOf m star pinf root [] 0) (map isGap (map kindOf (take (t * p + p - t * p) (drop (t * p) ys))))) ks fs fi ms mi q* q∞ b′
+      → Ran p m (scan (elementOf p m h (fixedOf p m live z star unres)) 0 (record { star = mat m star; pinf = mat m pinf; root = mat m root; taken = [] }) (map isGap (map kindOf (take (t * p + p - t * p) (drop (t * p) ys))))) ks fs fi ms mi q* q∞ b′
       → Put t p ks k k′ → Put t p fs fs₀ fs′ → Put t p fi fi₀ fi′ → Put t (p * m) ms ms₀ ms′ → Put t (p * m) mi mi₀ mi′
       → Absorbed p m t (absorbOf p m h design live (mat m unres) (gapsAt p (map kindOf ys) t) (mat m star) (mat m pinf) (mat m root)) q* q∞ b′ k k′ fs₀ fs′ fi₀ fi′ ms₀ ms′ mi₀ mi′
   unfolding absorbOf vec rect
