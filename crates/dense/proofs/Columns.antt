@@ -1,17 +1,17 @@
 -- M x and P - a b' column by column: from what one column does to the first j, and to all.
 use Prim.Native.Nat.{ℕ, zero, suc, _+_, _*_, _≤_, _<_}
-use mathlib.Core.Path.{_≡_, refl, sym, ap, _∙_, subst}
+use mathlib.Core.Path.{_≡_, refl, ap, _∙_}
 use mathlib.Core.Bool.{Bool, true, false, cond}
 use mathlib.Core.List.{List, _∷_}
 use mathlib.Core.Logic.{⊎-elim}
 use native.Mathlib.Omega.{arith}
 use native.Mathlib.Numerals.{add-one}
-use lib.Dec.{eqb, ltb}
+use lib.Dec.{eqb}
 use lib.Ieee.{Float}
 use lib.ListN.{length, replicate}
 use borrow.Author.Tests.{eqb-true, eq-eqb, ne-eqb, lt-ltb, le-ltb}
 use Rattle.definition.specs.Num.{0ᶠ, isZero, tabFrom, tabulate, matrix, zeros, at, ent, sumBut}
-use Rattle.definition.specs.Dense.{zeroAt, matVecTerm, matVecAt, matVec, lessOf, outerSubAt, outerSub}
+use Rattle.definition.specs.Dense.{zeroAt, matVecAt, matVec, lessOf, outerSubAt, outerSub}
 use Rattle.laws.specs.Lists.{vector-at, matrix-at, tab-cong, matrix-cong}
 use Rattle.dense.specs.Views.{vec, mat, rect}
 use Rattle.dense.specs.Columns.{moreAt, moreKeptAt, matVecTo, lessAt, columnLess, columnKept, outerSubTo}

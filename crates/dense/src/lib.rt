@@ -1,16 +1,28 @@
 // dense.rs: vectors in [f64; 8] and matrices in [f64; 64], row by row. A contract speaks of the places in use:
 // `vec m` of a vector, `mat m` of a square matrix, `rect r c` of one of r rows and c columns.
 ghost use mathlib.Core.Path.{_≡_};
-ghost use mathlib.Core.List.{_++_};
+ghost use mathlib.Core.List.{List, _++_};
 ghost use Prim.Native.Nat.{_≤_, _<_, _+_, _*_};
+ghost use lib.Ieee.{Float};
 ghost use lib.ListN.{set, length};
-ghost use Rattle.definition.specs.Num.{tabulate, matrix, at, ent, sumFrom};
+ghost use Rattle.definition.specs.Num.{_⊕_, _⊗_, isZero, tabulate, matrix, at, ent, sumFrom};
 ghost use Rattle.definition.specs.Dense.{dot, axpy, over, scaled, row, matVec, matTVec, matTVecAt};
 ghost use Rattle.definition.specs.Dense.{outerSub, outerScaled, product, productAt, transpose, sandwich, quad};
-ghost use Rattle.definition.specs.Dense.{plus, minus, symmetrise, symAt, sqTerm, frobSq, absTerm, absColumn, absQuadForm};
+ghost use Rattle.definition.specs.Dense.{plus, minus, symmetrise, sqTerm, frobSq, absTerm, absColumn, absQuadForm};
 ghost use Rattle.dense.specs.Views.{vec, mat, rect};
 ghost use Rattle.dense.specs.Columns.{moreAt, moreKeptAt, columnLess, columnKept};
+ghost use Rattle.dense.specs.Pairs.{meanOf, Paired};
 ghost use Rattle.dense.specs.Places.{Within, Cell, Sizes, Entry, Saved};
+
+// What a sum starts from.
+const EMPTY: f64 = 0.0;
+
+// Either zero, and no NaN: a column with this multiplier is left out where document 01 says so.
+fn is_zero(x: f64) -> bool
+    ensures { λ r. ⌜ r ≡ isZero x ⌝ }
+{
+    x == 0.0
+}
 
 // A reference to an array that is lent as a slice tells its length.
 pub fn sized(a: &[f64; 64])
@@ -71,7 +83,7 @@ pub fn dot(a: &[f64; 8], b: &[f64; 8], m: usize) -> f64
     requires { ⌜ m ≤ 8 ⌝ }
     ensures { λ r. ⌜ r ≡ dot m (vec m (now (a .entry))) (vec m (now (b .entry))) ⌝ }
 {
-    let mut s = 0.0;
+    let mut s = EMPTY;
     for i in 0..m {
         s = s + nth(a, m, i) * nth(b, m, i);
     }
@@ -131,7 +143,7 @@ fn add_column_kept(out: &mut [f64; 8], a: &[f64; 64], x: &[f64; 8], m: usize, j:
     ensures { λ _. ⌜ vec m (now (out .exit)) ≡ tabulate m (moreKeptAt m (mat m (now (a .entry))) (vec m (now (x .entry))) j (vec m (now (out .entry)))) ⌝ }
 {
     sized8(out);
-    if nth(x, m, j) == 0.0 {
+    if is_zero(nth(x, m, j)) {
         return;
     }
     add_column(out, a, x, m, j);
@@ -168,7 +180,7 @@ fn sub_column_kept(p: &mut [f64; 64], a: &[f64; 8], b: &[f64; 8], m: usize, j: u
     ensures { λ _. ⌜ mat m (now (p .exit)) ≡ matrix m m (columnKept m (mat m (now (p .entry))) (vec m (now (a .entry))) (vec m (now (b .entry))) j) ⌝ }
 {
     sized(p);
-    if nth(b, m, j) == 0.0 {
+    if is_zero(nth(b, m, j)) {
         return;
     }
     sub_column(p, a, b, m, j);
@@ -200,13 +212,20 @@ pub fn outer_scaled(a: &[f64; 8], b: &[f64; 8], s: f64, m: usize) -> [f64; 64]
     out
 }
 
+// s + a x, also where x is 0: an infinity times 0 is a NaN, and M' x keeps it.
+fn plus_times(s: f64, a: f64, x: f64) -> f64
+    ensures { λ r. ⌜ r ≡ s ⊕ a ⊗ x ⌝ }
+{
+    s + a * x
+}
+
 fn mat_t_vec_at(a: &[f64; 64], x: &[f64; 8], m: usize, j: usize) -> f64
     requires { ⌜ (m ≤ 8) × (j < m) ⌝ }
     ensures { λ r. ⌜ r ≡ matTVecAt m (mat m (now (a .entry))) (vec m (now (x .entry))) j ⌝ }
 {
-    let mut s = 0.0;
+    let mut s = EMPTY;
     for i in 0..m {
-        s = s + get(a, m, i, j) * nth(x, m, i);
+        s = plus_times(s, get(a, m, i, j), nth(x, m, i));
     }
     s
 }
@@ -223,31 +242,35 @@ pub fn mat_t_vec(a: &[f64; 64], x: &[f64; 8], m: usize) -> [f64; 8]
     out
 }
 
-// Entry (i, j) of (M + M') / 2: the upper entry first; the diagonal stays.
-fn mirrored(p: &[f64; 64], m: usize, i: usize, j: usize) -> f64
-    requires { ⌜ Within m i j ⌝ }
-    ensures { λ r. ⌜ r ≡ symAt m (mat m (now (p .entry))) i j ⌝ }
+// Both mirrored entries, (i, j) and (j, i), become half of their sum.
+fn mirror(p: &mut [f64; 64], m: usize, i: usize, j: usize)
+    requires { ⌜ (m ≤ 8) × (i < j) × (j < m) ⌝ }
+    ensures { λ _. ⌜ now (p .exit) ≡ set (set (now (p .entry)) (i * m + j) (meanOf m (mat m (now (p .entry))) i j)) (j * m + i) (meanOf m (mat m (now (p .entry))) i j) ⌝ }
 {
-    if i < j {
-        0.5 * (get(p, m, i, j) + get(p, m, j, i))
-    } else if j < i {
-        0.5 * (get(p, m, j, i) + get(p, m, i, j))
-    } else {
-        get(p, m, i, j)
+    let v = 0.5 * (get(p, m, i, j) + get(p, m, j, i));
+    put(p, m, i, j, v);
+    put(p, m, j, i, v);
+}
+
+// The pairs of column j above the diagonal.
+fn mirror_column(p: &mut [f64; 64], m: usize, j: usize)
+    requires { ⌜ (m ≤ 8) × (j < m) ⌝ }
+    ensures { λ _. ⌜ ((q : List Float) → Paired m j 0 q (now (p .entry)) → Paired m (j + 1) 0 q (now (p .exit))) ⌝ }
+{
+    sized(p);
+    for i in 0..j {
+        mirror(p, m, i, j);
     }
 }
 
+// (M + M') / 2, in place; the diagonal stays.
 pub fn symmetrize_in_place(p: &mut [f64; 64], m: usize)
     requires { ⌜ m ≤ 8 ⌝ }
     ensures { λ _. ⌜ mat m (now (p .exit)) ≡ symmetrise m (mat m (now (p .entry))) ⌝ }
 {
     sized(p);
-    let q = *p;
-    for i in 0..m {
-        for j in 0..m {
-            let v = mirrored(&q, m, i, j);
-            put(p, m, i, j, v);
-        }
+    for j in 0..m {
+        mirror_column(p, m, j);
     }
 }
 
@@ -255,7 +278,7 @@ fn product_at(a: &[f64; 64], b: &[f64; 64], r: usize, k: usize, c: usize, i: usi
     requires { ⌜ Entry r k c i j ⌝ }
     ensures { λ x. ⌜ x ≡ productAt k c (rect r k (now (a .entry))) (rect k c (now (b .entry))) i j ⌝ }
 {
-    let mut s = 0.0;
+    let mut s = EMPTY;
     for l in 0..k {
         s = s + cell(a, r, k, i, l) * cell(b, k, c, l, j);
     }
@@ -297,7 +320,7 @@ fn product_t_at(
     requires { ⌜ Entry r k c i j ⌝ }
     ensures { λ x. ⌜ x ≡ productAt k c (rect r k (now (a .entry))) (transpose c k (rect c k (now (b .entry)))) i j ⌝ }
 {
-    let mut s = 0.0;
+    let mut s = EMPTY;
     for l in 0..k {
         s = s + cell(a, r, k, i, l) * cell(b, c, k, j, l);
     }
@@ -346,7 +369,7 @@ fn t_product_at(
     requires { ⌜ Entry r k c i j ⌝ }
     ensures { λ x. ⌜ x ≡ productAt k c (transpose k r (rect k r (now (a .entry)))) (rect k c (now (b .entry))) i j ⌝ }
 {
-    let mut s = 0.0;
+    let mut s = EMPTY;
     for l in 0..k {
         s = s + cell(a, k, r, l, i) * cell(b, k, c, l, j);
     }
@@ -475,7 +498,7 @@ fn abs_column_kept(s: f64, z: &[f64; 8], a: &[f64; 64], m: usize, j: usize) -> f
     requires { ⌜ (m ≤ 8) × (j < m) ⌝ }
     ensures { λ r. ⌜ r ≡ absColumn m (vec m (now (z .entry))) (mat m (now (a .entry))) j s ⌝ }
 {
-    if nth(z, m, j) == 0.0 {
+    if is_zero(nth(z, m, j)) {
         return s;
     }
     abs_column(s, z, a, m, j)
@@ -486,7 +509,7 @@ pub fn abs_quad_form(z: &[f64; 8], a: &[f64; 64], m: usize) -> f64
     requires { ⌜ m ≤ 8 ⌝ }
     ensures { λ r. ⌜ r ≡ absQuadForm m (vec m (now (z .entry))) (mat m (now (a .entry))) ⌝ }
 {
-    let mut s = 0.0;
+    let mut s = EMPTY;
     for j in 0..m {
         s = abs_column_kept(s, z, a, m, j);
     }
@@ -510,7 +533,7 @@ pub fn frob_sq(a: &[f64; 64], m: usize) -> f64
     requires { ⌜ m ≤ 8 ⌝ }
     ensures { λ r. ⌜ r ≡ frobSq m (mat m (now (a .entry))) ⌝ }
 {
-    let mut s = 0.0;
+    let mut s = EMPTY;
     for j in 0..m {
         s = sq_column(s, a, m, j);
     }

@@ -1,11 +1,9 @@
+-- `dense::abs_quad_form` meets its contract. Assumes nothing.
 use Rattle.dense.proofs.abs_quad_form.Statement.{statement}
 use Rattle.dense.proofs.abs_quad_form.Tie as tie
 use native.Mathlib.Omega.{arith}
-use mathlib.Core.Path.{_≡_, refl, sym, ap, _∙_}
-use mathlib.Core.List.{List}
-use Prim.Native.Nat.{ℕ, _≤_, _<_, _*_, _-_, _+_}
-use lib.Ieee.{Float, ofBits}
-use lib.ListN.{length}
+use mathlib.Core.Path.{_≡_, refl}
+use Prim.Native.Nat.{_≤_, _-_}
 use Rattle.dense.proofs.Laws as laws
 use native.Mathlib.Numerals.{add-one}
 use Rattle.definition.specs.Dense.{absQuadForm, absTo}

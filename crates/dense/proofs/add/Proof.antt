@@ -1,10 +1,10 @@
+-- `dense::add` meets its contract. Assumes nothing.
 use Rattle.dense.proofs.add.Statement.{statement}
 use Rattle.dense.proofs.add.Tie as tie
 use native.Mathlib.Omega.{arith}
 use mathlib.Core.Path.{_≡_, refl}
 use Prim.Native.Nat.{_≤_, _*_, _-_}
 use lib.Ieee.{binary64, add}
-use lib.ListN.{length}
 use Rattle.definition.specs.Dense.{plus, plusAt}
 use Rattle.dense.proofs.Laws as laws
 

@@ -1,10 +1,10 @@
+-- `dense::add_column` meets its contract. Assumes nothing.
 use Rattle.dense.proofs.add_column.Statement.{statement}
 use Rattle.dense.proofs.add_column.Tie as tie
 use borrow.Author.Needs.{needs}
 use native.Mathlib.Omega.{arith}
 use mathlib.Core.Path.{_≡_, refl}
 use Prim.Native.Nat.{_≤_, _-_}
-use lib.ListN.{length}
 use Rattle.definition.specs.Num.{_⊕_, _⊗_, at}
 use Rattle.definition.specs.Dense.{matVecTerm}
 use Rattle.dense.specs.Views.{vec, mat}

@@ -1,9 +1,9 @@
+-- `dense::axpy` meets its contract. Assumes nothing.
 use Rattle.dense.proofs.axpy.Statement.{statement}
 use Rattle.dense.proofs.axpy.Tie as tie
 use native.Mathlib.Omega.{arith}
 use mathlib.Core.Path.{_≡_, refl}
 use Prim.Native.Nat.{_≤_, _-_}
-use lib.ListN.{length}
 use lib.Ieee.{Float}
 use Rattle.definition.specs.Num.{_⊕_, _⊗_}
 use Rattle.definition.specs.Dense.{axpy, axpyAt}

@@ -1,8 +1,9 @@
+-- `dense::dot` meets its contract. Assumes nothing.
 use Rattle.dense.proofs.dot.Statement.{statement}
 use Rattle.dense.proofs.dot.Tie as tie
 use native.Mathlib.Omega.{arith}
 use mathlib.Core.Path.{_≡_}
-use Prim.Native.Nat.{_≤_, _<_, _-_, _+_}
+use Prim.Native.Nat.{_≤_, _-_}
 use Rattle.definition.specs.Num.{_⊗_, sumTo}
 use Rattle.definition.specs.Dense.{dot, dotAt}
 use Rattle.dense.specs.Views.{vec}

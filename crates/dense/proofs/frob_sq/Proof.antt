@@ -1,14 +1,11 @@
+-- `dense::frob_sq` meets its contract. Assumes nothing.
 use Rattle.dense.proofs.frob_sq.Statement.{statement}
 use Rattle.dense.proofs.frob_sq.Tie as tie
 use native.Mathlib.Omega.{arith}
-use mathlib.Core.Path.{_≡_, refl, sym, ap, _∙_}
-use mathlib.Core.List.{List}
-use Prim.Native.Nat.{ℕ, _≤_, _<_, _*_, _-_, _+_}
-use lib.Ieee.{Float, ofBits}
-use lib.ListN.{length}
+use mathlib.Core.Path.{_≡_, refl}
+use Prim.Native.Nat.{_≤_, _-_}
 use Rattle.dense.proofs.Laws as laws
 use native.Mathlib.Numerals.{add-one}
-use Rattle.definition.specs.Num.{sumFrom}
 use Rattle.definition.specs.Dense.{frobSq, sqTo}
 use Rattle.dense.specs.Views.{mat}
 

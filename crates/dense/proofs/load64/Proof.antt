@@ -1,3 +1,4 @@
+-- `dense::load64` meets its contract. Assumes nothing.
 use Rattle.dense.proofs.load64.Statement.{statement}
 use Rattle.dense.proofs.load64.Tie as tie
 use native.Mathlib.Omega.{arith}

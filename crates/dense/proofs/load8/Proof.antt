@@ -1,3 +1,4 @@
+-- `dense::load8` meets its contract. Assumes nothing.
 use Rattle.dense.proofs.load8.Statement.{statement}
 use Rattle.dense.proofs.load8.Tie as tie
 use native.Mathlib.Omega.{arith}

@@ -1,10 +1,9 @@
+-- `dense::mat_t_vec` meets its contract. Assumes nothing.
 use Rattle.dense.proofs.mat_t_vec.Statement.{statement}
 use Rattle.dense.proofs.mat_t_vec.Tie as tie
 use native.Mathlib.Omega.{arith}
-use mathlib.Core.Path.{_≡_, refl, sym, ap, _∙_}
-use mathlib.Core.List.{List}
-use Prim.Native.Nat.{ℕ, _≤_, _<_, _*_, _-_, _+_}
-use lib.Ieee.{Float, ofBits}
+use mathlib.Core.Path.{_≡_, refl}
+use Prim.Native.Nat.{_≤_, _-_}
 use lib.ListN.{length}
 use Rattle.dense.proofs.Laws as laws
 use Rattle.definition.specs.Dense.{matTVec, matTVecAt}

@@ -1,11 +1,9 @@
+-- `dense::mat_t_vec_at` meets its contract. Assumes nothing.
 use Rattle.dense.proofs.mat_t_vec_at.Statement.{statement}
 use Rattle.dense.proofs.mat_t_vec_at.Tie as tie
 use native.Mathlib.Omega.{arith}
-use mathlib.Core.Path.{_≡_, refl, sym, ap, _∙_}
-use mathlib.Core.List.{List}
-use Prim.Native.Nat.{ℕ, _≤_, _<_, _*_, _-_, _+_}
-use lib.Ieee.{Float, ofBits}
-use lib.ListN.{length}
+use mathlib.Core.Path.{_≡_, _∙_}
+use Prim.Native.Nat.{_≤_, _-_}
 use Rattle.dense.proofs.Laws as laws
 use Rattle.definition.specs.Num.{_⊗_, sumTo}
 use Rattle.definition.specs.Dense.{matTVecAt, matTVecTerm}
@@ -23,14 +21,15 @@ loop-holds c = (omega arith, laws.sum-none _)
 loop-again : tie.Need-loop-again Inv-loop μ-loop
 unfolding matTVecTerm
 loop-again c =
-    let l = c .before .before .before in
+    let g = c .before .before in
+    let l = g .before .before in
     let a = l .before .args in
-    let v : c .before .get .result ⊗ c .nth .result ≡ matTVecTerm (a .m) (mat (a .m) (a .a .now)) (vec (a .m) (a .x .now)) (a .j) (l .loop .i) = cc in
-    (omega arith, laws.sum-next _ _ _ _ (l .loop .inv .1) v)
+    let v : g .get .result ⊗ c .before .nth .result ≡ matTVecTerm (a .m) (mat (a .m) (a .a .now)) (vec (a .m) (a .x .now)) (a .j) (l .loop .i) = cc in
+    (omega arith, c .plus-times .ensures ∙ laws.sum-next _ _ _ _ (l .loop .inv .1) v)
 
 returns : tie.Need-returns Inv-loop μ-loop
 unfolding matTVecAt
 returns c = laws.sum-end _ (c .before .loop .inv .1) (c .before .loop .inv .0) (c .loop-test .left)
 
 pub mat-t-vec-at-spec : {M : Type 1} → statement M
-mat-t-vec-at-spec = tie.close (tie.spec Inv-loop μ-loop loop-holds (λ c κs. omega arith) (λ c κs. omega arith) (λ c. omega arith) (λ c. omega arith) loop-again returns)
+mat-t-vec-at-spec = tie.close (tie.spec Inv-loop μ-loop loop-holds (λ c κs. omega arith) (λ c κs. omega arith) (λ c κs. tt) (λ c. omega arith) (λ c. omega arith) loop-again returns)

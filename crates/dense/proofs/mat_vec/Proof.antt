@@ -1,3 +1,4 @@
+-- `dense::mat_vec` meets its contract. Assumes nothing.
 use Rattle.dense.proofs.mat_vec.Statement.{statement}
 use Rattle.dense.proofs.mat_vec.Tie as tie
 use borrow.Author.Needs.{needs}

@@ -1,3 +1,4 @@
+-- `dense::outer_scaled` meets its contract. Assumes nothing.
 use Rattle.dense.proofs.outer_scaled.Statement.{statement}
 use Rattle.dense.proofs.outer_scaled.Tie as tie
 use native.Mathlib.Omega.{arith}

@@ -1,3 +1,4 @@
+-- `dense::outer_sub` meets its contract. Assumes nothing.
 use Rattle.dense.proofs.outer_sub.Statement.{statement}
 use Rattle.dense.proofs.outer_sub.Tie as tie
 use borrow.Author.Needs.{needs}

@@ -1,3 +1,4 @@
+-- `dense::put_row` meets its contract. Assumes nothing.
 use Rattle.dense.proofs.put_row.Statement.{statement}
 use Rattle.dense.proofs.put_row.Tie as tie
 use native.Mathlib.Omega.{arith}

@@ -1,3 +1,4 @@
+-- `dense::quad_into` meets its contract. Assumes nothing.
 use Rattle.dense.proofs.quad_into.Statement.{statement}
 use Rattle.dense.proofs.quad_into.Tie as tie
 use borrow.Author.Needs.{needs}

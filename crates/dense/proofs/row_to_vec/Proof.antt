@@ -1,14 +1,13 @@
+-- `dense::row_to_vec` meets its contract. Assumes nothing.
 use Rattle.dense.proofs.row_to_vec.Statement.{statement}
 use Rattle.dense.proofs.row_to_vec.Tie as tie
 use native.Mathlib.Omega.{arith}
-use mathlib.Core.Path.{_≡_, refl, sym, ap, _∙_}
-use mathlib.Core.List.{List}
-use Prim.Native.Nat.{ℕ, _≤_, _<_, _*_, _-_, _+_}
-use lib.Ieee.{Float, ofBits}
+use mathlib.Core.Path.{_≡_, refl, sym}
+use Prim.Native.Nat.{_≤_, _<_, _*_, _-_, _+_}
 use lib.ListN.{length}
 use Rattle.dense.proofs.Laws as laws
 use Rattle.definition.specs.Dense.{row, rowAt}
-use Rattle.dense.specs.Views.{vec, rect}
+use Rattle.dense.specs.Views.{rect}
 
 abbrev Inv-loop : tie.InvT-loop
 Inv-loop a p m i out₀ j₀ out j = (j ≤ m) × (length out₀ ≡ 8) × (out ≡ laws.row (rowAt m (rect p m a) i) 0 j out₀)

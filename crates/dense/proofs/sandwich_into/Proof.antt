@@ -1,3 +1,4 @@
+-- `dense::sandwich_into` meets its contract. Assumes nothing.
 use Rattle.dense.proofs.sandwich_into.Statement.{statement}
 use Rattle.dense.proofs.sandwich_into.Tie as tie
 use borrow.Author.Needs.{needs}

@@ -1,3 +1,4 @@
+-- `dense::save64` meets its contract. Assumes nothing.
 use Rattle.dense.proofs.save64.Statement.{statement}
 use Rattle.dense.proofs.save64.Tie as tie
 use native.Mathlib.Omega.{arith}

@@ -1,3 +1,4 @@
+-- `dense::save8` meets its contract. Assumes nothing.
 use Rattle.dense.proofs.save8.Statement.{statement}
 use Rattle.dense.proofs.save8.Tie as tie
 use native.Mathlib.Omega.{arith}

@@ -1,3 +1,4 @@
+-- `dense::save_bytes` meets its contract. Assumes nothing.
 use Rattle.dense.proofs.save_bytes.Statement.{statement}
 use Rattle.dense.proofs.save_bytes.Tie as tie
 use native.Mathlib.Omega.{arith}

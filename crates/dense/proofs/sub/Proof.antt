@@ -1,10 +1,10 @@
+-- `dense::sub` meets its contract. Assumes nothing.
 use Rattle.dense.proofs.sub.Statement.{statement}
 use Rattle.dense.proofs.sub.Tie as tie
 use native.Mathlib.Omega.{arith}
 use mathlib.Core.Path.{_≡_, refl}
 use Prim.Native.Nat.{_≤_, _*_, _-_}
 use lib.Ieee.{binary64, sub}
-use lib.ListN.{length}
 use Rattle.definition.specs.Dense.{minus, minusAt}
 use Rattle.dense.proofs.Laws as laws
 

@@ -1,3 +1,4 @@
+-- `dense::sub_column` meets its contract. Assumes nothing.
 use Rattle.dense.proofs.sub_column.Statement.{statement}
 use Rattle.dense.proofs.sub_column.Tie as tie
 use borrow.Author.Needs.{needs}

@@ -1,3 +1,4 @@
+-- `dense::t_product_at` meets its contract. Assumes nothing.
 use Rattle.dense.proofs.t_product_at.Statement.{statement}
 use Rattle.dense.proofs.t_product_at.Tie as tie
 use borrow.Author.Needs.{needs}

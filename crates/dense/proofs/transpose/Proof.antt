@@ -1,3 +1,4 @@
+-- `dense::transpose` meets its contract. Assumes nothing.
 use Rattle.dense.proofs.transpose.Statement.{statement}
 use Rattle.dense.proofs.transpose.Tie as tie
 use borrow.Author.Needs.{needs}

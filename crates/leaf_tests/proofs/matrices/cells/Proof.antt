@@ -1,7 +1,6 @@
 -- `leaf_tests::matrices::cells` meets its contract. Assumes nothing.
 use Rattle.dense.proofs.Laws.{area}
 use native.Mathlib.Omega.{arith}
-use borrow.Author.Needs.{needs}
 use Rattle.leaf_tests.proofs.matrices.cells.Statement.{statement}
 use Rattle.leaf_tests.proofs.matrices.cells.Tie as tie
 

@@ -1,11 +1,10 @@
 -- `leaf_tests::words::double` meets its contract. Assumes nothing.
 use Rattle.leaf_tests.proofs.words.double.Statement.{statement}
 use Rattle.leaf_tests.proofs.words.double.Tie as tie
-use mathlib.Core.Path.{_≡_, refl, sym, ap, _∙_, subst}
+use mathlib.Core.Path.{_≡_, refl, sym, _∙_, subst}
 use mathlib.Core.Bool.{Bool, true, false≢true, not}
-use Prim.Native.Nat.{ℕ, _%_, _<_, _≤_}
 use lib.Dec.{T}
-use lib.Ieee.{Float, nan, inf, fin, binary64, isNan, nanBits, ofBits, div}
+use lib.Ieee.{Float, nan, inf, fin, binary64, isNan, ofBits, div}
 use lib.Ieee.Bits.{nanBits-is, nanBits-above}
 use borrow.Author.Needs.{needs}
 use borrow.Author.Tests.{lt-ltb, le-ltb}

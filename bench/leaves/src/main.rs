@@ -1,0 +1,407 @@
+// The proved kernels against the same plain loops in Rust, on the same inputs in one run: the bits of every result (all NaNs as one), then
+// nanoseconds a call and their ratio.
+use std::hint::black_box;
+use std::time::Instant;
+
+type V = [f64; 8];
+type M = [f64; 64];
+
+extern "C" {
+    fn leaf_dot(a: &V, b: &V, m: usize) -> f64;
+    fn leaf_mat_vec(a: &M, x: &V, m: usize, out: &mut V);
+    fn leaf_mat_t_vec(a: &M, x: &V, m: usize, out: &mut V);
+    fn leaf_outer_sub(p: &mut M, a: &V, b: &V, m: usize);
+    fn leaf_product(a: &M, b: &M, m: usize, out: &mut M);
+    fn leaf_sandwich(t: &M, p: &M, m: usize, out: &mut M);
+    fn leaf_abs_quad_form(z: &V, a: &M, m: usize) -> f64;
+    fn leaf_frob_sq(a: &M, m: usize) -> f64;
+    fn leaf_symmetrize(p: &mut M, m: usize);
+    fn leaf_add(p: &mut M, q: &M, m: usize);
+}
+
+// The plain loops: dense.rs over arrays, with document 01's rules for the products.
+mod plain {
+    use super::{M, V};
+
+    pub fn dot(a: &V, b: &V, m: usize) -> f64 {
+        let mut s = 0.0;
+        for i in 0..m {
+            s += a[i] * b[i];
+        }
+        s
+    }
+
+    pub fn mat_t_vec(a: &M, x: &V, m: usize) -> V {
+        let mut out = [0.0; 8];
+        for j in 0..m {
+            let mut s = 0.0;
+            for i in 0..m {
+                s += a[i * m + j] * x[i];
+            }
+            out[j] = s;
+        }
+        out
+    }
+
+    pub fn mat_vec(a: &M, x: &V, m: usize) -> V {
+        let mut out = [0.0; 8];
+        for j in 0..m {
+            if x[j] != 0.0 {
+                for i in 0..m {
+                    out[i] += a[i * m + j] * x[j];
+                }
+            }
+        }
+        out
+    }
+
+    pub fn outer_sub(p: &mut M, a: &V, b: &V, m: usize) {
+        for j in 0..m {
+            if b[j] != 0.0 {
+                for i in 0..m {
+                    p[i * m + j] -= a[i] * b[j];
+                }
+            }
+        }
+    }
+
+    pub fn product(a: &M, b: &M, m: usize) -> M {
+        let mut out = [0.0; 64];
+        for i in 0..m {
+            for j in 0..m {
+                let mut s = 0.0;
+                for l in 0..m {
+                    s += a[i * m + l] * b[l * m + j];
+                }
+                out[i * m + j] = s;
+            }
+        }
+        out
+    }
+
+    pub fn product_t(a: &M, b: &M, m: usize) -> M {
+        let mut out = [0.0; 64];
+        for i in 0..m {
+            for j in 0..m {
+                let mut s = 0.0;
+                for l in 0..m {
+                    s += a[i * m + l] * b[j * m + l];
+                }
+                out[i * m + j] = s;
+            }
+        }
+        out
+    }
+
+    pub fn sandwich(t: &M, p: &M, m: usize) -> M {
+        product_t(&product(t, p, m), t, m)
+    }
+
+    pub fn abs_quad_form(z: &V, a: &M, m: usize) -> f64 {
+        let mut s = 0.0;
+        for j in 0..m {
+            if z[j] == 0.0 {
+                continue;
+            }
+            let zj = z[j].abs();
+            for i in 0..m {
+                s += z[i].abs() * zj * a[i * m + j].abs();
+            }
+        }
+        s
+    }
+
+    pub fn frob_sq(a: &M, m: usize) -> f64 {
+        let mut s = 0.0;
+        for j in 0..m {
+            for i in 0..m {
+                s += a[i * m + j] * a[i * m + j];
+            }
+        }
+        s
+    }
+
+    pub fn symmetrize(p: &mut M, m: usize) {
+        for j in 0..m {
+            for i in 0..j {
+                let v = 0.5 * (p[i * m + j] + p[j * m + i]);
+                p[i * m + j] = v;
+                p[j * m + i] = v;
+            }
+        }
+    }
+
+    pub fn add(p: &mut M, q: &M, m: usize) {
+        for i in 0..m {
+            for j in 0..m {
+                p[i * m + j] += q[i * m + j];
+            }
+        }
+    }
+}
+
+// The same by the same calling convention, and never inlined: what is timed on both sides is one call.
+#[inline(never)]
+extern "C" fn rust_dot(a: &V, b: &V, m: usize) -> f64 {
+    if m > 8 {
+        return 0.0;
+    }
+    plain::dot(a, b, m)
+}
+
+#[inline(never)]
+extern "C" fn rust_mat_vec(a: &M, x: &V, m: usize, out: &mut V) {
+    if m <= 8 {
+        *out = plain::mat_vec(a, x, m);
+    }
+}
+
+#[inline(never)]
+extern "C" fn rust_mat_t_vec(a: &M, x: &V, m: usize, out: &mut V) {
+    if m <= 8 {
+        *out = plain::mat_t_vec(a, x, m);
+    }
+}
+
+#[inline(never)]
+extern "C" fn rust_outer_sub(p: &mut M, a: &V, b: &V, m: usize) {
+    if m <= 8 {
+        plain::outer_sub(p, a, b, m);
+    }
+}
+
+#[inline(never)]
+extern "C" fn rust_product(a: &M, b: &M, m: usize, out: &mut M) {
+    if m <= 8 {
+        *out = plain::product(a, b, m);
+    }
+}
+
+#[inline(never)]
+extern "C" fn rust_sandwich(t: &M, p: &M, m: usize, out: &mut M) {
+    if m <= 8 {
+        *out = plain::sandwich(t, p, m);
+    }
+}
+
+#[inline(never)]
+extern "C" fn rust_abs_quad_form(z: &V, a: &M, m: usize) -> f64 {
+    if m > 8 {
+        return 0.0;
+    }
+    plain::abs_quad_form(z, a, m)
+}
+
+#[inline(never)]
+extern "C" fn rust_frob_sq(a: &M, m: usize) -> f64 {
+    if m > 8 {
+        return 0.0;
+    }
+    plain::frob_sq(a, m)
+}
+
+#[inline(never)]
+extern "C" fn rust_symmetrize(p: &mut M, m: usize) {
+    if m <= 8 {
+        plain::symmetrize(p, m);
+    }
+}
+
+#[inline(never)]
+extern "C" fn rust_add(p: &mut M, q: &M, m: usize) {
+    if m <= 8 {
+        plain::add(p, q, m);
+    }
+}
+
+// What the leaves read, and what they write.
+struct Inputs {
+    a: M,
+    b: M,
+    x: V,
+    y: V,
+}
+
+struct Outputs {
+    m: M,
+    v: V,
+    s: f64,
+}
+
+// A leaf as a pointer, by its parameters. The proved one and the plain one are called from the same place in the same way.
+#[derive(Clone, Copy)]
+enum Leaf {
+    Dot(unsafe extern "C" fn(&V, &V, usize) -> f64),
+    Norm(unsafe extern "C" fn(&M, usize) -> f64),
+    Form(unsafe extern "C" fn(&V, &M, usize) -> f64),
+    Vector(unsafe extern "C" fn(&M, &V, usize, &mut V)),
+    Product(unsafe extern "C" fn(&M, &M, usize, &mut M)),
+    Rank(unsafe extern "C" fn(&mut M, &V, &V, usize)),
+    Mirror(unsafe extern "C" fn(&mut M, usize)),
+    Sum(unsafe extern "C" fn(&mut M, &M, usize)),
+}
+
+impl Leaf {
+    fn call(self, i: &Inputs, m: usize, o: &mut Outputs) {
+        unsafe {
+            match self {
+                Leaf::Dot(f) => o.s = f(&i.x, &i.y, m),
+                Leaf::Norm(f) => o.s = f(&i.a, m),
+                Leaf::Form(f) => o.s = f(&i.x, &i.a, m),
+                Leaf::Vector(f) => f(&i.a, &i.x, m, &mut o.v),
+                Leaf::Product(f) => f(&i.a, &i.b, m, &mut o.m),
+                Leaf::Rank(f) => f(&mut o.m, &i.x, &i.y, m),
+                Leaf::Mirror(f) => f(&mut o.m, m),
+                Leaf::Sum(f) => f(&mut o.m, &i.a, m),
+            }
+        }
+    }
+}
+
+const LEAVES: [(&str, Leaf, Leaf); 10] = [
+    ("product", Leaf::Product(leaf_product), Leaf::Product(rust_product)),
+    ("sandwich", Leaf::Product(leaf_sandwich), Leaf::Product(rust_sandwich)),
+    ("mat_vec", Leaf::Vector(leaf_mat_vec), Leaf::Vector(rust_mat_vec)),
+    ("outer_sub", Leaf::Rank(leaf_outer_sub), Leaf::Rank(rust_outer_sub)),
+    ("abs_quad_form", Leaf::Form(leaf_abs_quad_form), Leaf::Form(rust_abs_quad_form)),
+    ("mat_t_vec", Leaf::Vector(leaf_mat_t_vec), Leaf::Vector(rust_mat_t_vec)),
+    ("dot", Leaf::Dot(leaf_dot), Leaf::Dot(rust_dot)),
+    ("frob_sq", Leaf::Norm(leaf_frob_sq), Leaf::Norm(rust_frob_sq)),
+    ("symmetrize", Leaf::Mirror(leaf_symmetrize), Leaf::Mirror(rust_symmetrize)),
+    ("add", Leaf::Sum(leaf_add), Leaf::Sum(rust_add)),
+];
+
+// A fixed sequence: splitmix64.
+struct Random(u64);
+
+impl Random {
+    fn next(&mut self) -> u64 {
+        self.0 = self.0.wrapping_add(0x9e37_79b9_7f4a_7c15);
+        let mut z = self.0;
+        z = (z ^ (z >> 30)).wrapping_mul(0xbf58_476d_1ce4_e5b9);
+        z = (z ^ (z >> 27)).wrapping_mul(0x94d0_49bb_1331_11eb);
+        z ^ (z >> 31)
+    }
+
+    // between -2 and 2; one in eight is a zero of either sign
+    fn tame(&mut self) -> f64 {
+        let k = self.next();
+        if k % 8 == 0 {
+            return if k & 8 == 0 { 0.0 } else { -0.0 };
+        }
+        ((k >> 11) as f64) / ((1u64 << 51) as f64) - 2.0
+    }
+
+    // any bits, and often a zero, an infinity, a NaN, the least and the largest
+    fn wild(&mut self) -> f64 {
+        let k = self.next();
+        let edges = [
+            0.0,
+            -0.0,
+            f64::INFINITY,
+            -f64::INFINITY,
+            f64::NAN,
+            5e-324,
+            -5e-324,
+            f64::MAX,
+            -f64::MAX,
+            1.0,
+        ];
+        if k % 3 == 0 {
+            edges[(k / 3 % 10) as usize]
+        } else if k % 3 == 1 {
+            f64::from_bits(self.next())
+        } else {
+            self.tame()
+        }
+    }
+
+    fn inputs(&mut self, draw: fn(&mut Random) -> f64) -> Inputs {
+        let mut i = Inputs {
+            a: [0.0; 64],
+            b: [0.0; 64],
+            x: [0.0; 8],
+            y: [0.0; 8],
+        };
+        for v in i.a.iter_mut().chain(i.b.iter_mut()).chain(i.x.iter_mut()).chain(i.y.iter_mut()) {
+            *v = draw(self);
+        }
+        i
+    }
+}
+
+fn outputs(i: &Inputs) -> Outputs {
+    Outputs { m: i.b, v: i.y, s: 0.0 }
+}
+
+fn same(x: f64, y: f64) -> bool {
+    x.to_bits() == y.to_bits() || (x.is_nan() && y.is_nan())
+}
+
+// Only the places in use are promised: m of a vector, m·m of a matrix.
+fn agree(o: &Outputs, p: &Outputs, m: usize) -> bool {
+    (0..m * m).all(|k| same(o.m[k], p.m[k])) && (0..m).all(|k| same(o.v[k], p.v[k])) && same(o.s, p.s)
+}
+
+// The time of a call in a short batch. The least of many counts, so that other work on the machine does not show.
+#[inline(never)]
+fn batch(f: Leaf, inputs: &[Inputs], outs: &mut [Outputs], m: usize) -> f64 {
+    let start = Instant::now();
+    for _ in 0..8 {
+        for (i, o) in inputs.iter().zip(outs.iter_mut()) {
+            black_box(f).call(black_box(i), black_box(m), black_box(o));
+        }
+    }
+    start.elapsed().as_nanos() as f64 / (8 * inputs.len()) as f64
+}
+
+// 20,000 inputs of any bits, at every size: how many results were compared, and how many differ.
+fn check() -> (u64, u64) {
+    let mut random = Random(1);
+    let (mut compared, mut differ) = (0, 0);
+    for _ in 0..20_000 {
+        let i = random.inputs(Random::wild);
+        for (_, proved, plain) in LEAVES {
+            for m in 1..=8 {
+                let (mut o, mut p) = (outputs(&i), outputs(&i));
+                proved.call(&i, m, &mut o);
+                plain.call(&i, m, &mut p);
+                compared += 1;
+                differ += !agree(&o, &p, m) as u64;
+            }
+        }
+    }
+    (compared, differ)
+}
+
+fn time() {
+    let mut random = Random(2);
+    let inputs: Vec<Inputs> = (0..32).map(|_| random.inputs(Random::tame)).collect();
+    println!("{:<14} {:>2} {:>10} {:>10} {:>7}", "leaf", "m", "proved ns", "plain ns", "ratio");
+    for (name, proved, plain) in LEAVES {
+        for m in [1, 2, 4, 8] {
+            let (mut ours, mut theirs) = (f64::MAX, f64::MAX);
+            for _ in 0..400 {
+                let mut o: Vec<Outputs> = inputs.iter().map(outputs).collect();
+                ours = ours.min(batch(proved, &inputs, &mut o, m));
+                let mut p: Vec<Outputs> = inputs.iter().map(outputs).collect();
+                theirs = theirs.min(batch(plain, &inputs, &mut p, m));
+            }
+            println!("{name:<14} {m:>2} {ours:>10.2} {theirs:>10.2} {:>7.2}", ours / theirs);
+        }
+    }
+}
+
+fn main() {
+    let word = std::env::args().nth(1);
+    if word.as_deref() != Some("time") {
+        let (compared, differ) = check();
+        println!("{compared} results of the kernels compared with plain loops, {differ} differ");
+        if differ > 0 {
+            std::process::exit(1);
+        }
+    }
+    if word.as_deref() != Some("check") {
+        time();
+    }
+}
