@@ -6,6 +6,8 @@ mod outside;
 use std::hint::black_box;
 use std::time::Instant;
 
+use tsecon_linalg::ln as oracle_ln;
+
 extern "C" {
     fn leaf_abs(x: f64) -> f64;
     fn leaf_max0(x: f64) -> f64;
@@ -100,13 +102,13 @@ fn check() -> bool {
     let rows = [
         differ("sqrt", &patterns, |x| unsafe { leaf_sqrt(x) }, outside::sqrt),
         differ("sqrt", &patterns, |x| unsafe { leaf_sqrt(x) }, f64::sqrt),
-        differ("ln", &patterns, |x| unsafe { leaf_ln(x) }, outside::ln),
+        differ("ln", &patterns, |x| unsafe { leaf_ln(x) }, oracle_ln),
         differ("abs", &patterns, |x| unsafe { leaf_abs(x) }, f64::abs),
         differ("max0", &patterns, |x| unsafe { leaf_max0(x) }, |x| if x > 0.0 { x } else { 0.0 }),
         differ("is_nan", &patterns, |x| number(unsafe { leaf_is_nan(x) }), |x| number(x.is_nan())),
         differ("is_infinite", &patterns, |x| number(unsafe { leaf_is_infinite(x) }), |x| number(x.is_infinite())),
         differ("is_finite", &patterns, |x| number(unsafe { leaf_is_finite(x) }), |x| number(x.is_finite())),
-        differ("ln 2π", &[0x4019_21FB_5444_2D18], |_| unsafe { leaf_ln_two_pi() }, outside::ln),
+        differ("ln 2π", &[0x4019_21FB_5444_2D18], |_| unsafe { leaf_ln_two_pi() }, oracle_ln),
     ];
     let count: usize = rows.iter().sum();
     println!(
@@ -152,11 +154,6 @@ fn row(name: &str, proved: (f64, f64), plain: (f64, f64)) {
 }
 
 #[inline(never)]
-fn plain_ln(x: f64) -> f64 {
-    outside::ln(x)
-}
-
-#[inline(never)]
 fn plain_sqrt(x: f64) -> f64 {
     x.sqrt()
 }
@@ -173,7 +170,7 @@ fn times() {
     let sqrt = time(&xs, |x| unsafe { leaf_sqrt(x) });
     row("sqrt, against a call of the instruction", sqrt, time(&xs, plain_sqrt));
     row("sqrt, against the instruction, two at a time", sqrt, time(&xs, f64::sqrt));
-    row("ln", time(&xs, |x| unsafe { leaf_ln(x) }), time(&xs, plain_ln));
+    row("ln", time(&xs, |x| unsafe { leaf_ln(x) }), time(&xs, oracle_ln));
 }
 
 fn main() {

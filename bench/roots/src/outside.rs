@@ -1,4 +1,4 @@
-//! The square root and the logarithm reckoned apart from the proved code: the root by whole numbers, the logarithm by document 01's steps in plain doubles.
+//! The square root reckoned apart from the proved code, by whole numbers.
 
 /// The double nearest to the root of x, a tie to the even one, by exact arithmetic on whole numbers.
 pub fn sqrt(x: f64) -> f64 {
@@ -49,50 +49,4 @@ fn cut_root(n: u128) -> u128 {
 
 fn power(k: i32) -> f64 {
     f64::from_bits(((k + 1023) as u64) << 52)
-}
-
-const HI: u64 = 0x3FE6_2E42_FEE0_0000;
-const LO: u64 = 0x3DEA_39EF_3579_3C76;
-const ODD: [f64; 12] = [
-    1.0,
-    1.0 / 3.0,
-    1.0 / 5.0,
-    1.0 / 7.0,
-    1.0 / 9.0,
-    1.0 / 11.0,
-    1.0 / 13.0,
-    1.0 / 15.0,
-    1.0 / 17.0,
-    1.0 / 19.0,
-    1.0 / 21.0,
-    1.0 / 23.0,
-];
-
-/// Document 01, "Arithmetic", last point.
-pub fn ln(x: f64) -> f64 {
-    if x.is_nan() || x < 0.0 {
-        return f64::NAN;
-    }
-    if x == 0.0 {
-        return f64::NEG_INFINITY;
-    }
-    if x == f64::INFINITY {
-        return x;
-    }
-    let (x, lift) = if x < f64::MIN_POSITIVE { (x * power(54), 54) } else { (x, 0) };
-    let bits = x.to_bits();
-    let mut k = (bits >> 52) as i32 - 1023 - lift;
-    let mut s = f64::from_bits(bits & ((1 << 52) - 1) | 1023 << 52);
-    if s >= 1.5 {
-        s *= 0.5;
-        k += 1;
-    }
-    let u = (s - 1.0) / (s + 1.0);
-    let w = u * u;
-    let mut q = ODD[11];
-    for i in (0..11).rev() {
-        q = q * w + ODD[i];
-    }
-    let k = k as f64;
-    k * f64::from_bits(HI) + (k * f64::from_bits(LO) + (u + u) * q)
 }
