@@ -8,6 +8,7 @@ ghost use Prim.Native.Nat.{_≤_, _<_, _*_};
 ghost use lib.ListN.{take, length};
 ghost use Rattle.definition.specs.Num.{zeros};
 ghost use Rattle.definition.specs.Run.{scan};
+ghost use Rattle.definition.specs.Dense.{sandwich};
 ghost use Rattle.definition.specs.Cov.{elementOf, isLive, stepStar, stepInf, stepped};
 ghost use Rattle.definition.specs.Inputs.{kindOf, isGap};
 ghost use Rattle.dense.specs.Views.{mat};
@@ -386,23 +387,30 @@ pub fn begin(p_inf: &mut [f64; 64], live: bool, m: usize) -> bool
     false
 }
 
-fn step_star(star: &mut [f64; 64], t: &[f64; 64], rqr: &[f64; 64], m: usize)
+// T P T' as (T P) T', in place. `tp` is room for T P.
+fn step(p: &mut [f64; 64], t: &[f64; 64], tp: &mut [f64; 64], m: usize)
+    requires { ⌜ m ≤ 8 ⌝ }
+    ensures { λ _. ⌜ mat m (now (p .exit)) ≡ sandwich m (mat m (now (t .entry))) (mat m (now (p .entry))) ⌝ }
+{
+    dense::product_into(tp, t, p, m, m, m);
+    dense::product_t_into(p, tp, t, m, m, m);
+}
+
+fn step_star(star: &mut [f64; 64], t: &[f64; 64], rqr: &[f64; 64], tp: &mut [f64; 64], m: usize)
     requires { ⌜ m ≤ 8 ⌝ }
     ensures { λ _. ⌜ mat m (now (star .exit)) ≡ stepStar m (mat m (now (t .entry))) (mat m (now (rqr .entry))) (mat m (now (star .entry))) ⌝ }
 {
-    let mut s = dense::sandwich(t, star, m);
-    dense::add(&mut s, rqr, m);
-    dense::symmetrize_in_place(&mut s, m);
-    *star = s;
+    step(star, t, tp, m);
+    dense::add(star, rqr, m);
+    dense::symmetrize_in_place(star, m);
 }
 
-fn step_inf(p_inf: &mut [f64; 64], t: &[f64; 64], m: usize)
+fn step_inf(p_inf: &mut [f64; 64], t: &[f64; 64], tp: &mut [f64; 64], m: usize)
     requires { ⌜ m ≤ 8 ⌝ }
     ensures { λ _. ⌜ mat m (now («p_inf» .exit)) ≡ stepInf m (mat m (now (t .entry))) (mat m (now («p_inf» .entry))) ⌝ }
 {
-    let mut s = dense::sandwich(t, p_inf, m);
-    dense::symmetrize_in_place(&mut s, m);
-    *p_inf = s;
+    step(p_inf, t, tp, m);
+    dense::symmetrize_in_place(p_inf, m);
 }
 
 // P*, P∞, B and the unresolved matrix go on by T.
@@ -420,12 +428,12 @@ pub fn go_on(
     ensures { λ _. ⌜ stateOf m (now (star .exit)) (now («p_inf» .exit)) (now (root .exit)) (now (unres .exit)) diffuse
         ≡ stepped m (mat m (now (t .entry))) (mat m (now (rqr .entry))) diffuse (mat m (now (star .entry))) (mat m (now («p_inf» .entry))) (mat m (now (root .entry))) (mat m (now (unres .entry))) ⌝ }
 {
-    step_star(star, t, rqr, m);
-    step_inf(p_inf, t, m);
+    let mut tp = [0.0; 64];
+    step_star(star, t, rqr, &mut tp, m);
+    step_inf(p_inf, t, &mut tp, m);
     if diffuse {
-        let b = dense::product(t, root, m, m, m);
-        *root = b;
-        let u = dense::sandwich(t, unres, m);
-        *unres = u;
+        dense::product_into(&mut tp, t, root, m, m, m);
+        *root = tp;
+        step(unres, t, &mut tp, m);
     }
 }

@@ -1,10 +1,10 @@
 use Rattle.element.proofs.step_star.Statement.{statement}
 use Rattle.element.proofs.step_star.Tie as tie
 use borrow.Author.Needs.{needs}
-use Rattle.element.proofs.Whole as laws
+use Rattle.element.proofs.Whole as whole
 
 returns : tie.Need-returns
-returns c = laws.stepped-star _ _ _ _ (c .before .before .before .before .sandwich .ensures) (c .before .before .add .ensures) (c .symmetrize-in-place .ensures)
+returns c = whole.stepped-star _ _ _ _ (c .before .before .before .before .step .ensures) (c .before .before .add .ensures) (c .symmetrize-in-place .ensures)
 
 pub step-star-spec : {M : Type 1} → statement M
 step-star-spec = tie.close (tie.spec (λ c κs. search needs) (λ c κs. search needs) (λ c κs. search needs) returns)
