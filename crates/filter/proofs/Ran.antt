@@ -1,0 +1,187 @@
+-- The two passes one after the other: what they may ask for, and that they leave the definition's run.
+use mathlib.Core.Path.{_≡_, refl, sym, ap, ap₂, _∙_, subst}
+use Prim.Native.Nat.{ℕ, _+_, _*_, _/_, _≤_}
+use mathlib.Core.Bool.{Bool, not, cond}
+use mathlib.Core.List.{List, [], _∷_, _++_, map}
+use native.Mathlib.Omega.{arith}
+use lib.ListN.{length, take, drop, length-map}
+use lib.Seq.{take-at}
+use lib.Ieee.{Float}
+use Rattle.definition.specs.Num.{0ᶠ}
+use Rattle.definition.specs.Run.{count, join, lay}
+use Rattle.definition.specs.Cov.{Cov, CovPeriod, Decision, covRun}
+use Rattle.definition.specs.Mean.{Mean, MeanPeriod, meanRun}
+use Rattle.definition.specs.Parts.{CovPart, predCov, predInf, filtCov, fStar, fInf, mStar, mInf, MeanPart, predMean, filtMean, innovations, kindNo, isNews, kindBlock}
+use Rattle.definition.specs.Inputs.{Model, Offsets, Kind, kindOf, isGap, gapRows, noise, noiseOf, systemFrom, systemOf, startFrom, startOf, frameFrom}
+use Rattle.definition.specs.Outcome.{CovParts, MeanParts, kindsNeed, covNeed, meanNeed, kindsWritten, covWritten, meanWritten, decisionsOf, covOf, meanOf, countsOf, roomy}
+use Rattle.laws.specs.Accepted.{Roomy, room-of}
+use Rattle.laws.specs.Flat.{Flat, decisionRows}
+use Rattle.laws.specs.Passes.{Laid, count-append}
+use Rattle.laws.specs.ReadBack.{rows-back}
+use Rattle.laws.specs.Shapes.{run-whole, run-length}
+use Rattle.model.specs.Past.{design-fits, noise-fits, start-fits}
+use Rattle.cov.specs.Counts.{isKept}
+use Rattle.cov.specs.View as covs
+use Rattle.mean.specs.View as means
+use Rattle.mean.specs.Call as means-call
+use Rattle.mean.specs.declared.Answer.{Answer}
+use Rattle.filter.specs.Promise.{covParts, meanParts, Fit, Ran, Sizes, MeanRoom, CovRoom, RecordRoom}
+use Rattle.filter.proofs.Filling.{small}
+
+-- ---- what the passes may ask for
+
+as-long : {n a b : ℕ} → n ≤ b → a ≡ b → n ≤ a
+as-long h e = omega arith
+
+module _ {x : Model} {o : Offsets} {y : ℕ} {w : CovParts} {w′ : MeanParts} (f : Fit x o y w w′) where
+  pub room : Roomy x w w′
+  room = room-of x w w′ (f .accepted .roomy)
+
+  pub sizes : Sizes (x .p) (x .m) (x .n)
+  sizes = record { p8 = f .accepted .sizes .p8; m8 = f .accepted .sizes .m8; n4096 = f .accepted .sizes .n4096 }
+
+  pub cov-ready : {listed : ℕ} → listed ≡ length (x .zList) / (x .p * x .m) → covs.Ready (x .p) (x .m) (x .r) (x .n) listed (length (x .zOnce)) (length (x .zList)) (length (x .h)) (length (x .t)) (length (x .rr)) (length (x .q)) (length (x .pStar)) (length (x .flags)) y
+  cov-ready e =
+      record {
+        n4096 = f .accepted .sizes .n4096;
+        design = design-fits (f .accepted .sizes) (f .accepted .inputs) e;
+        noise = f .accepted .inputs .h;
+        transition = f .accepted .inputs .t;
+        disturbance = noise-fits (f .accepted .sizes) (f .accepted .inputs);
+        start = start-fits (f .accepted .sizes) (f .accepted .inputs);
+        readings = f .accepted .readings;
+      }
+
+  pub cov-rooms : covs.Rooms (x .p) (x .m) (x .n) (length (w .part predCov)) (length (w .part predInf)) (length (w .part filtCov)) (length (w .kinds)) (length (w .part fStar)) (length (w .part fInf)) (length (w .part mStar)) (length (w .part mInf))
+  unfolding kindsNeed covNeed
+  cov-rooms =
+      record {
+        pred = room .cov predCov;
+        pred-inf = room .cov predInf;
+        filt = room .cov filtCov;
+        kinds = room .kinds;
+        stars = room .cov fStar;
+        infs = room .cov fInf;
+        m-stars = room .cov mStar;
+        m-infs = room .cov mInf;
+      }
+
+  pub few-records : x .n * x .p ≤ 65536
+  few-records = omega (arith, small sizes .np)
+
+  pub few : y ≤ 65536
+  few = omega (arith, few-records, f .accepted .readings)
+
+  -- of parts that are as long as they were lent
+
+  pub records : {ks : ℕ} → ks ≡ length (w .kinds) → x .n * x .p ≤ ks
+  unfolding kindsNeed
+  records e = as-long (room .kinds) e
+
+  pub mean-ready : {listed : ℕ} (k : List ℕ) (a b c d : List Float) → listed ≡ length (x .zList) / (x .p * x .m) → length k ≡ length (w .kinds) → length a ≡ length (w .part fStar) → length b ≡ length (w .part fInf) → length c ≡ length (w .part mStar) → length d ≡ length (w .part mInf) → means.Ready (x .p) (x .m) (x .n) listed (length (x .zOnce)) (length (x .zList)) (length (x .t)) (length (o .c)) (length (o .d)) (length (o .a1)) y (means.flatIn k a b c d)
+  mean-ready k a b c d e ek ea eb ec ed =
+      means-call.ready x o (means.flatIn k a b c d) (f .accepted) e (as-long (room .kinds) ek) (as-long (room .cov fStar) ea) (as-long (room .cov fInf) eb) (as-long (room .cov mStar) ec) (as-long (room .cov mInf) ed)
+
+  pub mean-rooms : means.Rooms (x .p) (x .m) (x .n) (length (w′ predMean)) (length (w′ filtMean)) (length (w′ innovations))
+  mean-rooms = means-call.rooms x o w′ (room .mean predMean) (room .mean filtMean) (room .mean innovations)
+
+  pub mean-room : {pm fm vs : ℕ} → pm ≡ length (w′ predMean) → fm ≡ length (w′ filtMean) → vs ≡ length (w′ innovations) → MeanRoom (x .p) (x .m) (x .n) pm fm vs
+  unfolding meanNeed
+  mean-room e1 e2 e3 = record { sizes = sizes; pred = as-long (room .mean predMean) e1; filt = as-long (room .mean filtMean) e2; v = as-long (room .mean innovations) e3 }
+
+  pub cov-room : {pc pi fc : ℕ} → pc ≡ length (w .part predCov) → pi ≡ length (w .part predInf) → fc ≡ length (w .part filtCov) → CovRoom (x .p) (x .m) (x .n) pc pi fc
+  unfolding covNeed
+  cov-room e1 e2 e3 = record { sizes = sizes; pred = as-long (room .cov predCov) e1; pred-inf = as-long (room .cov predInf) e2; filt = as-long (room .cov filtCov) e3 }
+
+  pub record-room : {ks fs fi ms mi : ℕ} → ks ≡ length (w .kinds) → fs ≡ length (w .part fStar) → fi ≡ length (w .part fInf) → ms ≡ length (w .part mStar) → mi ≡ length (w .part mInf) → RecordRoom (x .p) (x .m) (x .n) ks fs fi ms mi
+  unfolding kindsNeed covNeed
+  record-room e1 e2 e3 e4 e5 =
+      record { sizes = sizes; kinds = as-long (room .kinds) e1; f-star = as-long (room .cov fStar) e2; f-inf = as-long (room .cov fInf) e3; m-star = as-long (room .cov mStar) e4; m-inf = as-long (room .cov mInf) e5 }
+
+-- ---- what the covariance pass left, read back
+
+count-map : {A B : Type 0} (g : A → B) (q : B → Bool) (l : List A) → count q (map g l) ≡ count (λ a. q (g a)) l
+unfolding count
+count-map g q [] = refl
+count-map g q (a ∷ l) = ap (λ (k : ℕ). cond (q (g a)) 1 0 + k) (count-map g q l)
+
+kinds-count : (cs : List CovPeriod) → count isKept (join (map kindBlock cs)) ≡ count isNews (join (decisionsOf cs))
+unfolding join count kindBlock
+kinds-count [] = refl
+kinds-count (c ∷ cs) =
+    count-append isKept (map kindNo (c .decisions)) (join (map kindBlock cs)) ∙ ap₂ _+_ (count-map kindNo isKept (c .decisions)) (kinds-count cs) ∙ sym (count-append isNews (c .decisions) (join (decisionsOf cs)))
+
+pub news-are : (k : ℕ) (r : List CovPeriod × Cov) (ks₀ ks : List ℕ) → Laid k (kindsWritten r) ks₀ ks → count isKept (take k ks) ≡ count isNews (join (decisionsOf (r .0)))
+unfolding kindsWritten
+news-are k r ks₀ ks l =
+    ap (count isKept) (ap (take k) (l .is) ∙ take-at (join (map kindBlock (r .0))) (drop (length (join (map kindBlock (r .0)))) ks₀) k (l .long)) ∙ kinds-count (r .0)
+
+module _ (x : Model) (y : List Float) where
+  -- the covariance pass's run
+  abbrev covRan : List CovPeriod × Cov
+  covRan = covRun (systemFrom (x .p) (x .m) (x .zOnce) (x .zList) (x .h) (x .t) (noiseOf (x .m) (x .r) (x .rr) (x .q))) 0 (startFrom (x .m) (x .pStar) (x .flags)) (gapRows (x .n) (x .p) (map kindOf y))
+
+  abbrev run : List CovPeriod × Cov
+  run = covOf x (map kindOf y)
+
+  cov-run : covRan ≡ run
+  unfolding covOf systemOf noise startOf
+  cov-run = refl
+
+  rows : length y ≡ x .n * x .p → {k k₀ : List ℕ} {a a₀ b b₀ c c₀ d d₀ : List Float} → Laid (x .n * x .p) (kindsWritten run) k₀ k → Laid (x .n * x .p) (covWritten (x .m) run fStar) a₀ a → Laid (x .n * x .p) (covWritten (x .m) run fInf) b₀ b → Laid (x .n * (x .p * x .m)) (covWritten (x .m) run mStar) c₀ c → Laid (x .n * (x .p * x .m)) (covWritten (x .m) run mInf) d₀ d
+      → decisionRows (x .n) (x .p) (x .m) (means.flatIn k a b c d) ≡ decisionsOf (run .0)
+  unfolding covOf systemOf systemFrom kindsWritten covWritten
+  rows ly {k} {k₀} {a} {a₀} {b} {b₀} {c} {c₀} {d} {d₀} lk la lb lc ld =
+      same (lk .is) (la .is) (lb .is) (lc .is) (ld .is) ∙ rows-back (x .p) (x .m) (run .0) (run-whole (systemOf x) (startOf x) (map kindOf y) (x .n) (x .p) (length-map y kindOf ∙ ly)) (x .n) _ _ _ _ _ (run-length (systemOf x) (startOf x) (map kindOf y) (x .n) (x .p))
+    where
+      same : {k k′ : List ℕ} {a a′ b b′ c c′ d d′ : List Float} → k ≡ k′ → a ≡ a′ → b ≡ b′ → c ≡ c′ → d ≡ d′ → decisionRows (x .n) (x .p) (x .m) (means.flatIn k a b c d) ≡ decisionRows (x .n) (x .p) (x .m) (means.flatIn k′ a′ b′ c′ d′)
+      same e1 e2 e3 e4 e5 = cc
+
+-- ---- both passes
+
+answer-is : {l : Float} {i j k i′ j′ k′ : ℕ} → i ≡ i′ → j ≡ j′ → k ≡ k′ → _≡_ {A = Answer} (record { loglik = l; «d_diffuse» = i; heard = j; news = k }) (record { loglik = l; «d_diffuse» = i′; heard = j′; news = k′ })
+answer-is e f g = cc
+
+module _ (x : Model) (o : Offsets) (y : List Float) (dd heard news : ℕ) (a : Answer) (pm₀ pm fm₀ fm vs₀ vs pc₀ pc pi₀ pi fc₀ fc : List Float) (ks₀ ks : List ℕ) (fs₀ fs fi₀ fi ms₀ ms mi₀ mi : List Float) where
+  -- the mean pass's run, over the records that the covariance pass left
+  abbrev meanRan : List MeanPeriod × Mean
+  meanRan = meanRun (frameFrom (x .p) (x .m) (x .zOnce) (x .zList) (x .t)) (record { c = o .c; d = o .d }) 0 (record { a = o .a1; loglik = 0ᶠ }) (means.entries (x .n) (x .p) (x .m) (means.flatIn ks fs fi ms mi) y)
+
+  abbrev CovPassed : List CovPeriod × Cov → Type 0
+  CovPassed r = covs.Passed (x .p) (x .m) (x .n) r dd pc₀ pc pi₀ pi fc₀ fc ks₀ ks fs₀ fs fi₀ fi ms₀ ms mi₀ mi
+
+  abbrev MeanPassed : List MeanPeriod × Mean → Type 0
+  MeanPassed r = means.Passed (x .p) (x .m) (x .n) r (record { loglik = 0ᶠ; «d_diffuse» = dd; heard = heard; news = news }) a pm₀ pm fm₀ fm vs₀ vs
+
+  cov-part : CovPassed (run x y) → (q : CovPart) → Laid (covNeed x q) (covWritten (x .m) (run x y) q) (covParts pc₀ pi₀ fc₀ ks₀ fs₀ fi₀ ms₀ mi₀ .part q) (covParts pc pi fc ks fs fi ms mi .part q)
+  unfolding covNeed covParts
+  cov-part c predCov = c .pred
+  cov-part c predInf = c .pred-inf
+  cov-part c filtCov = c .filt
+  cov-part c fStar = c .stars
+  cov-part c fInf = c .infs
+  cov-part c mStar = c .m-stars
+  cov-part c mInf = c .m-infs
+
+  kinds-part : CovPassed (run x y) → Laid (kindsNeed x) (kindsWritten (run x y)) (covParts pc₀ pi₀ fc₀ ks₀ fs₀ fi₀ ms₀ mi₀ .kinds) (covParts pc pi fc ks fs fi ms mi .kinds)
+  unfolding kindsNeed covParts
+  kinds-part c = c .kinds
+
+  mean-part : {r : List MeanPeriod × Mean} → MeanPassed r → (q : MeanPart) → Laid (meanNeed x q) (meanWritten r q) (meanParts pm₀ fm₀ vs₀ q) (meanParts pm fm vs q)
+  unfolding meanNeed meanParts
+  mean-part c predMean = c .pm
+  mean-part c filtMean = c .fm
+  mean-part c innovations = c .vs
+
+  pub ran : length y ≡ x .n * x .p → CovPassed (covRan x y) → heard ≡ count not (map isGap (map kindOf y)) → news ≡ count isKept (take (x .n * x .p) ks) → MeanPassed meanRan → Ran x o y a (covParts pc₀ pi₀ fc₀ ks₀ fs₀ fi₀ ms₀ mi₀) (covParts pc pi fc ks fs fi ms mi) (meanParts pm₀ fm₀ vs₀) (meanParts pm fm vs)
+  unfolding countsOf
+  ran ly cp eh en mp =
+      let c : CovPassed (run x y) = subst CovPassed (cov-run x y) cp in
+      let e = means-call.run-of x o (run x y .0) y (means.flatIn ks fs fi ms mi) (rows x y ly (c .kinds) (c .stars) (c .infs) (c .m-stars) (c .m-infs)) in
+      let s : MeanPassed (meanOf x o (run x y .0) y) = subst MeanPassed e mp in
+      record {
+        answer = s .answer ∙ answer-is (c .diffuse) eh (en ∙ news-are (x .n * x .p) (run x y) ks₀ ks (c .kinds));
+        kinds = kinds-part c;
+        cov = cov-part c;
+        mean = mean-part s;
+      }
