@@ -18,38 +18,9 @@ use Rattle.model.specs.Lengths.{Room, by-room}
 use Rattle.mean.specs.declared.Answer.{Answer}
 use Rattle.filter.specs.declared.Outcome.{Outcome}
 use Rattle.filter.specs.declared.Outcome.the-variants.{Refused, Answered}
-use Rattle.filter.specs.Promise.{covParts, meanParts, answerBy, answerIn, Promise, Fit, Ran, isSilent, MeanBlank, CovBlank, RecordBlank}
-
--- ---- blanked
-
-pub record Blanked (x : Model) (b c : CovParts) (b′ c′ : MeanParts) : Type 0 where
-  pub kinds : c .kinds ≡ lay (replicate (kindsNeed x) 0) (b .kinds)
-  pub cov : (q : CovPart) → c .part q ≡ lay (zeros (covNeed x q)) (b .part q)
-  pub mean : (q : MeanPart) → c′ q ≡ lay (zeros (meanNeed x q)) (b′ q)
-
-mean-blank : (x : Model) {pm₀ pm fm₀ fm vs₀ vs : List Float} → MeanBlank (x .p) (x .m) (x .n) pm₀ pm fm₀ fm vs₀ vs → (q : MeanPart) → meanParts pm fm vs q ≡ lay (zeros (meanNeed x q)) (meanParts pm₀ fm₀ vs₀ q)
-unfolding meanNeed meanParts
-mean-blank x b predMean = b .pred
-mean-blank x b filtMean = b .filt
-mean-blank x b innovations = b .v
-
-module _ (x : Model) {pc₀ pc pi₀ pi fc₀ fc : List Float} {ks₀ ks : List ℕ} {fs₀ fs fi₀ fi ms₀ ms mi₀ mi : List Float} (c : CovBlank (x .m) (x .n) pc₀ pc pi₀ pi fc₀ fc) (r : RecordBlank (x .p) (x .m) (x .n) ks₀ ks fs₀ fs fi₀ fi ms₀ ms mi₀ mi) where
-  cov-blank : (q : CovPart) → covParts pc pi fc ks fs fi ms mi .part q ≡ lay (zeros (covNeed x q)) (covParts pc₀ pi₀ fc₀ ks₀ fs₀ fi₀ ms₀ mi₀ .part q)
-  unfolding covNeed covParts
-  cov-blank predCov = c .pred
-  cov-blank predInf = c .pred-inf
-  cov-blank filtCov = c .filt
-  cov-blank fStar = r .f-star
-  cov-blank fInf = r .f-inf
-  cov-blank mStar = r .m-star
-  cov-blank mInf = r .m-inf
-
-  kinds-blank : covParts pc pi fc ks fs fi ms mi .kinds ≡ lay (replicate (kindsNeed x) 0) (covParts pc₀ pi₀ fc₀ ks₀ fs₀ fi₀ ms₀ mi₀ .kinds)
-  unfolding kindsNeed covParts
-  kinds-blank = r .kinds
-
-  pub blanked : {pm₀ pm fm₀ fm vs₀ vs : List Float} → MeanBlank (x .p) (x .m) (x .n) pm₀ pm fm₀ fm vs₀ vs → Blanked x (covParts pc₀ pi₀ fc₀ ks₀ fs₀ fi₀ ms₀ mi₀) (covParts pc pi fc ks fs fi ms mi) (meanParts pm₀ fm₀ vs₀) (meanParts pm fm vs)
-  blanked b = record { kinds = kinds-blank; cov = cov-blank; mean = mean-blank x b }
+use Rattle.passes.specs.View.{Fit, Ran}
+use Rattle.filter.specs.Promise.{answerBy, Promise, isSilent}
+use Rattle.filter.specs.Blanked.{Blanked}
 
 pub none : {k c : ℕ} → k ≤ 0 → k ≡ c → 0 ≡ c
 none h e = omega arith

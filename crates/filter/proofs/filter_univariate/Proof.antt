@@ -1,8 +1,8 @@
 -- Checked, run, and ended one of three ways. Made of Proof.tpl by tools/expand.
 use mathlib.Core.Path.{sym, _∙_}
 use Rattle.model.specs.Given.{modelOf, offsetsOf}
-use Rattle.filter.specs.Promise.{covParts, meanParts}
-use Rattle.filter.proofs.Ran as ran
+use Rattle.passes.specs.View.{covParts, meanParts}
+use Rattle.filter.specs.Blanked as blanked
 use Rattle.filter.proofs.Judged as judged
 use Rattle.filter.proofs.filter_univariate.Statement.{statement}
 use Rattle.filter.proofs.filter_univariate.Tie as tie
@@ -23,19 +23,19 @@ means-requires : tie.Need-means-requires
 unfolding covParts meanParts
 means-requires c κs =
     let a = c .before .before .before .before .before .before .before .before .before .before .before .before .before .before .before .before .before .before .before .before .before .before .before .before .before .before .before .before .before .before .before .before .before .before .before .before .before .before .before .before .before .before .before .before .before .before .before .before .before .before .before .before .before .before .before .before .before .before .before .before .before .before .before .before .before .args in
-    ran.mean-room (judged.fit (modelOf (a .p) (a .m) (a .r) (a .n) (a .z .now) (a .zs .now) (a .h .now) (a .t .now) (a .rr .now) (a .q .now) (a .p-star .now) (a .flags .now)) (offsetsOf (a .c .now) (a .d .now) (a .a1 .now)) (a .y .now) (covParts (a .pred-cov .now) (a .pred-inf .now) (a .filt-cov .now) (a .kinds .now) (a .f-star .now) (a .f-inf .now) (a .m-star .now) (a .m-inf .now)) (meanParts (a .pred-mean .now) (a .filt-mean .now) (a .v .now)) (judged.none (c .before .before .before .before .before .before .before .before .before .before .before .before .before .before .before .before .before .before .before .before .before .before .before .before .before .before .before .before .before .before .before .before .before .before .before .before .before .before .before .if1 .left) (judged.number-is (modelOf (a .p) (a .m) (a .r) (a .n) (a .z .now) (a .zs .now) (a .h .now) (a .t .now) (a .rr .now) (a .q .now) (a .p-star .now) (a .flags .now)) (offsetsOf (a .c .now) (a .d .now) (a .a1 .now)) (a .y .now) (covParts (a .pred-cov .now) (a .pred-inf .now) (a .filt-cov .now) (a .kinds .now) (a .f-star .now) (a .f-inf .now) (a .m-star .now) (a .m-inf .now)) (meanParts (a .pred-mean .now) (a .filt-mean .now) (a .v .now)) (c .before .before .before .before .before .before .before .before .before .before .before .before .before .before .before .before .before .before .before .before .before .before .before .before .before .before .before .before .before .before .before .before .before .before .before .before .before .before .before .before .refusal .ensures) (c .before .before .before .before .before .before .before .before .before .before .before .before .before .before .before .before .before .before .before .before .before .before .before .before .before .before .before .before .before .before .before .before .before .before .before .before .before .before .before .before .before .room .ensures)))) (c .before .before .before .before .before .before .before .before .before .before .before .before .before .before .before .before .before .before .before .before .before .before .before .before .before .before .before .run .kept .1 .1 .1 .1 .1 .1 .1 .1 .1 .1 .1 .1 .1 .1 .1 .1 .0) (c .before .before .before .before .before .before .before .before .before .before .before .before .before .before .before .before .before .before .before .before .before .before .before .before .before .before .before .run .kept .1 .1 .1 .1 .1 .1 .1 .1 .1 .1 .1 .1 .1 .1 .1 .1 .1 .1 .1 .0) (c .before .before .before .before .before .before .before .before .before .before .before .before .before .before .before .before .before .before .before .before .before .before .before .before .before .before .before .run .kept .1 .1 .1 .1 .1 .1 .1 .1 .1 .1 .1 .1 .1 .1 .1 .1 .1 .1 .1 .1 .1 .1 .0)
+    blanked.mean-room (judged.fit (modelOf (a .p) (a .m) (a .r) (a .n) (a .z .now) (a .zs .now) (a .h .now) (a .t .now) (a .rr .now) (a .q .now) (a .p-star .now) (a .flags .now)) (offsetsOf (a .c .now) (a .d .now) (a .a1 .now)) (a .y .now) (covParts (a .pred-cov .now) (a .pred-inf .now) (a .filt-cov .now) (a .kinds .now) (a .f-star .now) (a .f-inf .now) (a .m-star .now) (a .m-inf .now)) (meanParts (a .pred-mean .now) (a .filt-mean .now) (a .v .now)) (judged.none (c .before .before .before .before .before .before .before .before .before .before .before .before .before .before .before .before .before .before .before .before .before .before .before .before .before .before .before .before .before .before .before .before .before .before .before .before .before .before .before .if1 .left) (judged.number-is (modelOf (a .p) (a .m) (a .r) (a .n) (a .z .now) (a .zs .now) (a .h .now) (a .t .now) (a .rr .now) (a .q .now) (a .p-star .now) (a .flags .now)) (offsetsOf (a .c .now) (a .d .now) (a .a1 .now)) (a .y .now) (covParts (a .pred-cov .now) (a .pred-inf .now) (a .filt-cov .now) (a .kinds .now) (a .f-star .now) (a .f-inf .now) (a .m-star .now) (a .m-inf .now)) (meanParts (a .pred-mean .now) (a .filt-mean .now) (a .v .now)) (c .before .before .before .before .before .before .before .before .before .before .before .before .before .before .before .before .before .before .before .before .before .before .before .before .before .before .before .before .before .before .before .before .before .before .before .before .before .before .before .before .refusal .ensures) (c .before .before .before .before .before .before .before .before .before .before .before .before .before .before .before .before .before .before .before .before .before .before .before .before .before .before .before .before .before .before .before .before .before .before .before .before .before .before .before .before .before .room .ensures)))) (c .before .before .before .before .before .before .before .before .before .before .before .before .before .before .before .before .before .before .before .before .before .before .before .before .before .before .before .run .kept .1 .1 .1 .1 .1 .1 .1 .1 .1 .1 .1 .1 .1 .1 .1 .1 .0) (c .before .before .before .before .before .before .before .before .before .before .before .before .before .before .before .before .before .before .before .before .before .before .before .before .before .before .before .run .kept .1 .1 .1 .1 .1 .1 .1 .1 .1 .1 .1 .1 .1 .1 .1 .1 .1 .1 .1 .0) (c .before .before .before .before .before .before .before .before .before .before .before .before .before .before .before .before .before .before .before .before .before .before .before .before .before .before .before .run .kept .1 .1 .1 .1 .1 .1 .1 .1 .1 .1 .1 .1 .1 .1 .1 .1 .1 .1 .1 .1 .1 .1 .0)
 
 covs-requires : tie.Need-covs-requires
 unfolding covParts meanParts
 covs-requires c κs =
     let a = c .before .before .before .before .before .before .before .before .before .before .before .before .before .before .before .before .before .before .before .before .before .before .before .before .before .before .before .before .before .before .before .before .before .before .before .before .before .before .before .before .before .before .before .before .before .before .before .before .before .before .before .before .before .before .before .before .before .before .before .before .before .before .before .before .before .before .before .before .before .before .before .before .before .before .before .args in
-    ran.cov-room (judged.fit (modelOf (a .p) (a .m) (a .r) (a .n) (a .z .now) (a .zs .now) (a .h .now) (a .t .now) (a .rr .now) (a .q .now) (a .p-star .now) (a .flags .now)) (offsetsOf (a .c .now) (a .d .now) (a .a1 .now)) (a .y .now) (covParts (a .pred-cov .now) (a .pred-inf .now) (a .filt-cov .now) (a .kinds .now) (a .f-star .now) (a .f-inf .now) (a .m-star .now) (a .m-inf .now)) (meanParts (a .pred-mean .now) (a .filt-mean .now) (a .v .now)) (judged.none (c .before .before .before .before .before .before .before .before .before .before .before .before .before .before .before .before .before .before .before .before .before .before .before .before .before .before .before .before .before .before .before .before .before .before .before .before .before .before .before .before .before .before .before .before .before .before .before .before .before .if1 .left) (judged.number-is (modelOf (a .p) (a .m) (a .r) (a .n) (a .z .now) (a .zs .now) (a .h .now) (a .t .now) (a .rr .now) (a .q .now) (a .p-star .now) (a .flags .now)) (offsetsOf (a .c .now) (a .d .now) (a .a1 .now)) (a .y .now) (covParts (a .pred-cov .now) (a .pred-inf .now) (a .filt-cov .now) (a .kinds .now) (a .f-star .now) (a .f-inf .now) (a .m-star .now) (a .m-inf .now)) (meanParts (a .pred-mean .now) (a .filt-mean .now) (a .v .now)) (c .before .before .before .before .before .before .before .before .before .before .before .before .before .before .before .before .before .before .before .before .before .before .before .before .before .before .before .before .before .before .before .before .before .before .before .before .before .before .before .before .before .before .before .before .before .before .before .before .before .before .refusal .ensures) (c .before .before .before .before .before .before .before .before .before .before .before .before .before .before .before .before .before .before .before .before .before .before .before .before .before .before .before .before .before .before .before .before .before .before .before .before .before .before .before .before .before .before .before .before .before .before .before .before .before .before .before .room .ensures)))) (c .before .before .before .before .before .before .before .before .before .before .before .before .before .before .before .before .before .before .before .before .before .before .before .before .before .before .before .before .before .before .before .before .before .before .before .before .before .run .kept .1 .1 .1 .1 .1 .1 .1 .1 .1 .1 .1 .1 .1 .1 .1 .1 .1 .0) (c .before .before .before .before .before .before .before .before .before .before .before .before .before .before .before .before .before .before .before .before .before .before .before .before .before .before .before .before .before .before .before .before .before .before .before .before .before .run .kept .1 .1 .1 .1 .1 .1 .1 .1 .1 .1 .1 .1 .1 .1 .1 .1 .1 .1 .0) (c .before .before .before .before .before .before .before .before .before .before .before .before .before .before .before .before .before .before .before .before .before .before .before .before .before .before .before .before .before .before .before .before .before .before .before .before .before .run .kept .1 .1 .1 .1 .1 .1 .1 .1 .1 .1 .1 .1 .1 .1 .1 .1 .1 .1 .1 .1 .0)
+    blanked.cov-room (judged.fit (modelOf (a .p) (a .m) (a .r) (a .n) (a .z .now) (a .zs .now) (a .h .now) (a .t .now) (a .rr .now) (a .q .now) (a .p-star .now) (a .flags .now)) (offsetsOf (a .c .now) (a .d .now) (a .a1 .now)) (a .y .now) (covParts (a .pred-cov .now) (a .pred-inf .now) (a .filt-cov .now) (a .kinds .now) (a .f-star .now) (a .f-inf .now) (a .m-star .now) (a .m-inf .now)) (meanParts (a .pred-mean .now) (a .filt-mean .now) (a .v .now)) (judged.none (c .before .before .before .before .before .before .before .before .before .before .before .before .before .before .before .before .before .before .before .before .before .before .before .before .before .before .before .before .before .before .before .before .before .before .before .before .before .before .before .before .before .before .before .before .before .before .before .before .before .if1 .left) (judged.number-is (modelOf (a .p) (a .m) (a .r) (a .n) (a .z .now) (a .zs .now) (a .h .now) (a .t .now) (a .rr .now) (a .q .now) (a .p-star .now) (a .flags .now)) (offsetsOf (a .c .now) (a .d .now) (a .a1 .now)) (a .y .now) (covParts (a .pred-cov .now) (a .pred-inf .now) (a .filt-cov .now) (a .kinds .now) (a .f-star .now) (a .f-inf .now) (a .m-star .now) (a .m-inf .now)) (meanParts (a .pred-mean .now) (a .filt-mean .now) (a .v .now)) (c .before .before .before .before .before .before .before .before .before .before .before .before .before .before .before .before .before .before .before .before .before .before .before .before .before .before .before .before .before .before .before .before .before .before .before .before .before .before .before .before .before .before .before .before .before .before .before .before .before .before .refusal .ensures) (c .before .before .before .before .before .before .before .before .before .before .before .before .before .before .before .before .before .before .before .before .before .before .before .before .before .before .before .before .before .before .before .before .before .before .before .before .before .before .before .before .before .before .before .before .before .before .before .before .before .before .before .room .ensures)))) (c .before .before .before .before .before .before .before .before .before .before .before .before .before .before .before .before .before .before .before .before .before .before .before .before .before .before .before .before .before .before .before .before .before .before .before .before .before .run .kept .1 .1 .1 .1 .1 .1 .1 .1 .1 .1 .1 .1 .1 .1 .1 .1 .1 .0) (c .before .before .before .before .before .before .before .before .before .before .before .before .before .before .before .before .before .before .before .before .before .before .before .before .before .before .before .before .before .before .before .before .before .before .before .before .before .run .kept .1 .1 .1 .1 .1 .1 .1 .1 .1 .1 .1 .1 .1 .1 .1 .1 .1 .1 .0) (c .before .before .before .before .before .before .before .before .before .before .before .before .before .before .before .before .before .before .before .before .before .before .before .before .before .before .before .before .before .before .before .before .before .before .before .before .before .run .kept .1 .1 .1 .1 .1 .1 .1 .1 .1 .1 .1 .1 .1 .1 .1 .1 .1 .1 .1 .1 .0)
 
 records-requires : tie.Need-records-requires
 unfolding covParts meanParts
 records-requires c κs =
     let a = c .before .before .before .before .before .before .before .before .before .before .before .before .before .before .before .before .before .before .before .before .before .before .before .before .before .before .before .before .before .before .before .before .before .before .before .before .before .before .before .before .before .before .before .before .before .before .before .before .before .before .before .before .before .before .before .before .before .before .before .before .before .before .before .before .before .before .before .before .before .before .before .before .before .before .before .before .before .before .before .before .before .before .before .before .before .before .before .args in
-    ran.record-room (judged.fit (modelOf (a .p) (a .m) (a .r) (a .n) (a .z .now) (a .zs .now) (a .h .now) (a .t .now) (a .rr .now) (a .q .now) (a .p-star .now) (a .flags .now)) (offsetsOf (a .c .now) (a .d .now) (a .a1 .now)) (a .y .now) (covParts (a .pred-cov .now) (a .pred-inf .now) (a .filt-cov .now) (a .kinds .now) (a .f-star .now) (a .f-inf .now) (a .m-star .now) (a .m-inf .now)) (meanParts (a .pred-mean .now) (a .filt-mean .now) (a .v .now)) (judged.none (c .before .before .before .before .before .before .before .before .before .before .before .before .before .before .before .before .before .before .before .before .before .before .before .before .before .before .before .before .before .before .before .before .before .before .before .before .before .before .before .before .before .before .before .before .before .before .before .before .before .before .before .before .before .before .before .before .before .before .before .before .before .if1 .left) (judged.number-is (modelOf (a .p) (a .m) (a .r) (a .n) (a .z .now) (a .zs .now) (a .h .now) (a .t .now) (a .rr .now) (a .q .now) (a .p-star .now) (a .flags .now)) (offsetsOf (a .c .now) (a .d .now) (a .a1 .now)) (a .y .now) (covParts (a .pred-cov .now) (a .pred-inf .now) (a .filt-cov .now) (a .kinds .now) (a .f-star .now) (a .f-inf .now) (a .m-star .now) (a .m-inf .now)) (meanParts (a .pred-mean .now) (a .filt-mean .now) (a .v .now)) (c .before .before .before .before .before .before .before .before .before .before .before .before .before .before .before .before .before .before .before .before .before .before .before .before .before .before .before .before .before .before .before .before .before .before .before .before .before .before .before .before .before .before .before .before .before .before .before .before .before .before .before .before .before .before .before .before .before .before .before .before .before .before .refusal .ensures) (c .before .before .before .before .before .before .before .before .before .before .before .before .before .before .before .before .before .before .before .before .before .before .before .before .before .before .before .before .before .before .before .before .before .before .before .before .before .before .before .before .before .before .before .before .before .before .before .before .before .before .before .before .before .before .before .before .before .before .before .before .before .before .before .room .ensures)))) (c .before .before .before .before .before .before .before .before .before .before .before .before .before .before .before .before .before .before .before .before .before .before .before .before .before .before .before .before .before .before .before .before .before .before .before .before .before .before .before .before .before .before .before .before .before .before .before .before .before .run .kept .1 .1 .1 .1 .1 .1 .1 .1 .1 .1 .1 .1 .1 .1 .1 .1 .1 .1 .1 .1 .1 .0) (c .before .before .before .before .before .before .before .before .before .before .before .before .before .before .before .before .before .before .before .before .before .before .before .before .before .before .before .before .before .before .before .before .before .before .before .before .before .before .before .before .before .before .before .before .before .before .before .before .before .run .kept .1 .1 .1 .1 .1 .1 .1 .1 .1 .1 .1 .1 .1 .1 .1 .1 .1 .1 .1 .1 .1 .1 .1 .0) (c .before .before .before .before .before .before .before .before .before .before .before .before .before .before .before .before .before .before .before .before .before .before .before .before .before .before .before .before .before .before .before .before .before .before .before .before .before .before .before .before .before .before .before .before .before .before .before .before .before .run .kept .1 .1 .1 .1 .1 .1 .1 .1 .1 .1 .1 .1 .1 .1 .1 .1 .1 .1 .1 .1 .1 .1 .1 .1 .0) (c .before .before .before .before .before .before .before .before .before .before .before .before .before .before .before .before .before .before .before .before .before .before .before .before .before .before .before .before .before .before .before .before .before .before .before .before .before .before .before .before .before .before .before .before .before .before .before .before .before .run .kept .1 .1 .1 .1 .1 .1 .1 .1 .1 .1 .1 .1 .1 .1 .1 .1 .1 .1 .1 .1 .1 .1 .1 .1 .1 .0) (c .before .before .before .before .before .before .before .before .before .before .before .before .before .before .before .before .before .before .before .before .before .before .before .before .before .before .before .before .before .before .before .before .before .before .before .before .before .before .before .before .before .before .before .before .before .before .before .before .before .run .kept .1 .1 .1 .1 .1 .1 .1 .1 .1 .1 .1 .1 .1 .1 .1 .1 .1 .1 .1 .1 .1 .1 .1 .1 .1 .1 .0)
+    blanked.record-room (judged.fit (modelOf (a .p) (a .m) (a .r) (a .n) (a .z .now) (a .zs .now) (a .h .now) (a .t .now) (a .rr .now) (a .q .now) (a .p-star .now) (a .flags .now)) (offsetsOf (a .c .now) (a .d .now) (a .a1 .now)) (a .y .now) (covParts (a .pred-cov .now) (a .pred-inf .now) (a .filt-cov .now) (a .kinds .now) (a .f-star .now) (a .f-inf .now) (a .m-star .now) (a .m-inf .now)) (meanParts (a .pred-mean .now) (a .filt-mean .now) (a .v .now)) (judged.none (c .before .before .before .before .before .before .before .before .before .before .before .before .before .before .before .before .before .before .before .before .before .before .before .before .before .before .before .before .before .before .before .before .before .before .before .before .before .before .before .before .before .before .before .before .before .before .before .before .before .before .before .before .before .before .before .before .before .before .before .before .before .if1 .left) (judged.number-is (modelOf (a .p) (a .m) (a .r) (a .n) (a .z .now) (a .zs .now) (a .h .now) (a .t .now) (a .rr .now) (a .q .now) (a .p-star .now) (a .flags .now)) (offsetsOf (a .c .now) (a .d .now) (a .a1 .now)) (a .y .now) (covParts (a .pred-cov .now) (a .pred-inf .now) (a .filt-cov .now) (a .kinds .now) (a .f-star .now) (a .f-inf .now) (a .m-star .now) (a .m-inf .now)) (meanParts (a .pred-mean .now) (a .filt-mean .now) (a .v .now)) (c .before .before .before .before .before .before .before .before .before .before .before .before .before .before .before .before .before .before .before .before .before .before .before .before .before .before .before .before .before .before .before .before .before .before .before .before .before .before .before .before .before .before .before .before .before .before .before .before .before .before .before .before .before .before .before .before .before .before .before .before .before .before .refusal .ensures) (c .before .before .before .before .before .before .before .before .before .before .before .before .before .before .before .before .before .before .before .before .before .before .before .before .before .before .before .before .before .before .before .before .before .before .before .before .before .before .before .before .before .before .before .before .before .before .before .before .before .before .before .before .before .before .before .before .before .before .before .before .before .before .before .room .ensures)))) (c .before .before .before .before .before .before .before .before .before .before .before .before .before .before .before .before .before .before .before .before .before .before .before .before .before .before .before .before .before .before .before .before .before .before .before .before .before .before .before .before .before .before .before .before .before .before .before .before .before .run .kept .1 .1 .1 .1 .1 .1 .1 .1 .1 .1 .1 .1 .1 .1 .1 .1 .1 .1 .1 .1 .1 .0) (c .before .before .before .before .before .before .before .before .before .before .before .before .before .before .before .before .before .before .before .before .before .before .before .before .before .before .before .before .before .before .before .before .before .before .before .before .before .before .before .before .before .before .before .before .before .before .before .before .before .run .kept .1 .1 .1 .1 .1 .1 .1 .1 .1 .1 .1 .1 .1 .1 .1 .1 .1 .1 .1 .1 .1 .1 .1 .0) (c .before .before .before .before .before .before .before .before .before .before .before .before .before .before .before .before .before .before .before .before .before .before .before .before .before .before .before .before .before .before .before .before .before .before .before .before .before .before .before .before .before .before .before .before .before .before .before .before .before .run .kept .1 .1 .1 .1 .1 .1 .1 .1 .1 .1 .1 .1 .1 .1 .1 .1 .1 .1 .1 .1 .1 .1 .1 .1 .0) (c .before .before .before .before .before .before .before .before .before .before .before .before .before .before .before .before .before .before .before .before .before .before .before .before .before .before .before .before .before .before .before .before .before .before .before .before .before .before .before .before .before .before .before .before .before .before .before .before .before .run .kept .1 .1 .1 .1 .1 .1 .1 .1 .1 .1 .1 .1 .1 .1 .1 .1 .1 .1 .1 .1 .1 .1 .1 .1 .1 .0) (c .before .before .before .before .before .before .before .before .before .before .before .before .before .before .before .before .before .before .before .before .before .before .before .before .before .before .before .before .before .before .before .before .before .before .before .before .before .before .before .before .before .before .before .before .before .before .before .before .before .run .kept .1 .1 .1 .1 .1 .1 .1 .1 .1 .1 .1 .1 .1 .1 .1 .1 .1 .1 .1 .1 .1 .1 .1 .1 .1 .1 .0)
 
 same-length : tie.Need-same-length
 same-length c = c .before .before .before .before .before .before .before .before .before .before .before .before .before .before .before .before .before .before .before .before .before .before .before .before .before .before .before .before .before .before .before .before .means .kept .0 ∙ c .before .before .before .before .before .before .before .before .before .before .before .before .before .before .before .before .before .before .before .before .before .before .before .before .before .before .before .before .before .before .before .before .before .before .before .before .before .before .before .before .before .before .before .before .before .before .before .before .before .before .before .before .before .before .before .before .before .before .before .before .run .kept .1 .1 .1 .1 .1 .1 .1 .1 .1 .1 .1 .1 .1 .1 .1 .1 .0
@@ -74,7 +74,7 @@ returns-2 : tie.Need-returns-2
 unfolding covParts meanParts
 returns-2 c =
     let a = c .before .before .before .before .before .before .before .before .before .before .before .before .before .before .before .before .before .before .before .before .before .before .before .before .before .before .before .before .before .before .before .before .before .before .before .before .before .before .before .before .before .before .before .before .before .before .before .before .before .before .before .before .before .before .before .before .before .before .before .before .before .before .before .before .before .before .before .before .before .before .before .before .before .before .before .before .before .before .before .before .before .before .before .before .before .before .before .before .before .before .before .before .before .before .before .before .before .before .args in
-    judged.silenced (modelOf (a .p) (a .m) (a .r) (a .n) (a .z .now) (a .zs .now) (a .h .now) (a .t .now) (a .rr .now) (a .q .now) (a .p-star .now) (a .flags .now)) (offsetsOf (a .c .now) (a .d .now) (a .a1 .now)) (a .y .now) (covParts (a .pred-cov .now) (a .pred-inf .now) (a .filt-cov .now) (a .kinds .now) (a .f-star .now) (a .f-inf .now) (a .m-star .now) (a .m-inf .now)) (meanParts (a .pred-mean .now) (a .filt-mean .now) (a .v .now)) (judged.none (c .before .before .before .before .before .before .before .before .before .before .before .before .before .before .before .before .before .before .before .before .before .before .before .before .before .before .before .before .before .before .before .before .before .before .before .before .before .before .before .before .before .before .before .before .before .before .before .before .before .before .before .before .before .before .before .before .before .before .before .before .before .before .before .before .before .before .before .before .before .before .before .before .if1 .left) (judged.number-is (modelOf (a .p) (a .m) (a .r) (a .n) (a .z .now) (a .zs .now) (a .h .now) (a .t .now) (a .rr .now) (a .q .now) (a .p-star .now) (a .flags .now)) (offsetsOf (a .c .now) (a .d .now) (a .a1 .now)) (a .y .now) (covParts (a .pred-cov .now) (a .pred-inf .now) (a .filt-cov .now) (a .kinds .now) (a .f-star .now) (a .f-inf .now) (a .m-star .now) (a .m-inf .now)) (meanParts (a .pred-mean .now) (a .filt-mean .now) (a .v .now)) (c .before .before .before .before .before .before .before .before .before .before .before .before .before .before .before .before .before .before .before .before .before .before .before .before .before .before .before .before .before .before .before .before .before .before .before .before .before .before .before .before .before .before .before .before .before .before .before .before .before .before .before .before .before .before .before .before .before .before .before .before .before .before .before .before .before .before .before .before .before .before .before .before .before .refusal .ensures) (c .before .before .before .before .before .before .before .before .before .before .before .before .before .before .before .before .before .before .before .before .before .before .before .before .before .before .before .before .before .before .before .before .before .before .before .before .before .before .before .before .before .before .before .before .before .before .before .before .before .before .before .before .before .before .before .before .before .before .before .before .before .before .before .before .before .before .before .before .before .before .before .before .before .before .room .ensures))) (c .before .before .before .before .before .before .before .before .before .before .before .before .before .before .before .before .before .before .before .before .before .before .before .before .before .before .before .before .before .before .before .before .before .before .before .before .before .before .before .before .before .before .before .before .before .before .before .before .before .before .before .before .before .before .before .before .before .before .before .before .run .ensures) (sym (c .before .before .before .before .before .before .before .before .before .before .before .before .before .before .before .before .before .before .before .before .before .before .before .before .before .before .before .before .before .before .before .before .before .before .before .before .before .is-silent .ensures) ∙ c .before .before .before .before .before .before .before .before .before .before .before .before .before .before .before .before .before .before .before .before .before .before .before .before .before .before .before .before .before .before .before .before .before .before .before .before .if2 .taken) (judged.blanked (modelOf (a .p) (a .m) (a .r) (a .n) (a .z .now) (a .zs .now) (a .h .now) (a .t .now) (a .rr .now) (a .q .now) (a .p-star .now) (a .flags .now)) (c .before .before .before .before .before .before .before .before .before .before .before .before .before .before .before .before .before .before .before .before .before .before .covs .ensures) (c .before .before .before .before .before .before .before .before .before .before .records .ensures) (c .before .before .before .before .before .before .before .before .before .before .before .before .before .before .before .before .before .before .before .before .before .before .before .before .before .before .before .before .before .before .before .before .means .ensures))
+    judged.silenced (modelOf (a .p) (a .m) (a .r) (a .n) (a .z .now) (a .zs .now) (a .h .now) (a .t .now) (a .rr .now) (a .q .now) (a .p-star .now) (a .flags .now)) (offsetsOf (a .c .now) (a .d .now) (a .a1 .now)) (a .y .now) (covParts (a .pred-cov .now) (a .pred-inf .now) (a .filt-cov .now) (a .kinds .now) (a .f-star .now) (a .f-inf .now) (a .m-star .now) (a .m-inf .now)) (meanParts (a .pred-mean .now) (a .filt-mean .now) (a .v .now)) (judged.none (c .before .before .before .before .before .before .before .before .before .before .before .before .before .before .before .before .before .before .before .before .before .before .before .before .before .before .before .before .before .before .before .before .before .before .before .before .before .before .before .before .before .before .before .before .before .before .before .before .before .before .before .before .before .before .before .before .before .before .before .before .before .before .before .before .before .before .before .before .before .before .before .before .if1 .left) (judged.number-is (modelOf (a .p) (a .m) (a .r) (a .n) (a .z .now) (a .zs .now) (a .h .now) (a .t .now) (a .rr .now) (a .q .now) (a .p-star .now) (a .flags .now)) (offsetsOf (a .c .now) (a .d .now) (a .a1 .now)) (a .y .now) (covParts (a .pred-cov .now) (a .pred-inf .now) (a .filt-cov .now) (a .kinds .now) (a .f-star .now) (a .f-inf .now) (a .m-star .now) (a .m-inf .now)) (meanParts (a .pred-mean .now) (a .filt-mean .now) (a .v .now)) (c .before .before .before .before .before .before .before .before .before .before .before .before .before .before .before .before .before .before .before .before .before .before .before .before .before .before .before .before .before .before .before .before .before .before .before .before .before .before .before .before .before .before .before .before .before .before .before .before .before .before .before .before .before .before .before .before .before .before .before .before .before .before .before .before .before .before .before .before .before .before .before .before .before .refusal .ensures) (c .before .before .before .before .before .before .before .before .before .before .before .before .before .before .before .before .before .before .before .before .before .before .before .before .before .before .before .before .before .before .before .before .before .before .before .before .before .before .before .before .before .before .before .before .before .before .before .before .before .before .before .before .before .before .before .before .before .before .before .before .before .before .before .before .before .before .before .before .before .before .before .before .before .before .room .ensures))) (c .before .before .before .before .before .before .before .before .before .before .before .before .before .before .before .before .before .before .before .before .before .before .before .before .before .before .before .before .before .before .before .before .before .before .before .before .before .before .before .before .before .before .before .before .before .before .before .before .before .before .before .before .before .before .before .before .before .before .before .before .run .ensures) (sym (c .before .before .before .before .before .before .before .before .before .before .before .before .before .before .before .before .before .before .before .before .before .before .before .before .before .before .before .before .before .before .before .before .before .before .before .before .before .is-silent .ensures) ∙ c .before .before .before .before .before .before .before .before .before .before .before .before .before .before .before .before .before .before .before .before .before .before .before .before .before .before .before .before .before .before .before .before .before .before .before .before .if2 .taken) (blanked.blanked (modelOf (a .p) (a .m) (a .r) (a .n) (a .z .now) (a .zs .now) (a .h .now) (a .t .now) (a .rr .now) (a .q .now) (a .p-star .now) (a .flags .now)) (c .before .before .before .before .before .before .before .before .before .before .before .before .before .before .before .before .before .before .before .before .before .before .covs .ensures) (c .before .before .before .before .before .before .before .before .before .before .records .ensures) (c .before .before .before .before .before .before .before .before .before .before .before .before .before .before .before .before .before .before .before .before .before .before .before .before .before .before .before .before .before .before .before .before .means .ensures))
 
 same-length-12 : tie.Need-same-length-12
 same-length-12 c = c .before .before .before .before .before .before .before .before .before .before .before .before .before .before .before .before .before .before .before .before .before .before .before .before .run .kept .1 .1 .1 .1 .1 .1 .1 .1 .1 .1 .1 .1 .1 .1 .1 .1 .0

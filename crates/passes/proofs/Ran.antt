@@ -3,6 +3,7 @@ use mathlib.Core.Path.{_≡_, refl, sym, ap, ap₂, _∙_, subst}
 use Prim.Native.Nat.{ℕ, _+_, _*_, _/_, _≤_}
 use mathlib.Core.Bool.{Bool, not, cond}
 use mathlib.Core.List.{List, [], _∷_, _++_, map}
+use native.Mathlib.Nat.{mul-le-mul}
 use native.Mathlib.Omega.{arith}
 use lib.ListN.{length, take, drop, length-map}
 use lib.Seq.{take-at}
@@ -25,8 +26,7 @@ use Rattle.cov.specs.View as covs
 use Rattle.mean.specs.View as means
 use Rattle.mean.specs.Call as means-call
 use Rattle.mean.specs.declared.Answer.{Answer}
-use Rattle.filter.specs.Promise.{covParts, meanParts, Fit, Ran, Sizes, MeanRoom, CovRoom, RecordRoom}
-use Rattle.filter.proofs.Filling.{small}
+use Rattle.passes.specs.View.{covParts, meanParts, Fit, Ran}
 
 -- ---- what the passes may ask for
 
@@ -36,9 +36,6 @@ as-long h e = omega arith
 module _ {x : Model} {o : Offsets} {y : ℕ} {w : CovParts} {w′ : MeanParts} (f : Fit x o y w w′) where
   pub room : Roomy x w w′
   room = room-of x w w′ (f .accepted .roomy)
-
-  pub sizes : Sizes (x .p) (x .m) (x .n)
-  sizes = record { p8 = f .accepted .sizes .p8; m8 = f .accepted .sizes .m8; n4096 = f .accepted .sizes .n4096 }
 
   pub cov-ready : {listed : ℕ} → listed ≡ length (x .zList) / (x .p * x .m) → covs.Ready (x .p) (x .m) (x .r) (x .n) listed (length (x .zOnce)) (length (x .zList)) (length (x .h)) (length (x .t)) (length (x .rr)) (length (x .q)) (length (x .pStar)) (length (x .flags)) y
   cov-ready e =
@@ -67,7 +64,7 @@ module _ {x : Model} {o : Offsets} {y : ℕ} {w : CovParts} {w′ : MeanParts} (
       }
 
   pub few-records : x .n * x .p ≤ 65536
-  few-records = omega (arith, small sizes .np)
+  few-records = omega (arith, mul-le-mul {n₁ = x .n} {m₁ = x .p} {n₂ = 4096} {m₂ = 8} (f .accepted .sizes .n4096) (f .accepted .sizes .p8))
 
   pub few : y ≤ 65536
   few = omega (arith, few-records, f .accepted .readings)
@@ -84,19 +81,6 @@ module _ {x : Model} {o : Offsets} {y : ℕ} {w : CovParts} {w′ : MeanParts} (
 
   pub mean-rooms : means.Rooms (x .p) (x .m) (x .n) (length (w′ predMean)) (length (w′ filtMean)) (length (w′ innovations))
   mean-rooms = means-call.rooms x o w′ (room .mean predMean) (room .mean filtMean) (room .mean innovations)
-
-  pub mean-room : {pm fm vs : ℕ} → pm ≡ length (w′ predMean) → fm ≡ length (w′ filtMean) → vs ≡ length (w′ innovations) → MeanRoom (x .p) (x .m) (x .n) pm fm vs
-  unfolding meanNeed
-  mean-room e1 e2 e3 = record { sizes = sizes; pred = as-long (room .mean predMean) e1; filt = as-long (room .mean filtMean) e2; v = as-long (room .mean innovations) e3 }
-
-  pub cov-room : {pc pi fc : ℕ} → pc ≡ length (w .part predCov) → pi ≡ length (w .part predInf) → fc ≡ length (w .part filtCov) → CovRoom (x .p) (x .m) (x .n) pc pi fc
-  unfolding covNeed
-  cov-room e1 e2 e3 = record { sizes = sizes; pred = as-long (room .cov predCov) e1; pred-inf = as-long (room .cov predInf) e2; filt = as-long (room .cov filtCov) e3 }
-
-  pub record-room : {ks fs fi ms mi : ℕ} → ks ≡ length (w .kinds) → fs ≡ length (w .part fStar) → fi ≡ length (w .part fInf) → ms ≡ length (w .part mStar) → mi ≡ length (w .part mInf) → RecordRoom (x .p) (x .m) (x .n) ks fs fi ms mi
-  unfolding kindsNeed covNeed
-  record-room e1 e2 e3 e4 e5 =
-      record { sizes = sizes; kinds = as-long (room .kinds) e1; f-star = as-long (room .cov fStar) e2; f-inf = as-long (room .cov fInf) e3; m-star = as-long (room .cov mStar) e4; m-inf = as-long (room .cov mInf) e5 }
 
 -- ---- what the covariance pass left, read back
 

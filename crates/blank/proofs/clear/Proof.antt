@@ -5,9 +5,9 @@ use Prim.Native.Nat.{_≤_, _-_}
 use native.Mathlib.Omega.{arith}
 use lib.ListN.{length, length-set, drop, replicate}
 use Rattle.definition.specs.Num.{0ᶠ}
-use Rattle.filter.proofs.Filling as filling
-use Rattle.filter.proofs.blank.clear.Statement.{statement}
-use Rattle.filter.proofs.blank.clear.Tie as tie
+use Rattle.blank.proofs.Filling as filling
+use Rattle.blank.proofs.clear.Statement.{statement}
+use Rattle.blank.proofs.clear.Tie as tie
 
 abbrev Inv-loop : tie.InvT-loop
 Inv-loop out₀ k i₀ out i = (i ≤ k) × (length out ≡ length out₀) × (out ≡ replicate i 0ᶠ ++ drop i out₀)

@@ -4,7 +4,7 @@ ghost use Prim.Native.Nat.{_≤_};
 ghost use lib.ListN.{length, replicate};
 ghost use Rattle.definition.specs.Num.{zeros};
 ghost use Rattle.definition.specs.Run.{lay};
-ghost use Rattle.filter.specs.Promise.{MeanRoom, CovRoom, RecordRoom, MeanBlank, CovBlank, RecordBlank};
+ghost use Rattle.blank.specs.Stretches.{MeanRoom, CovRoom, RecordRoom, MeanBlank, CovBlank, RecordBlank};
 
 // The first k places become +0.0.
 pub fn clear(out: &mut [f64], k: usize)

@@ -4,9 +4,9 @@ use mathlib.Core.List.{_++_}
 use Prim.Native.Nat.{_≤_, _-_}
 use native.Mathlib.Omega.{arith}
 use lib.ListN.{length, length-set, drop, replicate}
-use Rattle.filter.proofs.Filling as filling
-use Rattle.filter.proofs.blank.clear_bytes.Statement.{statement}
-use Rattle.filter.proofs.blank.clear_bytes.Tie as tie
+use Rattle.blank.proofs.Filling as filling
+use Rattle.blank.proofs.clear_bytes.Statement.{statement}
+use Rattle.blank.proofs.clear_bytes.Tie as tie
 
 abbrev Inv-loop : tie.InvT-loop
 Inv-loop out₀ k i₀ out i = (i ≤ k) × (length out ≡ length out₀) × (out ≡ replicate i 0 ++ drop i out₀)

@@ -1,0 +1,71 @@
+-- Refusal 12: the stretch of every part that a run needs may be blanked, and is blank then.
+use mathlib.Core.Path.{_≡_}
+use Prim.Native.Nat.{ℕ, _+_, _*_, _≤_}
+use native.Mathlib.Omega.{arith}
+use mathlib.Core.List.{List}
+use lib.ListN.{length, replicate}
+use lib.Ieee.{Float}
+use Rattle.definition.specs.Num.{zeros}
+use Rattle.definition.specs.Run.{lay}
+use Rattle.definition.specs.Parts.{CovPart, predCov, predInf, filtCov, fStar, fInf, mStar, mInf, MeanPart, predMean, filtMean, innovations}
+use Rattle.definition.specs.Inputs.{Model, Offsets}
+use Rattle.definition.specs.Outcome.{CovParts, MeanParts, kindsNeed, covNeed, meanNeed}
+use Rattle.laws.specs.Accepted.{Roomy, room-of}
+use Rattle.blank.specs.Stretches.{Sizes, MeanRoom, CovRoom, RecordRoom, MeanBlank, CovBlank, RecordBlank}
+use Rattle.passes.specs.View.{covParts, meanParts, Fit}
+
+-- ---- past refusal 2 the stretches are there, in parts that are as long as they were lent
+
+as-long : {n a b : ℕ} → n ≤ b → a ≡ b → n ≤ a
+as-long h e = omega arith
+
+module _ {x : Model} {o : Offsets} {y : ℕ} {w : CovParts} {w′ : MeanParts} (f : Fit x o y w w′) where
+  room : Roomy x w w′
+  room = room-of x w w′ (f .accepted .roomy)
+
+  sizes : Sizes (x .p) (x .m) (x .n)
+  sizes = record { p8 = f .accepted .sizes .p8; m8 = f .accepted .sizes .m8; n4096 = f .accepted .sizes .n4096 }
+
+  pub mean-room : {pm fm vs : ℕ} → pm ≡ length (w′ predMean) → fm ≡ length (w′ filtMean) → vs ≡ length (w′ innovations) → MeanRoom (x .p) (x .m) (x .n) pm fm vs
+  unfolding meanNeed
+  mean-room e1 e2 e3 = record { sizes = sizes; pred = as-long (room .mean predMean) e1; filt = as-long (room .mean filtMean) e2; v = as-long (room .mean innovations) e3 }
+
+  pub cov-room : {pc pi fc : ℕ} → pc ≡ length (w .part predCov) → pi ≡ length (w .part predInf) → fc ≡ length (w .part filtCov) → CovRoom (x .p) (x .m) (x .n) pc pi fc
+  unfolding covNeed
+  cov-room e1 e2 e3 = record { sizes = sizes; pred = as-long (room .cov predCov) e1; pred-inf = as-long (room .cov predInf) e2; filt = as-long (room .cov filtCov) e3 }
+
+  pub record-room : {ks fs fi ms mi : ℕ} → ks ≡ length (w .kinds) → fs ≡ length (w .part fStar) → fi ≡ length (w .part fInf) → ms ≡ length (w .part mStar) → mi ≡ length (w .part mInf) → RecordRoom (x .p) (x .m) (x .n) ks fs fi ms mi
+  unfolding kindsNeed covNeed
+  record-room e1 e2 e3 e4 e5 =
+      record { sizes = sizes; kinds = as-long (room .kinds) e1; f-star = as-long (room .cov fStar) e2; f-inf = as-long (room .cov fInf) e3; m-star = as-long (room .cov mStar) e4; m-inf = as-long (room .cov mInf) e5 }
+
+-- ---- what is blank then
+
+pub record Blanked (x : Model) (b c : CovParts) (b′ c′ : MeanParts) : Type 0 where
+  pub kinds : c .kinds ≡ lay (replicate (kindsNeed x) 0) (b .kinds)
+  pub cov : (q : CovPart) → c .part q ≡ lay (zeros (covNeed x q)) (b .part q)
+  pub mean : (q : MeanPart) → c′ q ≡ lay (zeros (meanNeed x q)) (b′ q)
+
+mean-blank : (x : Model) {pm₀ pm fm₀ fm vs₀ vs : List Float} → MeanBlank (x .p) (x .m) (x .n) pm₀ pm fm₀ fm vs₀ vs → (q : MeanPart) → meanParts pm fm vs q ≡ lay (zeros (meanNeed x q)) (meanParts pm₀ fm₀ vs₀ q)
+unfolding meanNeed meanParts
+mean-blank x b predMean = b .pred
+mean-blank x b filtMean = b .filt
+mean-blank x b innovations = b .v
+
+module _ (x : Model) {pc₀ pc pi₀ pi fc₀ fc : List Float} {ks₀ ks : List ℕ} {fs₀ fs fi₀ fi ms₀ ms mi₀ mi : List Float} (c : CovBlank (x .m) (x .n) pc₀ pc pi₀ pi fc₀ fc) (r : RecordBlank (x .p) (x .m) (x .n) ks₀ ks fs₀ fs fi₀ fi ms₀ ms mi₀ mi) where
+  cov-blank : (q : CovPart) → covParts pc pi fc ks fs fi ms mi .part q ≡ lay (zeros (covNeed x q)) (covParts pc₀ pi₀ fc₀ ks₀ fs₀ fi₀ ms₀ mi₀ .part q)
+  unfolding covNeed covParts
+  cov-blank predCov = c .pred
+  cov-blank predInf = c .pred-inf
+  cov-blank filtCov = c .filt
+  cov-blank fStar = r .f-star
+  cov-blank fInf = r .f-inf
+  cov-blank mStar = r .m-star
+  cov-blank mInf = r .m-inf
+
+  kinds-blank : covParts pc pi fc ks fs fi ms mi .kinds ≡ lay (replicate (kindsNeed x) 0) (covParts pc₀ pi₀ fc₀ ks₀ fs₀ fi₀ ms₀ mi₀ .kinds)
+  unfolding kindsNeed covParts
+  kinds-blank = r .kinds
+
+  pub blanked : {pm₀ pm fm₀ fm vs₀ vs : List Float} → MeanBlank (x .p) (x .m) (x .n) pm₀ pm fm₀ fm vs₀ vs → Blanked x (covParts pc₀ pi₀ fc₀ ks₀ fs₀ fi₀ ms₀ mi₀) (covParts pc pi fc ks fs fi ms mi) (meanParts pm₀ fm₀ vs₀) (meanParts pm fm vs)
+  blanked b = record { kinds = kinds-blank; cov = cov-blank; mean = mean-blank x b }
