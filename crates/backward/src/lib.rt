@@ -12,7 +12,7 @@ ghost use Rattle.dense.specs.Places.{Within};
 ghost use Rattle.laws.specs.Flat.{decisionOf};
 ghost use Rattle.backward.specs.View.{nsIn};
 
-fn f_one(f_inf: f64) -> f64
+pub fn f_one(f_inf: f64) -> f64
     ensures { λ r. ⌜ r ≡ fOne «f_inf» ⌝ }
 {
     1.0 / f_inf
@@ -26,7 +26,7 @@ fn f_two(f: f64, f_inf: f64) -> f64
 }
 
 // Entry (i, j) of I - k z'.
-fn l_zero_at(k: &[f64; 8], z: &[f64; 8], m: usize, i: usize, j: usize) -> f64
+pub fn l_zero_at(k: &[f64; 8], z: &[f64; 8], m: usize, i: usize, j: usize) -> f64
     requires { ⌜ Within m i j ⌝ }
     ensures { λ r. ⌜ r ≡ lZeroAt (vec m (now (k .entry))) (vec m (now (z .entry))) i j ⌝ }
 {
@@ -64,7 +64,7 @@ fn l_one(k: &[f64; 8], z: &[f64; 8], m: usize) -> [f64; 64]
 }
 
 // K1 = M* F1 + M∞ F2.
-fn k_one(f: f64, f_inf: f64, m_star: &[f64; 8], m_inf: &[f64; 8], m: usize) -> [f64; 8]
+pub fn k_one(f: f64, f_inf: f64, m_star: &[f64; 8], m_inf: &[f64; 8], m: usize) -> [f64; 8]
     requires { ⌜ m ≤ 8 ⌝ }
     ensures { λ r. ⌜ vec m r ≡ kOne m f «f_inf» (vec m (now («m_star» .entry))) (vec m (now («m_inf» .entry))) ⌝ }
 {

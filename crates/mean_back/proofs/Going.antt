@@ -1,0 +1,85 @@
+-- The loop over the periods, from the last to the first: what holds with the periods from t on done, how a period keeps it, and what it comes to.
+use mathlib.Core.Path.{_≡_, refl, sym, ap, ap₂, _∙_}
+use Prim.Native.Nat.{ℕ, suc, _+_, _-_, _*_, _≤_, _<_}
+use native.Mathlib.Nat.{zero-add}
+use native.Mathlib.Omega.{arith}
+use mathlib.Core.List.{List}
+use lib.ListN.{length, getD}
+use lib.Ieee.{Float}
+use Rattle.definition.specs.Num.{zeros}
+use Rattle.definition.specs.Run.{scanBack, join, pairs}
+use Rattle.definition.specs.Mean.{Frame}
+use Rattle.definition.specs.Smooth.{Rs, Look, MeanLook, backMeanOf, backMean, noRs}
+use Rattle.definition.specs.Inputs.{designFrom, frameFrom}
+use Rattle.laws.specs.Lists.{tab-at, length-tab, pairs-at}
+use Rattle.laws.specs.Flat.{Flat, lookAt, looks, meanLookAt, meanLooks}
+use Rattle.laws.specs.Passes.{over, Laid}
+use Rattle.laws.specs.Backward.{later, WroteFrom, from-none, later-none, later-step, from-next, from-all}
+use Rattle.dense.specs.Views.{vec, mat}
+use Rattle.mean.proofs.Laws.{length-pairs}
+use Rattle.mean_back.specs.View.{lookedAt, looked}
+
+module _ (n p m dd : ℕ) (pm pc pi vs : List Float) (r : Flat) where
+  looks-long : length (looks n p m dd pc pi r) ≡ n
+  unfolding looks
+  looks-long = length-tab n 0 (lookAt p m dd pc pi r)
+
+  mean-looks-long : length (meanLooks n p m pm vs) ≡ n
+  unfolding meanLooks
+  mean-looks-long = length-tab n 0 (meanLookAt p m pm vs)
+
+  looked-long : length (looked n p m dd pm pc pi vs r) ≡ n
+  looked-long = length-pairs n (looks n p m dd pc pi r) (meanLooks n p m pm vs) looks-long mean-looks-long
+
+  looked-at : (t : ℕ) (d : Look × MeanLook) → t < n → getD (looked n p m dd pm pc pi vs r) t d ≡ lookedAt p m dd pm pc pi vs r t
+  unfolding looks meanLooks
+  looked-at t d h =
+      pairs-at (looks n p m dd pc pi r) (meanLooks n p m pm vs) t (d .0) (d .1) d (rw looks-long h) (rw mean-looks-long h)
+      ∙ ap₂ (λ (a : Look) (b : MeanLook). (a, b)) (tab-at n 0 t (lookAt p m dd pc pi r) (d .0) h ∙ ap (lookAt p m dd pc pi r) (zero-add t)) (tab-at n 0 t (meanLookAt p m pm vs) (d .1) h ∙ ap (meanLookAt p m pm vs) (zero-add t))
+
+  module _ (y : Frame) (s₀ : Rs) where
+    abbrev pub es : List (Look × MeanLook)
+    es = looked n p m dd pm pc pi vs r
+
+    pub record Going (i : ℕ) (s : Rs) (o₀ o : List Float) : Type 0 where
+      pub low : i ≤ n
+      pub state : s ≡ later (backMean y) m es s₀ i .1
+      pub out : WroteFrom (backMean y) m es s₀ o₀ o i
+
+    pub going-none : (o : List Float) → Going n s₀ o o
+    going-none o = record { low = omega arith; state = later-none (backMean y) m es s₀ n looked-long; out = from-none (backMean y) m es s₀ o n looked-long }
+
+    module _ {i : ℕ} {s s′ : Rs} {o₀ o : List Float} (b : List Float) where
+      -- period i - 1 leaves b in its block
+      pub going-next : Going i s o₀ o → 0 < i → n * m ≤ length o₀ → length b ≡ m → _≡_ (b, s′) (backMean y (i - 1) s (lookedAt p m dd pm pc pi vs r (i - 1))) → Going (i - 1) s′ o₀ (over (i - 1) m o b)
+      going-next g h room lb q =
+          let up : i ≡ suc (i - 1) = omega arith in
+          let t = i - 1 in
+          let t< : t < n = omega (arith, g .low) in
+          let d = lookedAt p m dd pm pc pi vs r t in
+          let hl : t < length es = rw looked-long t< in
+          let st : s ≡ later (backMean y) m es s₀ (suc t) .1 = rw up at (g .state) in
+          let wr : WroteFrom (backMean y) m es s₀ o₀ o (suc t) = rw up at (g .out) in
+          let now : _≡_ (b, s′) (backMean y t (later (backMean y) m es s₀ (suc t) .1) (getD es t d)) = q ∙ ap₂ (backMean y t) st (sym (looked-at t d t<)) in
+          record {
+            low = omega (arith, g .low);
+            state = ap (λ (x : List Float × Rs). x .1) now ∙ sym (ap (λ (x : List (List Float) × Rs). x .1) (later-step (backMean y) m es s₀ t d hl));
+            out = from-next (backMean y) m es s₀ t d o₀ o b hl (rw looked-long room) wr lb (ap (λ (x : List Float × Rs). x .0) now);
+          }
+
+    pub going-all : {i : ℕ} {s : Rs} {o₀ o : List Float} → Going i s o₀ o → i ≤ 0 → n * m ≤ length o₀ → Laid (n * m) (join (scanBack (backMean y) 0 s₀ es .0)) o₀ o
+    going-all {i} {s} {o₀} {o} g h room = let e : i ≡ 0 = omega arith in from-all (backMean y) m es s₀ n o₀ o looked-long room (rw e at (g .out))
+
+-- the frame's period, with the design and T that the code has
+pub framed : (p m t : ℕ) (z zs tr design : List Float) (s : Rs) (c : Look × MeanLook) {b : List Float × Rs} → design ≡ designFrom p m z zs t → b ≡ backMeanOf m tr design s c → b ≡ backMean (frameFrom p m z zs tr) t s c
+unfolding frameFrom
+framed p m t z zs tr design s c q h = h ∙ ap (λ (l : List Float). backMeanOf m tr l s c) q
+
+-- T loaded and r0 and r1 set to zeros before it
+pub started : (m : ℕ) (r0 r1 : List Float) → vec m r0 ≡ zeros m → vec m r1 ≡ zeros m → _≡_ {A = Rs} (record { r0 = vec m r0; r1 = vec m r1 }) (noRs m)
+unfolding noRs
+started m r0 r1 e h = cc
+
+pub passed : (n p m : ℕ) (z zs t tr : List Float) (es : List (Look × MeanLook)) (s : Rs) {o₀ o : List Float} → Laid (n * m) (join (scanBack (backMean (frameFrom p m z zs (mat m tr))) 0 s es .0)) o₀ o → mat m tr ≡ t → s ≡ noRs m
+    → Laid (n * m) (join (scanBack (backMean (frameFrom p m z zs t)) 0 (noRs m) es .0)) o₀ o
+passed n p m z zs t tr es s g et e = rw (et, e) at g

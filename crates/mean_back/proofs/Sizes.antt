@@ -1,0 +1,67 @@
+-- Places and lengths on the way back: what an element and a period need of what the pass has.
+use mathlib.Core.Path.{_≡_, ap, _∙_}
+use Prim.Native.Nat.{ℕ, _+_, _-_, _*_, _≤_, _<_}
+use native.Mathlib.Nat.{mul-le-mul-right}
+use native.Mathlib.Omega.{arith}
+use mathlib.Core.List.{List}
+use lib.ListN.{length}
+use lib.Ieee.{Float}
+use Rattle.definition.specs.Inputs.{designFrom}
+use Rattle.laws.specs.Flat.{Flat}
+use Rattle.laws.specs.Lists.{square-le}
+use Rattle.laws.specs.Passes.{block-in}
+use Rattle.model.specs.Design.{length-design}
+use Rattle.mean.specs.View.{Holds}
+use Rattle.mean_back.specs.View.{Square, Entry, Element, Period, Block, Periods}
+
+pub one-less : {i n : ℕ} → 0 < i → i ≤ n → i - 1 < n
+one-less h g = omega arith
+
+pub falls : {i : ℕ} → 0 < i → i - 1 < i
+falls h = omega arith
+
+-- row i of a square part
+pub row-in : {m i a : ℕ} → Square m i a → i * m + m ≤ a
+row-in {m} {i} g = omega (arith, block-in i m m (g .row), g .whole)
+
+pub row-small : {m i a : ℕ} → Square m i a → i * m + m ≤ 64
+row-small {m} {i} g = omega (arith, block-in i m m (g .row), square-le m (g .m8))
+
+-- the records below fewer places
+fewer : {m j k : ℕ} {r : Flat} → j ≤ k → Holds m k r → Holds m j r
+fewer {m} h g =
+    record {
+      ks = omega (arith, g .ks);
+      fs = omega (arith, g .fs);
+      fi = omega (arith, g .fi);
+      ms = omega (arith, g .ms, mul-le-mul-right m h);
+      mi = omega (arith, g .mi, mul-le-mul-right m h);
+    }
+
+-- element i of a period, by the record at its place
+pub element-in : {p m t i design v : ℕ} {r : Flat} → Period p m t design v r → i < p → Element m i (t * p + i) design v r
+element-in {p} {m} {t} {i} h b =
+    let row = block-in i p m b in
+    let gain = block-in (t * p + i) (t * p + p) m (omega arith) in
+    record {
+      kind = omega (arith, h .holds .ks);
+      usual = record { m8 = h .m8; row = omega (arith, h .rows); news = omega (arith, h .news); variance = omega (arith, h .holds .fs); gain = omega (arith, h .holds .ms) };
+      diffuse = record { m8 = h .m8; row = omega (arith, h .rows); news = omega (arith, h .news); variance = omega (arith, h .holds .fi); gain = omega (arith, h .holds .mi) };
+    }
+
+module _ {p m n listed pm pc pi v : ℕ} {r : Flat} {sm : ℕ} {t : ℕ} (h : t < n) where
+  pub block-of : {z zs : ℕ} → Periods p m n listed z zs pm pc pi v r sm → Block m t pm pc pi
+  block-of g =
+      record {
+        m8 = g .design .m8;
+        t4096 = omega (arith, g .n4096);
+        means = omega (arith, block-in t n m h, g .means);
+        covs = omega (arith, block-in t n (m * m) h, g .covs);
+        infs = omega (arith, block-in t n (m * m) h, g .infs);
+      }
+
+  pub period-of : (z zs : List Float) {design : List Float} → Periods p m n listed (length z) (length zs) pm pc pi v r sm → design ≡ designFrom p m z zs t → Period p m t (length design) v r
+  period-of z zs g e =
+      let b = block-in t n p h in
+      let long = ap length e ∙ length-design z zs t (g .design) in
+      record { p8 = g .design .p8; m8 = g .design .m8; rows = omega (arith, long); news = omega (arith, g .news); holds = fewer b (g .holds) }

@@ -1,0 +1,1 @@
+-- What a call hands the way back.
