@@ -1,13 +1,13 @@
 -- The loop over the periods, from the last to the first: what holds with the periods from t on done, how a period keeps it, and what it comes to.
-use mathlib.Core.Path.{_≡_, refl, sym, ap, ap₂, _∙_}
-use Prim.Native.Nat.{ℕ, suc, _+_, _-_, _*_, _≤_, _<_}
+use mathlib.Core.Path.{_≡_, sym, ap, ap₂, _∙_}
+use Prim.Native.Nat.{ℕ, suc, _-_, _*_, _≤_, _<_}
 use native.Mathlib.Nat.{zero-add}
 use native.Mathlib.Omega.{arith}
 use mathlib.Core.List.{List}
 use lib.ListN.{length, getD}
 use lib.Ieee.{Float}
 use Rattle.definition.specs.Num.{zeros}
-use Rattle.definition.specs.Run.{scanBack, join, pairs}
+use Rattle.definition.specs.Run.{scanBack, join}
 use Rattle.definition.specs.Mean.{Frame}
 use Rattle.definition.specs.Smooth.{Rs, Look, MeanLook, backMeanOf, backMean, noRs}
 use Rattle.definition.specs.Inputs.{designFrom, frameFrom}

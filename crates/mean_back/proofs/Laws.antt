@@ -1,21 +1,21 @@
 -- Laws of one element back, of a period's elements from the last to the first, and of a period.
 use mathlib.Core.Path.{_≡_, refl, sym, ap, ap₂, _∙_}
-use Prim.Native.Nat.{ℕ, zero, suc, _+_, _-_, _*_, _≤_, _<_}
+use Prim.Native.Nat.{ℕ, suc, _+_, _-_, _*_, _≤_, _<_}
 use native.Mathlib.Nat.{zero-add}
 use native.Mathlib.Omega.{arith}
 use mathlib.Core.Bool.{Bool, cond}
-use mathlib.Core.List.{List, []}
+use mathlib.Core.List.{List}
 use lib.ListN.{length, getD, take, drop}
 use lib.Seq.{drop-length, drop-cons}
 use lib.Dec.{ltb}
 use lib.Ieee.{Float, nan, neg}
-use Rattle.definition.specs.Num.{_⊕_, _⊗_, 1ᶠ, isZero, at, tabulate, sumBut}
+use Rattle.definition.specs.Num.{_⊕_, _⊗_, 1ᶠ, isZero, at, sumBut}
 use Rattle.definition.specs.Dense.{axpy, scaled, row, matVec, matTVec, matTVecTerm, matVecTerm, zeroAt}
 use Rattle.definition.specs.Run.{foldBack, pairs}
 use Rattle.definition.specs.Cov.{Decision, skipped, diffuse}
-use Rattle.definition.specs.Smooth.{Rs, Look, MeanLook, lZero, lZeroAt, lOne, lOneAt, fOne, kOne, lUsual, lDiffuse, usualR, diffuseR, backR, backMeanElement, elementsR, backA, stepRs, backMeanOf}
+use Rattle.definition.specs.Smooth.{Rs, lZero, lZeroAt, lOne, lOneAt, fOne, kOne, lUsual, lDiffuse, usualR, diffuseR, backR, backMeanElement, elementsR, backA, stepRs, backMeanOf}
 use Rattle.laws.specs.Lists.{tab-at, length-tab, matrix-at, pairs-at}
-use Rattle.laws.specs.Flat.{Flat, decisionOf, readBack, decisionsAt, blockAt, lookAt, meanLookAt, kind-skipped, kind-usual, kind-diffuse}
+use Rattle.laws.specs.Flat.{Flat, readBack, decisionsAt, blockAt, lookAt, meanLookAt, kind-skipped, kind-usual, kind-diffuse}
 use Rattle.dense.proofs.Laws.{but-next}
 use Rattle.dense.specs.Views.{vec}
 use Rattle.mean.proofs.Laws.{length-pairs, part-block, part-row, loaded}

@@ -12,7 +12,7 @@ use Rattle.laws.specs.Lists.{square-le}
 use Rattle.laws.specs.Passes.{block-in}
 use Rattle.model.specs.Design.{length-design}
 use Rattle.mean.specs.View.{Holds}
-use Rattle.mean_back.specs.View.{Square, Entry, Element, Period, Block, Periods}
+use Rattle.mean_back.specs.View.{Square, Element, Period, Block, Periods}
 
 pub one-less : {i n : ℕ} → 0 < i → i ≤ n → i - 1 < n
 one-less h g = omega arith

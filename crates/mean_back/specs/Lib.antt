@@ -1,2 +1,3 @@
 pub mod View
+pub mod Looked
 pub mod Call

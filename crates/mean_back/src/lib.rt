@@ -338,19 +338,19 @@ fn smooth_at(
     ensures { λ _. ⌜ now (out .exit) ≡ backA m (ltb t «d_diffuse») (blockAt (m * m) (now («pred_cov» .entry)) t) (blockAt (m * m) (now («pred_inf» .entry)) t)
         (blockAt m (now («pred_mean» .entry)) t) (rsIn m (now (r0 .entry)) (now (r1 .entry))) ⌝ }
 {
-    let from = t * m;
-    let to = from + m;
+    let mean = t * m;
+    let mean_end = mean + m;
     let size = m * m;
-    let begin = t * size;
-    let end = begin + size;
+    let from = t * size;
+    let to = from + size;
     smooth(
         out,
         r0,
         r1,
         t < d_diffuse,
-        &pred_mean[from..to],
-        &pred_cov[begin..end],
-        &pred_inf[begin..end],
+        &pred_mean[mean..mean_end],
+        &pred_cov[from..to],
+        &pred_inf[from..to],
         m,
     );
 }
