@@ -56,6 +56,11 @@ pub record RecordRoom (p m n : ℕ) (ks fs fi ms mi : ℕ) : Type 0 where
   pub m-star : n * (p * m) ≤ ms
   pub m-inf : n * (p * m) ≤ mi
 
+pub record SmoothedRoom (p m n : ℕ) (sm sc : ℕ) : Type 0 where
+  pub sizes : Sizes p m n
+  pub mean : n * m ≤ sm
+  pub cov : n * (m * m) ≤ sc
+
 -- and that it holds zeros; the tail is as it was
 pub record MeanBlank (p m n : ℕ) (pm₀ pm fm₀ fm vs₀ vs : List Float) : Type 0 where
   pub pred : pm ≡ lay (zeros (n * m + m)) pm₀
@@ -73,3 +78,7 @@ pub record RecordBlank (p m n : ℕ) (ks₀ ks : List ℕ) (fs₀ fs fi₀ fi ms
   pub f-inf : fi ≡ lay (zeros (n * p)) fi₀
   pub m-star : ms ≡ lay (zeros (n * (p * m))) ms₀
   pub m-inf : mi ≡ lay (zeros (n * (p * m))) mi₀
+
+pub record SmoothedBlank (m n : ℕ) (sm₀ sm sc₀ sc : List Float) : Type 0 where
+  pub mean : sm ≡ lay (zeros (n * m)) sm₀
+  pub cov : sc ≡ lay (zeros (n * (m * m))) sc₀

@@ -4,10 +4,10 @@ ghost use Prim.Native.Nat.{_≤_};
 ghost use lib.ListN.{length, replicate};
 ghost use Rattle.definition.specs.Num.{zeros};
 ghost use Rattle.definition.specs.Run.{lay};
-ghost use Rattle.blank.specs.Stretches.{MeanRoom, CovRoom, RecordRoom, MeanBlank, CovBlank, RecordBlank};
+ghost use Rattle.blank.specs.Stretches.{MeanRoom, CovRoom, RecordRoom, SmoothedRoom, MeanBlank, CovBlank, RecordBlank, SmoothedBlank};
 
 // The first k places become +0.0.
-pub fn clear(out: &mut [f64], k: usize)
+fn clear(out: &mut [f64], k: usize)
     requires { ⌜ k ≤ length (now out) ⌝ }
     ensures { λ _. ⌜ now (out .exit) ≡ lay (zeros k) (now (out .entry)) ⌝ }
 {
@@ -81,4 +81,13 @@ pub fn records(
     clear(f_inf, np);
     clear(m_star, npm);
     clear(m_inf, npm);
+}
+
+// The smoother's two parts.
+pub fn smoothed(sm_mean: &mut [f64], sm_cov: &mut [f64], p: usize, m: usize, n: usize)
+    requires { ⌜ SmoothedRoom p m n (length (now «sm_mean»)) (length (now «sm_cov»)) ⌝ }
+    ensures { λ _. ⌜ SmoothedBlank m n (now («sm_mean» .entry)) (now («sm_mean» .exit)) (now («sm_cov» .entry)) (now («sm_cov» .exit)) ⌝ }
+{
+    clear(sm_mean, n * m);
+    clear(sm_cov, n * (m * m));
 }

@@ -1,0 +1,71 @@
+-- A call's three ends, over the filter's parts: turned away before anything is written, silent, answered. The smoother's call ends the same ways.
+use mathlib.Core.Path.{_≡_, refl, sym, ap, _∙_}
+use Prim.Native.Nat.{ℕ, zero, suc}
+use mathlib.Core.Bool.{Bool, true, false}
+use mathlib.Core.List.{List, map}
+use lib.ListN.{length, replicate, length-map, length-replicate}
+use lib.Ieee.{Float}
+use Rattle.definition.specs.Num.{0ᶠ, zeros}
+use Rattle.definition.specs.Run.{anyOf}
+use Rattle.definition.specs.Inputs.{Model, Offsets, Kind, kindOf, isInfinity}
+use Rattle.definition.specs.Refusals.{refusal}
+use Rattle.definition.specs.Outcome.{CovParts, MeanParts, CovOutcome, MeanOutcome, Fate, turned, silent, answered, fateOf, fate, numberOf, after, countsIn, loglikIn, kindsNeed, covNeed, meanNeed, covOf, countsOf, noInformation, covOutcome, meanOutcome}
+use Rattle.laws.specs.Passes.{lay-again}
+use Rattle.mean.specs.declared.Answer.{Answer}
+use Rattle.passes.specs.View.{Ran}
+use Rattle.filter.specs.declared.Outcome.{Outcome}
+use Rattle.filter.specs.declared.Outcome.the-variants.{Refused, Answered}
+use Rattle.filter.specs.Promise.{answerBy, Promise, isSilent}
+use Rattle.filter.specs.Blanked.{Blanked}
+
+module _ (x : Model) (o : Offsets) (y : List Float) where
+  abbrev kinds : List Kind
+  kinds = map kindOf y
+
+  -- refusals 1 to 11; `room`: every output is as long as needed
+  abbrev pub number : Bool → ℕ
+  number room = refusal x o (length y) (anyOf isInfinity kinds) room
+
+  by-number : (room : Bool) (k : ℕ) → k ≡ number room → fate x o kinds room ≡ fateOf k (noInformation (countsOf (covOf x kinds .0) kinds))
+  unfolding fate
+  by-number room k e = rw (length-map, ← e) refl
+
+  pub is-turned : (room : Bool) (k : ℕ) → suc k ≡ number room → fate x o kinds room ≡ turned (suc k)
+  unfolding fateOf
+  is-turned room k e = by-number room (suc k) e
+
+  -- w and w′ are the parts as they were lent
+  module _ (w : CovParts) (w′ : MeanParts) where
+    abbrev pub End : Fate → CovOutcome × MeanOutcome
+    End f = (covOutcome x f kinds w, meanOutcome x f o kinds y w′)
+
+    pub turned-away : (k : ℕ) → Promise (End (turned (suc k))) (Refused (suc k)) w w′
+    unfolding covOutcome meanOutcome answerBy numberOf after
+    turned-away k = record { answer = refl; kinds = refl; cov = λ q. refl; mean = λ q. refl }
+
+    module _ {a : Answer} {b : CovParts} {b′ : MeanParts} (r : Ran x o y a w b w′ b′) where
+      ended : (room t : Bool) → 0 ≡ number room → isSilent (a .heard) (a .news) ≡ t → fate x o kinds room ≡ fateOf 0 t
+      unfolding isSilent noInformation
+      ended room t e h = by-number room 0 e ∙ ap (fateOf 0) (rw (r .answer) at h)
+
+      pub is-silent : (room : Bool) → 0 ≡ number room → isSilent (a .heard) (a .news) ≡ true → fate x o kinds room ≡ silent
+      unfolding fateOf
+      is-silent room e h = ended room true e h
+
+      pub is-answered : (room : Bool) → 0 ≡ number room → isSilent (a .heard) (a .news) ≡ false → fate x o kinds room ≡ answered
+      unfolding fateOf
+      is-answered room e h = ended room false e h
+
+      pub answered-so : Promise (End answered) (Answered a) b b′
+      unfolding covOutcome meanOutcome answerBy numberOf after countsIn loglikIn
+      answered-so = record { answer = ap Answered (r .answer); kinds = r .kinds .is; cov = λ q. r .cov q .is; mean = λ q. r .mean q .is }
+
+      pub silent-so : {c : CovParts} {c′ : MeanParts} → Blanked x b c b′ c′ → Promise (End silent) (Refused 12) c c′
+      unfolding covOutcome meanOutcome answerBy numberOf after
+      silent-so {c} {c′} z =
+          record {
+            answer = refl;
+            kinds = lay-again (kindsNeed x) _ (replicate (kindsNeed x) 0) (w .kinds) (b .kinds) (c .kinds) (r .kinds) (length-replicate (kindsNeed x) 0) (z .kinds);
+            cov = λ q. lay-again (covNeed x q) _ (zeros (covNeed x q)) (w .part q) (b .part q) (c .part q) (r .cov q) (length-replicate (covNeed x q) 0ᶠ) (z .cov q);
+            mean = λ q. lay-again (meanNeed x q) _ (zeros (meanNeed x q)) (w′ q) (b′ q) (c′ q) (r .mean q) (length-replicate (meanNeed x q) 0ᶠ) (z .mean q);
+          }
