@@ -58,7 +58,7 @@ all-same c c′ e =
       mInfs = ap (λ (c : CovOutcome). c .parts .part mInf) e;
     }
 
-alike-kinds : (y y′ : List Float) → Alike y y′ → map kindOf y ≡ map kindOf y′
+pub alike-kinds : (y y′ : List Float) → Alike y y′ → map kindOf y ≡ map kindOf y′
 unfolding kindOf
 alike-kinds y y′ l =
     ext-getD

@@ -1,0 +1,48 @@
+-- The three demands, of the filter's call. `Called x o y w w′ r b b′`: with the inputs x, o and y and the parts lent as w and w′ it came back with r,
+-- and left b and b′ in them. That every call does so is the contract of filter::filter_univariate, which asks nothing of the caller.
+use mathlib.Core.Path.{_≡_, refl, sym, subst}
+use mathlib.Core.Logic.{_↔_}
+use Prim.Native.Nat.{ℕ, _<_}
+use mathlib.Core.List.{List}
+use lib.ListN.{set}
+use lib.Dec.{T}
+use lib.Ieee.{Float, nan}
+use Rattle.definition.specs.Num.{isFinite}
+use Rattle.definition.specs.Inputs.{Model, Offsets}
+use Rattle.definition.specs.Outcome.{CovParts, MeanParts, outcome}
+use Rattle.definition.specs.Tracks.{by-kinds}
+use Rattle.demands.specs.Conditions.{Room, table, First}
+use Rattle.demands.specs.Refusals as refusals
+use Rattle.demands.specs.Values as demand
+use Rattle.filter.specs.declared.Outcome.{Outcome}
+use Rattle.filter.specs.Promise.{Promise}
+use Rattle.calls.specs.Seen as seen
+
+abbrev pub Called : Model → Offsets → List Float → CovParts → MeanParts → Outcome → CovParts → MeanParts → Type 0
+Called x o y w w′ r b b′ = Promise (outcome x o y w w′) r b b′
+
+module _ (x : Model) (o : Offsets) (y : List Float) (w : CovParts) (w′ : MeanParts) {r : Outcome} {b : CovParts} {b′ : MeanParts} (call : Called x o y w w′ r b b′) where
+  -- demand 1: the first condition of document 01's table that applies, 0 where none does; 1 to 11 write nothing
+  pub refuses : (k : ℕ) → (seen.refusalOf r ≡ k) ↔ First k (table x o y (Room x w w′))
+  refuses k = subst (λ (n : ℕ). (n ≡ k) ↔ First k (table x o y (Room x w w′))) (sym (seen.refusal-is call)) (refusals.refuses x o y w w′ k)
+
+  pub keeps : (k : ℕ) → 0 < k → k < 12 → seen.refusalOf r ≡ k → seen.SameParts b w b′ w′
+  keeps k l h e =
+      let s = refusals.keeps x o y w w′ k l h (subst (λ (n : ℕ). n ≡ k) (seen.refusal-is call) e) in
+      seen.parts-are call (s .0) (s .1)
+
+  -- demand 2: no room. What the call came back with and left is one thing
+  pub determined : {s : Outcome} {c : CovParts} {c′ : MeanParts} → Called x o y w w′ s c c′ → seen.Same r s b c b′ c′
+  determined again = seen.same call again refl
+
+  -- demand 3: the values of finite readings reach no refusal, no count, no decision and no covariance
+  pub values : (y′ : List Float) → demand.Alike y y′ → {s : Outcome} {c : CovParts} {c′ : MeanParts} → Called x o y′ w w′ s c c′ → seen.Blind r s b c
+  values y′ alike other = seen.blind call other (by-kinds x o y y′ (demand.alike-kinds y y′ alike) w w′)
+
+  -- and a finite reading judged no news changes nothing: another finite number in its place leaves all as it was, a gap all but the count heard
+  module _ (k : ℕ) (h : seen.NoNews y r b k) where
+    pub number : (v : Float) → T (isFinite v) → {s : Outcome} {c : CovParts} {c′ : MeanParts} → Called x o (set y k v) w w′ s c c′ → seen.Same r s b c b′ c′
+    number v f other = seen.same call other (sym (demand.no-news x o y w w′ k (seen.no-news call h) .number v f))
+
+    pub gap : {s : Outcome} {c : CovParts} {c′ : MeanParts} → Called x o (set y k nan) w w′ s c c′ → seen.OneLess r s × seen.SameParts b c b′ c′
+    gap other = let u = demand.no-news x o y w w′ k (seen.no-news call h) in seen.one-less call other h (u .gapCov) (u .gapMean)

@@ -1,0 +1,183 @@
+-- What a caller sees of a call, and what a promise of the filter's parts says of two calls. Filter and Smooth have the theorems on the two calls.
+use mathlib.Core.Path.{_≡_, refl, sym, ap, ap₂, _∙_, subst}
+use Prim.Native.Nat.{ℕ, zero, suc, _<_}
+use native.Mathlib.Omega.{arith}
+use mathlib.Core.List.{List}
+use lib.ListN.{getD}
+use lib.Dec.{T}
+use lib.Ieee.{Float}
+use Rattle.definition.specs.Num.{0ᶠ, isFinite, at}
+use Rattle.definition.specs.Parts.{CovPart, MeanPart}
+use Rattle.definition.specs.Inputs.{Model}
+use Rattle.definition.specs.Outcome.{CovParts, MeanParts, Counts, CovOutcome, MeanOutcome, kindsNeed, covNeed, meanNeed}
+use Rattle.demands.specs.Refusals.{Blanked, Blank}
+use Rattle.demands.specs.Values as values
+use Rattle.mean.specs.declared.Answer.{Answer}
+use Rattle.passes.specs.View.{answerIn}
+use Rattle.filter.specs.declared.Outcome.{Outcome}
+use Rattle.filter.specs.declared.Outcome.the-variants.{Refused, Answered}
+use Rattle.filter.specs.Promise.{answerBy, Promise}
+
+-- ---- what comes back: the refusal's number, 0 for an answer; an answer's counts and log-likelihood
+
+abbrev pub refusalOf : Outcome → ℕ
+refusalOf (Refused k) = k
+refusalOf (Answered a) = 0
+
+abbrev pub countsOf : Outcome → Counts
+countsOf (Refused k) = record { dDiffuse = 0; heard = 0; news = 0 }
+countsOf (Answered a) = record { dDiffuse = a .«d_diffuse»; heard = a .heard; news = a .news }
+
+abbrev pub loglikOf : Outcome → Float
+loglikOf (Refused k) = 0ᶠ
+loglikOf (Answered a) = a .loglik
+
+-- ---- what stands in the parts afterwards, of two calls: b and b′ of the first, c and c′ of the second
+
+-- the parts that only the covariances reach
+pub record SameCovs (b c : CovParts) : Type 0 where
+  pub kinds : b .kinds ≡ c .kinds
+  pub covs : (q : CovPart) → b .part q ≡ c .part q
+
+pub record SameParts (b c : CovParts) (b′ c′ : MeanParts) : Type 0 where
+  pub covs : SameCovs b c
+  pub means : (q : MeanPart) → b′ q ≡ c′ q
+
+-- demand 3, first half: the same refusal or the same counts, and the same decisions, variances and covariances
+pub record Blind (r s : Outcome) (b c : CovParts) : Type 0 where
+  pub refusals : refusalOf r ≡ refusalOf s
+  pub counts : countsOf r ≡ countsOf s
+  pub parts : SameCovs b c
+
+-- demand 3, second half: a call that was answered, with news somewhere, judged the finite reading at place k of y no news
+pub record NoNews (y : List Float) (r : Outcome) (b : CovParts) (k : ℕ) : Type 0 where
+  pub read : T (isFinite (at y k))
+  pub news : 0 < countsOf r .news
+  pub skip : getD (b .kinds) k 9 ≡ 0
+
+-- the second answer is the first but for the count of readings heard, which is one less
+pub record OneLess (r s : Outcome) : Type 0 where
+  pub refusals : refusalOf s ≡ refusalOf r
+  pub loglik : loglikOf s ≡ loglikOf r
+  pub heard : suc (countsOf s .heard) ≡ countsOf r .heard
+  pub news : countsOf s .news ≡ countsOf r .news
+  pub dDiffuse : countsOf s .dDiffuse ≡ countsOf r .dDiffuse
+
+-- ---- through the promise
+
+abbrev countsBy : ℕ → Counts → Counts
+countsBy zero k = k
+countsBy (suc n) k = record { dDiffuse = 0; heard = 0; news = 0 }
+
+abbrev loglikBy : ℕ → Float → Float
+loglikBy zero l = l
+loglikBy (suc n) l = 0ᶠ
+
+refusal-by : (n : ℕ) (a : Answer) → refusalOf (answerBy n a) ≡ n
+unfolding answerBy
+refusal-by zero a = refl
+refusal-by (suc n) a = refl
+
+counts-by : (n : ℕ) (k : Counts) (l : Float) → countsOf (answerBy n (answerIn k l)) ≡ countsBy n k
+unfolding answerBy
+counts-by zero k l = refl
+counts-by (suc n) k l = refl
+
+loglik-by : (n : ℕ) (k : Counts) (l : Float) → loglikOf (answerBy n (answerIn k l)) ≡ loglikBy n l
+unfolding answerBy
+loglik-by zero k l = refl
+loglik-by (suc n) k l = refl
+
+news-by : (n : ℕ) (k : Counts) → 0 < countsBy n k .news → (n ≡ 0) × (0 < k .news)
+news-by zero k h = (refl, h)
+news-by (suc n) k h = absurd (omega arith)
+
+module _ {u : CovOutcome × MeanOutcome} {r : Outcome} {b : CovParts} {b′ : MeanParts} (p : Promise u r b b′) where
+  pub refusal-is : refusalOf r ≡ u .0 .refused
+  refusal-is = ap refusalOf (p .answer) ∙ refusal-by (u .0 .refused) _
+
+  counts-are : countsOf r ≡ countsBy (u .0 .refused) (u .0 .counts)
+  counts-are = ap countsOf (p .answer) ∙ counts-by (u .0 .refused) (u .0 .counts) (u .1 .loglik)
+
+  loglik-is : loglikOf r ≡ loglikBy (u .0 .refused) (u .1 .loglik)
+  loglik-is = ap loglikOf (p .answer) ∙ loglik-by (u .0 .refused) (u .0 .counts) (u .1 .loglik)
+
+  -- the parts are what v says, where the outcome's are
+  pub parts-are : {c : CovParts} {c′ : MeanParts} → u .0 .parts ≡ c → u .1 .parts ≡ c′ → SameParts b c b′ c′
+  parts-are e e′ =
+      record {
+        covs = record { kinds = p .kinds ∙ ap (λ (z : CovParts). z .kinds) e; covs = λ q. p .cov q ∙ ap (λ (z : CovParts). z .part q) e };
+        means = λ q. p .mean q ∙ ap (λ (z : MeanParts). z q) e′;
+      }
+
+  pub blanks : {x : Model} {w : CovParts} {w′ : MeanParts} → Blank x w w′ u → Blank x w w′ (record { refused = u .0 .refused; counts = u .0 .counts; parts = b }, record { loglik = u .1 .loglik; parts = b′ })
+  blanks z = record { kinds = p .kinds ∙ z .kinds; covs = λ q. p .cov q ∙ z .covs q; means = λ q. p .mean q ∙ z .means q }
+
+  pub no-news : {y : List Float} {k : ℕ} → NoNews y r b k → values.NoNews y (u .0) k
+  no-news {y} {k} h =
+      record {
+        read = h .read;
+        news = news-by (u .0 .refused) (u .0 .counts) (subst (λ (z : Counts). 0 < z .news) counts-are (h .news)) .1;
+        skip = ap (λ (z : List ℕ). getD z k 9) (sym (p .kinds)) ∙ h .skip;
+      }
+
+  answered : {y : List Float} {k : ℕ} → NoNews y r b k → u .0 .refused ≡ 0
+  answered h = news-by (u .0 .refused) (u .0 .counts) (subst (λ (z : Counts). 0 < z .news) counts-are (h .news)) .0
+
+-- two calls of one outcome: nothing is left open
+pub record Same (r s : Outcome) (b c : CovParts) (b′ c′ : MeanParts) : Type 0 where
+  pub results : r ≡ s
+  pub parts : SameParts b c b′ c′
+
+module _ {u v : CovOutcome × MeanOutcome} {r s : Outcome} {b c : CovParts} {b′ c′ : MeanParts} (p : Promise u r b b′) (q : Promise v s c c′) where
+  pub same : u ≡ v → Same r s b c b′ c′
+  same e =
+      record {
+        results = p .answer ∙ ap (λ (z : CovOutcome × MeanOutcome). answerBy (z .0 .refused) (answerIn (z .0 .counts) (z .1 .loglik))) e ∙ sym (q .answer);
+        parts =
+            record {
+              covs =
+                  record {
+                    kinds = p .kinds ∙ ap (λ (z : CovOutcome × MeanOutcome). z .0 .parts .kinds) e ∙ sym (q .kinds);
+                    covs = λ k. p .cov k ∙ ap (λ (z : CovOutcome × MeanOutcome). z .0 .parts .part k) e ∙ sym (q .cov k);
+                  };
+              means = λ k. p .mean k ∙ ap (λ (z : CovOutcome × MeanOutcome). z .1 .parts k) e ∙ sym (q .mean k);
+            };
+      }
+
+  -- of one covariance half
+  pub blind : u .0 ≡ v .0 → Blind r s b c
+  blind e =
+      record {
+        refusals = refusal-is p ∙ ap (λ (z : CovOutcome). z .refused) e ∙ sym (refusal-is q);
+        counts = counts-are p ∙ ap (λ (z : CovOutcome). countsBy (z .refused) (z .counts)) e ∙ sym (counts-are q);
+        parts =
+            record {
+              kinds = p .kinds ∙ ap (λ (z : CovOutcome). z .parts .kinds) e ∙ sym (q .kinds);
+              covs = λ k. p .cov k ∙ ap (λ (z : CovOutcome). z .parts .part k) e ∙ sym (q .cov k);
+            };
+      }
+
+  -- of outcomes that differ in the count heard alone, the first answered
+  pub one-less : {y : List Float} {k : ℕ} → NoNews y r b k → values.OneLess (u .0) (v .0) → v .1 ≡ u .1 → OneLess r s × SameParts b c b′ c′
+  one-less h d e =
+      let ur : u .0 .refused ≡ 0 = answered p h in
+      let vr : v .0 .refused ≡ 0 = d .refusals ∙ ur in
+      let cr : countsOf r ≡ u .0 .counts = counts-are p ∙ ap (λ (n : ℕ). countsBy n (u .0 .counts)) ur in
+      let cs : countsOf s ≡ v .0 .counts = counts-are q ∙ ap (λ (n : ℕ). countsBy n (v .0 .counts)) vr in (
+        record {
+          refusals = refusal-is q ∙ d .refusals ∙ sym (refusal-is p);
+          loglik = loglik-is q ∙ ap₂ (λ (n : ℕ) (z : MeanOutcome). loglikBy n (z .loglik)) (d .refusals) e ∙ sym (loglik-is p);
+          heard = ap (λ (z : Counts). suc (z .heard)) cs ∙ d .heard ∙ ap (λ (z : Counts). z .heard) (sym cr);
+          news = ap (λ (z : Counts). z .news) cs ∙ d .news ∙ ap (λ (z : Counts). z .news) (sym cr);
+          dDiffuse = ap (λ (z : Counts). z .dDiffuse) cs ∙ d .dDiffuse ∙ ap (λ (z : Counts). z .dDiffuse) (sym cr);
+        },
+        record {
+          covs =
+              record {
+                kinds = p .kinds ∙ ap (λ (z : CovParts). z .kinds) (sym (d .parts)) ∙ sym (q .kinds);
+                covs = λ k. p .cov k ∙ ap (λ (z : CovParts). z .part k) (sym (d .parts)) ∙ sym (q .cov k);
+              };
+          means = λ k. p .mean k ∙ ap (λ (z : MeanOutcome). z .parts k) (sym e) ∙ sym (q .mean k);
+        },
+      )

@@ -1,0 +1,104 @@
+-- The passes back, between the run that wrote what they read and the outcome's smoothed moments.
+use mathlib.Core.Path.{_≡_, refl, sym, ap, _∙_}
+use Prim.Native.Nat.{ℕ, _*_, _/_, _≤_}
+use native.Mathlib.Omega.{arith}
+use mathlib.Core.Bool.{Bool, true, false, _&&_}
+use mathlib.Core.List.{List, map}
+use lib.ListN.{length, length-map}
+use lib.Dec.{leb}
+use lib.Ieee.{Float}
+use Rattle.definition.specs.Run.{join, count}
+use Rattle.definition.specs.Cov.{CovPeriod}
+use Rattle.definition.specs.Mean.{MeanPeriod}
+use Rattle.definition.specs.Smooth.{lookOf, meanLookOf, smoothCov, smoothMean}
+use Rattle.definition.specs.Parts.{predCov, predInf, filtCov, fStar, fInf, mStar, mInf, predMean, filtMean, innovations}
+use Rattle.definition.specs.Inputs.{Model, Offsets, kindOf, frameOf}
+use Rattle.definition.specs.Outcome.{CovParts, MeanParts, smoothedCovNeed, smoothedMeanNeed, roomy, roomySmoothed, covOf, meanOf, countsOf}
+use Rattle.laws.specs.Accepted.{Accepted, RoomySmoothed, room-smoothed}
+use Rattle.laws.specs.Flat.{Flat, looks, meanLooks}
+use Rattle.laws.specs.Passes.{Laid}
+use Rattle.blank.specs.Stretches.{Sizes, SmoothedRoom}
+use Rattle.passes.specs.View.{covParts, meanParts, Fit, Ran}
+use Rattle.mean.specs.View.{flatIn}
+use Rattle.mean.specs.declared.Answer.{Answer}
+use Rattle.cov_back.specs.Call as cov-call
+use Rattle.cov_back.specs.Looked as cov-looked
+use Rattle.mean_back.specs.Call as mean-call
+use Rattle.mean_back.specs.Looked as mean-looked
+use Rattle.passes_back.specs.View.{ReadyBack, Back}
+
+as-long : {n a b : ℕ} → n ≤ b → a ≡ b → n ≤ a
+as-long h e = omega arith
+
+first : (a b c : Bool) → (a && b && c) ≡ true → a ≡ true
+first true b c e = refl
+first false b c e = e
+
+-- ---- past refusals 1 to 11
+
+-- w and w′ are the filter's parts as they were lent, sm and sc the smoothed ones
+module _ {x : Model} {o : Offsets} {y : ℕ} (w : CovParts) (w′ : MeanParts) (sm sc : List Float) (f : Accepted x o y (roomySmoothed x w w′ sc sm)) where
+  room : RoomySmoothed x w w′ (length sc) (length sm)
+  room = room-smoothed x w w′ sc sm (f .roomy)
+
+  pub fit : Fit x o y w w′
+  unfolding roomySmoothed
+  fit = record { accepted = record { sizes = f .sizes; inputs = f .inputs; readings = f .readings; roomy = first (roomy x w w′) (leb (smoothedCovNeed x) (length sc)) (leb (smoothedMeanNeed x) (length sm)) (f .roomy) } }
+
+  pub smoothed-room : {lm lc : ℕ} → lm ≡ length sm → lc ≡ length sc → SmoothedRoom (x .p) (x .m) (x .n) lm lc
+  unfolding smoothedCovNeed smoothedMeanNeed
+  smoothed-room e e′ =
+      record {
+        sizes = record { p8 = f .sizes .p8; m8 = f .sizes .m8; n4096 = f .sizes .n4096 };
+        mean = as-long (room .mean) e;
+        cov = as-long (room .cov) e′;
+      }
+
+  pub ready : (k : List ℕ) (a b c d : List Float) {pm pc pi v lm lc : ℕ} → pm ≡ length (w′ predMean) → pc ≡ length (w .part predCov) → pi ≡ length (w .part predInf) → v ≡ length (w′ innovations) → length k ≡ length (w .kinds) → length a ≡ length (w .part fStar) → length b ≡ length (w .part fInf) → length c ≡ length (w .part mStar) → length d ≡ length (w .part mInf) → lm ≡ length sm → lc ≡ length sc
+      → ReadyBack (x .p) (x .m) (x .n) (length (x .zOnce)) (length (x .zList)) (length (x .t)) pm pc pi v (flatIn k a b c d) lm lc
+  ready k a b c d {pm} {pc} {pi} {v} {lm} {lc} epm epc epi ev ek ea eb ec ed em es =
+      let r = room .filter in
+      let hpc = as-long (r .cov predCov) epc in
+      let hpi = as-long (r .cov predInf) epi in
+      let hk = as-long (r .kinds) ek in
+      let ha = as-long (r .cov fStar) ea in
+      let hb = as-long (r .cov fInf) eb in
+      let hc = as-long (r .cov mStar) ec in
+      let hd = as-long (r .cov mInf) ed in
+      record {
+        p0 = f .sizes .p0;
+        p8 = f .sizes .p8;
+        m0 = f .sizes .m0;
+        m8 = f .sizes .m8;
+        covs = λ listed e. cov-call.ready x o pc pi (flatIn k a b c d) f e hpc hpi hk ha hb hc hd;
+        means = λ listed e. mean-call.ready x o pm pc pi v (flatIn k a b c d) lm f e (as-long (r .mean predMean) epm) hpc hpi (as-long (r .mean innovations) ev) hk ha hb hc hd (as-long (room .mean) em);
+        cov-room = cov-call.own-room x o (as-long (room .cov) es);
+      }
+
+-- ---- over what the run left: the outcome's
+
+pub record Smoothed (x : Model) (o : Offsets) (y : List Float) (sm₀ sm sc₀ sc : List Float) : Type 0 where
+  pub mean : Laid (smoothedMeanNeed x) (join (smoothMean (frameOf x) (covOf x (map kindOf y) .0) (meanOf x o (covOf x (map kindOf y) .0) y .0))) sm₀ sm
+  pub cov : Laid (smoothedCovNeed x) (join (smoothCov (frameOf x) (covOf x (map kindOf y) .0))) sc₀ sc
+
+module _ (x : Model) (o : Offsets) (y : List Float) {a : Answer} {w b : CovParts} {w′ b′ : MeanParts} (star : length (x .pStar) ≡ x .m * x .m) (start : length (o .a1) ≡ x .m) (readings : length y ≡ x .n * x .p) (r : Ran x o y a w b w′ b′) where
+  diffuse-is : a .«d_diffuse» ≡ count (λ c. c .diffuse) (covOf x (map kindOf y) .0)
+  unfolding countsOf
+  diffuse-is = ap (λ (q : Answer). q .«d_diffuse») (r .answer)
+
+  abbrev flat : Flat
+  flat = flatIn (b .kinds) (b .part fStar) (b .part fInf) (b .part mStar) (b .part mInf)
+
+  looked : looks (x .n) (x .p) (x .m) (a .«d_diffuse») (b .part predCov) (b .part predInf) flat ≡ map lookOf (covOf x (map kindOf y) .0)
+  looked = cov-looked.looked x (map kindOf y) (a .«d_diffuse») star (length-map y kindOf ∙ readings) diffuse-is (r .cov predCov) (r .cov predInf) (r .kinds) (r .cov fStar) (r .cov fInf) (r .cov mStar) (r .cov mInf)
+
+  means-looked : meanLooks (x .n) (x .p) (x .m) (b′ predMean) (b′ innovations) ≡ map meanLookOf (meanOf x o (covOf x (map kindOf y) .0) y .0)
+  means-looked = mean-looked.means-looked x o (map kindOf y) y (length-map y kindOf ∙ readings) readings start (r .mean predMean) (r .mean innovations)
+
+  pub smoothed : {sm₀ sm sc₀ sc : List Float} → Back (x .p) (x .m) (x .n) (a .«d_diffuse») (x .zOnce) (x .zList) (x .t) (b′ predMean) (b .part predCov) (b .part predInf) (b′ innovations) flat sm₀ sm sc₀ sc → Smoothed x o y sm₀ sm sc₀ sc
+  unfolding smoothedCovNeed smoothedMeanNeed
+  smoothed {sm₀} {sm} {sc₀} {sc} k =
+      record {
+        mean = rw (mean-call.run-of x o (covOf x (map kindOf y) .0) (meanOf x o (covOf x (map kindOf y) .0) y .0) (a .«d_diffuse») (b′ predMean) (b .part predCov) (b .part predInf) (b′ innovations) flat looked means-looked) at (k .mean);
+        cov = rw (cov-call.run-of x o (covOf x (map kindOf y) .0) (looks (x .n) (x .p) (x .m) (a .«d_diffuse») (b .part predCov) (b .part predInf) flat) looked) at (k .cov);
+      }
