@@ -1,0 +1,260 @@
+// A case's call of the filter: patterned outputs are lent, the call is made, and all that it answers and leaves is compared.
+ghost use mathlib.Core.Path.{_≡_};
+ghost use Prim.Native.Nat.{_≤_, _<_, _+_};
+ghost use lib.ListN.{length};
+use crate::found::Found;
+use crate::found::OUTPUTS;
+use crate::found::compare;
+use crate::words::PATTERN;
+use crate::words::PATTERN_BYTE;
+use crate::words::Span;
+use crate::words::bytes;
+use crate::words::doubles;
+use crate::words::lent;
+use crate::words::size;
+use crate::words::stretch;
+use crate::words::wide;
+use crate::words::word;
+
+// Input j, as a part of the case's doubles.
+fn input<'a>(numbers: &'a [f64], case: &[u8], j: usize) -> &'a [f64]
+    requires { ⌜ j < 12 ⌝ }
+{
+    let s = stretch(case, j);
+    let a = s.from;
+    let b = s.to;
+    if b > numbers.len() {
+        return numbers;
+    }
+    &numbers[a..b]
+}
+
+// The flags, as a part of the case's bytes.
+fn flags<'a>(low: &'a [u8], case: &[u8]) -> &'a [u8] {
+    let s = stretch(case, 10);
+    let a = s.from;
+    let b = s.to;
+    if b > low.len() {
+        return low;
+    }
+    &low[a..b]
+}
+
+// The call on the case's inputs.
+fn call(
+    case: &[u8],
+    numbers: &[f64],
+    low: &[u8],
+    pred_mean: &mut [f64],
+    pred_cov: &mut [f64],
+    pred_inf: &mut [f64],
+    filt_mean: &mut [f64],
+    filt_cov: &mut [f64],
+    kinds: &mut [u8],
+    v: &mut [f64],
+    f_star: &mut [f64],
+    f_inf: &mut [f64],
+    m_star: &mut [f64],
+    m_inf: &mut [f64],
+) -> filter::Outcome {
+    filter::filter_univariate(
+        size(case, 2),
+        size(case, 3),
+        size(case, 4),
+        size(case, 5),
+        input(numbers, case, 0),
+        input(numbers, case, 1),
+        input(numbers, case, 2),
+        input(numbers, case, 3),
+        input(numbers, case, 4),
+        input(numbers, case, 5),
+        input(numbers, case, 6),
+        input(numbers, case, 7),
+        input(numbers, case, 8),
+        input(numbers, case, 9),
+        flags(low, case),
+        input(numbers, case, 11),
+        pred_mean,
+        pred_cov,
+        pred_inf,
+        filt_mean,
+        filt_cov,
+        kinds,
+        v,
+        f_star,
+        f_inf,
+        m_star,
+        m_inf,
+    )
+}
+
+// The answer against the case's: the refusal is word 31, the answer words 33 to 36.
+fn answer(case: &[u8], o: filter::Outcome) -> Found {
+    let f = crate::found::nothing();
+    match o {
+        filter::Outcome::Refused(k) => compare(f, 0, 0, word(case, 31), k as u64),
+        filter::Outcome::Answered(a) => {
+            let f = compare(f, 0, 0, word(case, 31), 0);
+            let f = compare(f, 1, 0, word(case, 33), bits::pattern(a.loglik));
+            let f = compare(f, 2, 0, word(case, 34), a.d_diffuse as u64);
+            let f = compare(f, 3, 0, word(case, 35), a.heard as u64);
+            compare(f, 4, 0, word(case, 36), a.news as u64)
+        }
+    }
+}
+
+// A call that is refused 1 to 11 writes nothing.
+fn writes(case: &[u8]) -> bool {
+    let k = word(case, 31);
+    (k == 0) | (k == 12)
+}
+
+// What place i of output k must hold: the case's word where the call writes, and the pattern past that.
+fn wanted(case: &[u8], s: Span, i: usize, pattern: u64) -> u64
+    requires { ⌜ (s .from ≤ 8192) × (i < 1024) ⌝ }
+{
+    if writes(case) {
+        if s.from + i < s.to {
+            return word(case, s.from + i);
+        }
+    }
+    pattern
+}
+
+// Output k against the case's: every place lent.
+fn output(f: Found, out: &[f64; 1024], case: &[u8], k: usize) -> Found
+    requires { ⌜ k < 11 ⌝ }
+{
+    let s = stretch(case, 12 + k);
+    let n = lent(case, k);
+    let mut f = f;
+    for i in 0..n {
+        f = compare(
+            f,
+            OUTPUTS + k,
+            i,
+            wanted(case, s, i, PATTERN),
+            bits::pattern(out[i]),
+        );
+    }
+    f
+}
+
+fn kinds_output(f: Found, out: &[u8; 1024], case: &[u8]) -> Found {
+    let s = stretch(case, 17);
+    let n = lent(case, 5);
+    let mut f = f;
+    for i in 0..n {
+        f = compare(
+            f,
+            OUTPUTS + 5,
+            i,
+            wanted(case, s, i, PATTERN_BYTE),
+            wide(out[i]),
+        );
+    }
+    f
+}
+
+fn moments(
+    f: Found,
+    case: &[u8],
+    pred_mean: &[f64; 1024],
+    pred_cov: &[f64; 1024],
+    pred_inf: &[f64; 1024],
+    filt_mean: &[f64; 1024],
+    filt_cov: &[f64; 1024],
+) -> Found {
+    let f = output(f, pred_mean, case, 0);
+    let f = output(f, pred_cov, case, 1);
+    let f = output(f, pred_inf, case, 2);
+    let f = output(f, filt_mean, case, 3);
+    output(f, filt_cov, case, 4)
+}
+
+fn records(
+    f: Found,
+    case: &[u8],
+    kinds: &[u8; 1024],
+    v: &[f64; 1024],
+    f_star: &[f64; 1024],
+    f_inf: &[f64; 1024],
+    m_star: &[f64; 1024],
+    m_inf: &[f64; 1024],
+) -> Found {
+    let f = kinds_output(f, kinds, case);
+    let f = output(f, v, case, 6);
+    let f = output(f, f_star, case, 7);
+    let f = output(f, f_inf, case, 8);
+    let f = output(f, m_star, case, 9);
+    output(f, m_inf, case, 10)
+}
+
+// What an output holds before a call.
+fn patterned() -> [f64; 1024]
+    ensures { λ r. ⌜ 1024 ≡ length r ⌝ }
+{
+    let x = bits::double(PATTERN);
+    [x; 1024]
+}
+
+fn patterned_bytes() -> [u8; 1024]
+    ensures { λ r. ⌜ 1024 ≡ length r ⌝ }
+{
+    [0xA5; 1024]
+}
+
+// The first difference of the case's call of the filter.
+pub fn replay(case: &[u8]) -> Found {
+    let numbers = doubles(case);
+    let low = bytes(case);
+    let mut pred_mean = patterned();
+    let mut pred_cov = patterned();
+    let mut pred_inf = patterned();
+    let mut filt_mean = patterned();
+    let mut filt_cov = patterned();
+    let mut kinds = patterned_bytes();
+    let mut v = patterned();
+    let mut f_star = patterned();
+    let mut f_inf = patterned();
+    let mut m_star = patterned();
+    let mut m_inf = patterned();
+    let l0 = lent(case, 0);
+    let l1 = lent(case, 1);
+    let l2 = lent(case, 2);
+    let l3 = lent(case, 3);
+    let l4 = lent(case, 4);
+    let l5 = lent(case, 5);
+    let l6 = lent(case, 6);
+    let l7 = lent(case, 7);
+    let l8 = lent(case, 8);
+    let l9 = lent(case, 9);
+    let l10 = lent(case, 10);
+    let o = call(
+        case,
+        &numbers,
+        &low,
+        &mut pred_mean[..l0],
+        &mut pred_cov[..l1],
+        &mut pred_inf[..l2],
+        &mut filt_mean[..l3],
+        &mut filt_cov[..l4],
+        &mut kinds[..l5],
+        &mut v[..l6],
+        &mut f_star[..l7],
+        &mut f_inf[..l8],
+        &mut m_star[..l9],
+        &mut m_inf[..l10],
+    );
+    let f = answer(case, o);
+    let f = moments(
+        f,
+        case,
+        &pred_mean,
+        &pred_cov,
+        &pred_inf,
+        &filt_mean,
+        &filt_cov,
+    );
+    records(f, case, &kinds, &v, &f_star, &f_inf, &m_star, &m_inf)
+}

@@ -1,0 +1,99 @@
+// Replays a case file (oracle/FORMAT.md), which comes by standard input: each case's call is made, and all that it answers and leaves is compared
+// bit for bit, all NaNs as one. Prints how many cases there were and how many differ, and the first difference.
+ghost use Prim.Native.Nat.{_≤_};
+
+mod filter_half;
+mod found;
+mod words;
+
+// "GOXCASE1".
+const MAGIC: u64 = 0x474F_5843_4153_4531;
+
+// Reads from byte `from` up to byte `to`, if the buffer has them.
+fn read(case: &mut [u8], from: usize, to: usize) -> bool {
+    if to > case.len() {
+        return false;
+    }
+    if from > to {
+        return false;
+    }
+    let n = io::read_full(0, &mut case[from..to]);
+    n == to - from
+}
+
+// How many cases the file says it has; none if it is no case file.
+fn header(case: &mut [u8]) -> usize {
+    if !read(case, 0, 40) {
+        return 0;
+    }
+    if words::word(case, 0) != MAGIC {
+        return 0;
+    }
+    words::size(case, 1)
+}
+
+// The next case, whole: its first word says how many it has.
+fn next(case: &mut [u8]) -> bool {
+    if !read(case, 0, 8) {
+        return false;
+    }
+    let k = words::size(case, 0);
+    if k < 50 {
+        return false;
+    }
+    if k > 8192 {
+        return false;
+    }
+    read(case, 8, 8 * k)
+}
+
+// How many cases were replayed and how many differ, with the first that does.
+struct Tally {
+    cases: u64,
+    differ: u64,
+    at: u64,
+    first: found::Found,
+}
+
+fn add(t: Tally, f: found::Found) -> Tally {
+    let mut t = t;
+    if f.differs {
+        if t.differ == 0 {
+            t.at = t.cases;
+            t.first = f;
+        }
+        t.differ = std::num::wrapping_add_u64(t.differ, 1);
+    }
+    t.cases = std::num::wrapping_add_u64(t.cases, 1);
+    t
+}
+
+fn print(t: Tally) {
+    io::print_decimal(1, t.cases);
+    io::write_all(1, b" cases, ");
+    io::print_decimal(1, t.differ);
+    io::write_all(1, b" differ\n");
+    if t.differ > 0 {
+        let f = t.first;
+        found::print(t.at, f);
+    }
+}
+
+fn main() {
+    let mut case = io::large_buffer();
+    let n = header(&mut case);
+    let mut t = Tally {
+        cases: 0,
+        differ: 0,
+        at: 0,
+        first: found::nothing(),
+    };
+    for k in 0..n {
+        if !next(&mut case) {
+            break;
+        }
+        // The smoother's half comes here: add(t, smoother_half::replay(&case)), a second call of the same case.
+        t = add(t, filter_half::replay(&case));
+    }
+    print(t);
+}
