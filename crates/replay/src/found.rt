@@ -64,7 +64,9 @@ fn print_record(part: usize) {
         12 => io::write_all(1, b"f_star"),
         13 => io::write_all(1, b"f_inf"),
         14 => io::write_all(1, b"m_star"),
-        _ => io::write_all(1, b"m_inf"),
+        15 => io::write_all(1, b"m_inf"),
+        16 => io::write_all(1, b"sm_mean"),
+        _ => io::write_all(1, b"sm_cov"),
     }
     ;
 }

@@ -1,9 +1,10 @@
-// Replays a case file (oracle/FORMAT.md), which comes by standard input: each case's call is made, and all that it answers and leaves is compared
-// bit for bit, all NaNs as one. Prints how many cases there were and how many differ, and the first difference.
+// Replays a case file (oracle/FORMAT.md), which comes by standard input: each case's two calls are made, of the filter and of the
+// smoother, and all that they answer and leave is compared bit for bit, all NaNs as one. Prints how many cases there were and how many differ, and
+// the first difference.
 ghost use Prim.Native.Nat.{_≤_};
 
-mod filter_half;
 mod found;
+mod sides;
 mod words;
 
 // "GOXCASE1".
@@ -79,6 +80,15 @@ fn print(t: Tally) {
     }
 }
 
+// The first difference of the two calls, the filter's before the smoother's.
+fn both(case: &[u8]) -> found::Found {
+    let f = sides::replay(case, sides::Half::Filter);
+    if f.differs {
+        return f;
+    }
+    sides::replay(case, sides::Half::Smoother)
+}
+
 fn main() {
     let mut case = io::large_buffer();
     let n = header(&mut case);
@@ -92,8 +102,7 @@ fn main() {
         if !next(&mut case) {
             break;
         }
-        // The smoother's half comes here: add(t, smoother_half::replay(&case)), a second call of the same case.
-        t = add(t, filter_half::replay(&case));
+        t = add(t, both(&case));
     }
     print(t);
 }

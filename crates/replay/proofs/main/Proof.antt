@@ -34,11 +34,11 @@ slice-aggregate-next c = sym (c .before .before .loop .inv .1)
 next-requires : tie.Need-next-requires Inv-loop μ-loop
 next-requires c κs = search needs
 
-slice-aggregate-replay : tie.Need-slice-aggregate-replay Inv-loop μ-loop
-slice-aggregate-replay c = let r = c .before .before .before in sym (r .next .kept .0 ∙ r .before .before .before .loop .inv .1)
+slice-aggregate-both : tie.Need-slice-aggregate-both Inv-loop μ-loop
+slice-aggregate-both c = let r = c .before .before .before in sym (r .next .kept .0 ∙ r .before .before .before .loop .inv .1)
 
-replay-requires : tie.Need-replay-requires Inv-loop μ-loop
-replay-requires c κs = search needs
+both-requires : tie.Need-both-requires Inv-loop μ-loop
+both-requires c κs = search needs
 
 add-requires : tie.Need-add-requires Inv-loop μ-loop
 add-requires c κs = search needs
@@ -71,8 +71,8 @@ main-spec =
     loop-holds
     slice-aggregate-next
     next-requires
-    slice-aggregate-replay
-    replay-requires
+    slice-aggregate-both
+    both-requires
     add-requires
     add-k
     loop-less

@@ -1,14 +1,14 @@
--- `replay::filter_half::kinds_output` meets its contract. Assumes nothing.
+-- `replay::sides::kinds_output` meets its contract. Assumes nothing.
 use Prim.Native.Nat.{_≤_, _-_}
 use borrow.Author.Needs.{needs}
-use Rattle.replay.proofs.filter_half.kinds_output.Statement.{statement}
-use Rattle.replay.proofs.filter_half.kinds_output.Tie as tie
+use Rattle.replay.proofs.sides.kinds_output.Statement.{statement}
+use Rattle.replay.proofs.sides.kinds_output.Tie as tie
 
 abbrev Inv-loop : tie.InvT-loop
-Inv-loop out case s n f₀ i₀ f i = (i ≤ n) × (n ≤ 1024) × (s .from ≤ 8192)
+Inv-loop out case refusal s n f₀ i₀ f i = (i ≤ n) × (n ≤ 1024) × (s .from ≤ 8192)
 
 abbrev μ-loop : tie.MeasureT-loop
-μ-loop out case s n f₀ i₀ f i = n - i
+μ-loop out case refusal s n f₀ i₀ f i = n - i
 
 stretch-requires : tie.Need-stretch-requires Inv-loop μ-loop
 stretch-requires c κs = search needs

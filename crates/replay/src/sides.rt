@@ -1,4 +1,4 @@
-// A case's call of the filter: patterned outputs are lent, the call is made, and all that it answers and leaves is compared.
+// A case's call, of the filter or of the smoother: patterned outputs are lent, the call is made, and all that it answers and leaves is compared.
 ghost use mathlib.Core.Path.{_≡_};
 ghost use Prim.Native.Nat.{_≤_, _<_, _+_};
 ghost use lib.ListN.{length};
@@ -15,6 +15,22 @@ use crate::words::size;
 use crate::words::stretch;
 use crate::words::wide;
 use crate::words::word;
+
+// Which of a case's two calls.
+pub enum Half {
+    Filter,
+    Smoother,
+}
+
+// The word that has its refusal.
+fn refusal_word(which: Half) -> usize
+    ensures { λ r. ⌜ r ≤ 32 ⌝ }
+{
+    match which {
+        Half::Filter => 31,
+        Half::Smoother => 32,
+    }
+}
 
 // Input j, as a part of the case's doubles.
 fn input<'a>(numbers: &'a [f64], case: &[u8], j: usize) -> &'a [f64]
@@ -40,8 +56,7 @@ fn flags<'a>(low: &'a [u8], case: &[u8]) -> &'a [u8] {
     &low[a..b]
 }
 
-// The call on the case's inputs.
-fn call(
+fn filtered(
     case: &[u8],
     numbers: &[f64],
     low: &[u8],
@@ -88,13 +103,122 @@ fn call(
     )
 }
 
-// The answer against the case's: the refusal is word 31, the answer words 33 to 36.
-fn answer(case: &[u8], o: filter::Outcome) -> Found {
+fn smoothed(
+    case: &[u8],
+    numbers: &[f64],
+    low: &[u8],
+    pred_mean: &mut [f64],
+    pred_cov: &mut [f64],
+    pred_inf: &mut [f64],
+    filt_mean: &mut [f64],
+    filt_cov: &mut [f64],
+    kinds: &mut [u8],
+    v: &mut [f64],
+    f_star: &mut [f64],
+    f_inf: &mut [f64],
+    m_star: &mut [f64],
+    m_inf: &mut [f64],
+    sm_mean: &mut [f64],
+    sm_cov: &mut [f64],
+) -> filter::Outcome {
+    smoother::smooth_univariate(
+        size(case, 2),
+        size(case, 3),
+        size(case, 4),
+        size(case, 5),
+        input(numbers, case, 0),
+        input(numbers, case, 1),
+        input(numbers, case, 2),
+        input(numbers, case, 3),
+        input(numbers, case, 4),
+        input(numbers, case, 5),
+        input(numbers, case, 6),
+        input(numbers, case, 7),
+        input(numbers, case, 8),
+        input(numbers, case, 9),
+        flags(low, case),
+        input(numbers, case, 11),
+        pred_mean,
+        pred_cov,
+        pred_inf,
+        filt_mean,
+        filt_cov,
+        kinds,
+        v,
+        f_star,
+        f_inf,
+        m_star,
+        m_inf,
+        sm_mean,
+        sm_cov,
+    )
+}
+
+// The call on the case's inputs. The filter's sees neither of the smoothed parts.
+fn call(
+    case: &[u8],
+    numbers: &[f64],
+    low: &[u8],
+    pred_mean: &mut [f64],
+    pred_cov: &mut [f64],
+    pred_inf: &mut [f64],
+    filt_mean: &mut [f64],
+    filt_cov: &mut [f64],
+    kinds: &mut [u8],
+    v: &mut [f64],
+    f_star: &mut [f64],
+    f_inf: &mut [f64],
+    m_star: &mut [f64],
+    m_inf: &mut [f64],
+    sm_mean: &mut [f64],
+    sm_cov: &mut [f64],
+    which: Half,
+) -> filter::Outcome {
+    match which {
+        Half::Filter => filtered(
+            case,
+            numbers,
+            low,
+            pred_mean,
+            pred_cov,
+            pred_inf,
+            filt_mean,
+            filt_cov,
+            kinds,
+            v,
+            f_star,
+            f_inf,
+            m_star,
+            m_inf,
+        ),
+        Half::Smoother => smoothed(
+            case,
+            numbers,
+            low,
+            pred_mean,
+            pred_cov,
+            pred_inf,
+            filt_mean,
+            filt_cov,
+            kinds,
+            v,
+            f_star,
+            f_inf,
+            m_star,
+            m_inf,
+            sm_mean,
+            sm_cov,
+        ),
+    }
+}
+
+// The answer against the case's: words 33 to 36.
+fn answer(case: &[u8], o: filter::Outcome, refusal: u64) -> Found {
     let f = crate::found::nothing();
     match o {
-        filter::Outcome::Refused(k) => compare(f, 0, 0, word(case, 31), k as u64),
+        filter::Outcome::Refused(k) => compare(f, 0, 0, refusal, k as u64),
         filter::Outcome::Answered(a) => {
-            let f = compare(f, 0, 0, word(case, 31), 0);
+            let f = compare(f, 0, 0, refusal, 0);
             let f = compare(f, 1, 0, word(case, 33), bits::pattern(a.loglik));
             let f = compare(f, 2, 0, word(case, 34), a.d_diffuse as u64);
             let f = compare(f, 3, 0, word(case, 35), a.heard as u64);
@@ -104,16 +228,15 @@ fn answer(case: &[u8], o: filter::Outcome) -> Found {
 }
 
 // A call that is refused 1 to 11 writes nothing.
-fn writes(case: &[u8]) -> bool {
-    let k = word(case, 31);
-    (k == 0) | (k == 12)
+fn writes(refusal: u64) -> bool {
+    (refusal == 0) | (refusal == 12)
 }
 
 // What place i of output k must hold: the case's word where the call writes, and the pattern past that.
-fn wanted(case: &[u8], s: Span, i: usize, pattern: u64) -> u64
+fn wanted(case: &[u8], s: Span, i: usize, pattern: u64, refusal: u64) -> u64
     requires { ⌜ (s .from ≤ 8192) × (i < 1024) ⌝ }
 {
-    if writes(case) {
+    if writes(refusal) {
         if s.from + i < s.to {
             return word(case, s.from + i);
         }
@@ -122,8 +245,8 @@ fn wanted(case: &[u8], s: Span, i: usize, pattern: u64) -> u64
 }
 
 // Output k against the case's: every place lent.
-fn output(f: Found, out: &[f64; 1024], case: &[u8], k: usize) -> Found
-    requires { ⌜ k < 11 ⌝ }
+fn output(f: Found, out: &[f64; 1024], case: &[u8], k: usize, refusal: u64) -> Found
+    requires { ⌜ k < 13 ⌝ }
 {
     let s = stretch(case, 12 + k);
     let n = lent(case, k);
@@ -133,14 +256,14 @@ fn output(f: Found, out: &[f64; 1024], case: &[u8], k: usize) -> Found
             f,
             OUTPUTS + k,
             i,
-            wanted(case, s, i, PATTERN),
+            wanted(case, s, i, PATTERN, refusal),
             bits::pattern(out[i]),
         );
     }
     f
 }
 
-fn kinds_output(f: Found, out: &[u8; 1024], case: &[u8]) -> Found {
+fn kinds_output(f: Found, out: &[u8; 1024], case: &[u8], refusal: u64) -> Found {
     let s = stretch(case, 17);
     let n = lent(case, 5);
     let mut f = f;
@@ -149,7 +272,7 @@ fn kinds_output(f: Found, out: &[u8; 1024], case: &[u8]) -> Found {
             f,
             OUTPUTS + 5,
             i,
-            wanted(case, s, i, PATTERN_BYTE),
+            wanted(case, s, i, PATTERN_BYTE, refusal),
             wide(out[i]),
         );
     }
@@ -164,12 +287,13 @@ fn moments(
     pred_inf: &[f64; 1024],
     filt_mean: &[f64; 1024],
     filt_cov: &[f64; 1024],
+    refusal: u64,
 ) -> Found {
-    let f = output(f, pred_mean, case, 0);
-    let f = output(f, pred_cov, case, 1);
-    let f = output(f, pred_inf, case, 2);
-    let f = output(f, filt_mean, case, 3);
-    output(f, filt_cov, case, 4)
+    let f = output(f, pred_mean, case, 0, refusal);
+    let f = output(f, pred_cov, case, 1, refusal);
+    let f = output(f, pred_inf, case, 2, refusal);
+    let f = output(f, filt_mean, case, 3, refusal);
+    output(f, filt_cov, case, 4, refusal)
 }
 
 fn records(
@@ -181,13 +305,32 @@ fn records(
     f_inf: &[f64; 1024],
     m_star: &[f64; 1024],
     m_inf: &[f64; 1024],
+    refusal: u64,
 ) -> Found {
-    let f = kinds_output(f, kinds, case);
-    let f = output(f, v, case, 6);
-    let f = output(f, f_star, case, 7);
-    let f = output(f, f_inf, case, 8);
-    let f = output(f, m_star, case, 9);
-    output(f, m_inf, case, 10)
+    let f = kinds_output(f, kinds, case, refusal);
+    let f = output(f, v, case, 6, refusal);
+    let f = output(f, f_star, case, 7, refusal);
+    let f = output(f, f_inf, case, 8, refusal);
+    let f = output(f, m_star, case, 9, refusal);
+    output(f, m_inf, case, 10, refusal)
+}
+
+// The two that the smoother's call alone sees.
+fn smoothed_outputs(
+    f: Found,
+    case: &[u8],
+    sm_mean: &[f64; 1024],
+    sm_cov: &[f64; 1024],
+    refusal: u64,
+    which: Half,
+) -> Found {
+    match which {
+        Half::Filter => f,
+        Half::Smoother => {
+            let f = output(f, sm_mean, case, 11, refusal);
+            output(f, sm_cov, case, 12, refusal)
+        }
+    }
 }
 
 // What an output holds before a call.
@@ -204,8 +347,8 @@ fn patterned_bytes() -> [u8; 1024]
     [0xA5; 1024]
 }
 
-// The first difference of the case's call of the filter.
-pub fn replay(case: &[u8]) -> Found {
+// The first difference of the call.
+pub fn replay(case: &[u8], which: Half) -> Found {
     let numbers = doubles(case);
     let low = bytes(case);
     let mut pred_mean = patterned();
@@ -219,6 +362,8 @@ pub fn replay(case: &[u8]) -> Found {
     let mut f_inf = patterned();
     let mut m_star = patterned();
     let mut m_inf = patterned();
+    let mut sm_mean = patterned();
+    let mut sm_cov = patterned();
     let l0 = lent(case, 0);
     let l1 = lent(case, 1);
     let l2 = lent(case, 2);
@@ -230,6 +375,8 @@ pub fn replay(case: &[u8]) -> Found {
     let l8 = lent(case, 8);
     let l9 = lent(case, 9);
     let l10 = lent(case, 10);
+    let l11 = lent(case, 11);
+    let l12 = lent(case, 12);
     let o = call(
         case,
         &numbers,
@@ -245,8 +392,12 @@ pub fn replay(case: &[u8]) -> Found {
         &mut f_inf[..l8],
         &mut m_star[..l9],
         &mut m_inf[..l10],
+        &mut sm_mean[..l11],
+        &mut sm_cov[..l12],
+        which,
     );
-    let f = answer(case, o);
+    let refusal = word(case, refusal_word(which));
+    let f = answer(case, o, refusal);
     let f = moments(
         f,
         case,
@@ -255,6 +406,18 @@ pub fn replay(case: &[u8]) -> Found {
         &pred_inf,
         &filt_mean,
         &filt_cov,
+        refusal,
     );
-    records(f, case, &kinds, &v, &f_star, &f_inf, &m_star, &m_inf)
+    let f = records(
+        f,
+        case,
+        &kinds,
+        &v,
+        &f_star,
+        &f_inf,
+        &m_star,
+        &m_inf,
+        refusal,
+    );
+    smoothed_outputs(f, case, &sm_mean, &sm_cov, refusal, which)
 }

@@ -1,14 +1,14 @@
--- `replay::filter_half::output` meets its contract. Assumes nothing.
+-- `replay::sides::output` meets its contract. Assumes nothing.
 use Prim.Native.Nat.{_≤_, _-_}
 use borrow.Author.Needs.{needs}
-use Rattle.replay.proofs.filter_half.output.Statement.{statement}
-use Rattle.replay.proofs.filter_half.output.Tie as tie
+use Rattle.replay.proofs.sides.output.Statement.{statement}
+use Rattle.replay.proofs.sides.output.Tie as tie
 
 abbrev Inv-loop : tie.InvT-loop
-Inv-loop out case k s n f₀ i₀ f i = (i ≤ n) × (n ≤ 1024) × (s .from ≤ 8192)
+Inv-loop out case k refusal s n f₀ i₀ f i = (i ≤ n) × (n ≤ 1024) × (s .from ≤ 8192)
 
 abbrev μ-loop : tie.MeasureT-loop
-μ-loop out case k s n f₀ i₀ f i = n - i
+μ-loop out case k refusal s n f₀ i₀ f i = n - i
 
 add-stretch : tie.Need-add-stretch Inv-loop μ-loop
 add-stretch c = search needs
