@@ -1,5 +1,5 @@
-use Rattle.judge.proofs.bound.Statement.{statement}
-use Rattle.judge.proofs.bound.Tie as tie
+use Rattle.verdict.proofs.bound.Statement.{statement}
+use Rattle.verdict.proofs.bound.Tie as tie
 use native.Mathlib.Omega.{arith}
 use mathlib.Core.Path.{_≡_}
 use Prim.Native.Nat.{_≤_, _-_}

@@ -1,7 +1,7 @@
-use Rattle.judge.proofs.against.Statement.{statement}
-use Rattle.judge.proofs.against.Tie as tie
+use Rattle.verdict.proofs.against.Statement.{statement}
+use Rattle.verdict.proofs.against.Tie as tie
 use Rattle.definition.specs.Cov.{against}
-use Rattle.judge.specs.Views.{dustOf}
+use Rattle.verdict.specs.Views.{dustOf}
 
 returns : tie.Need-returns
 unfolding against dustOf

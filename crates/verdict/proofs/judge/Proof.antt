@@ -1,7 +1,7 @@
-use Rattle.judge.proofs.judge.Statement.{statement}
-use Rattle.judge.proofs.judge.Tie as tie
+use Rattle.verdict.proofs.judge.Statement.{statement}
+use Rattle.verdict.proofs.judge.Tie as tie
 use borrow.Author.Needs.{needs}
-use Rattle.judge.proofs.Laws as laws
+use Rattle.verdict.proofs.Laws as laws
 
 returns : tie.Need-returns
 returns c = laws.judge-live _ _ _ _ _ _ _ _ _ _ _ (c .before .before .if1 .taken) (c .diffusely .ensures)

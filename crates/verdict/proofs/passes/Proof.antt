@@ -1,7 +1,7 @@
-use Rattle.judge.proofs.passes.Statement.{statement}
-use Rattle.judge.proofs.passes.Tie as tie
+use Rattle.verdict.proofs.passes.Statement.{statement}
+use Rattle.verdict.proofs.passes.Tie as tie
 use borrow.Author.Needs.{needs}
-use Rattle.judge.proofs.Laws as laws
+use Rattle.verdict.proofs.Laws as laws
 
 returns : tie.Need-returns
 returns c = laws.passes-clear _ _ (c .enum-told .given .1)

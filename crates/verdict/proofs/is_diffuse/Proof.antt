@@ -1,7 +1,7 @@
-use Rattle.judge.proofs.is_diffuse.Statement.{statement}
-use Rattle.judge.proofs.is_diffuse.Tie as tie
+use Rattle.verdict.proofs.is_diffuse.Statement.{statement}
+use Rattle.verdict.proofs.is_diffuse.Tie as tie
 use borrow.Author.Needs.{needs}
-use Rattle.judge.proofs.Laws as laws
+use Rattle.verdict.proofs.Laws as laws
 
 returns : tie.Need-returns
 returns c = laws.diffuse-both _ _ _ _ _ _ (c .before .before .abs-quad-form .ensures) (c .abs-quad-form2 .ensures) (c .before .if1 .taken)

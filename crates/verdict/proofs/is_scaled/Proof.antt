@@ -1,5 +1,5 @@
-use Rattle.judge.proofs.is_scaled.Statement.{statement}
-use Rattle.judge.proofs.is_scaled.Tie as tie
+use Rattle.verdict.proofs.is_scaled.Statement.{statement}
+use Rattle.verdict.proofs.is_scaled.Tie as tie
 use borrow.Author.Needs.{needs}
 use Rattle.definition.specs.Cov.{scaledTest}
 

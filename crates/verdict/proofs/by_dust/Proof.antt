@@ -1,7 +1,7 @@
-use Rattle.judge.proofs.by_dust.Statement.{statement}
-use Rattle.judge.proofs.by_dust.Tie as tie
+use Rattle.verdict.proofs.by_dust.Statement.{statement}
+use Rattle.verdict.proofs.by_dust.Tie as tie
 use borrow.Author.Needs.{needs}
-use Rattle.judge.proofs.Laws as laws
+use Rattle.verdict.proofs.Laws as laws
 
 returns : tie.Need-returns
 returns c = laws.ruled-live _ _ _ (c .before .before .d .given .1) (c .if1 .taken)

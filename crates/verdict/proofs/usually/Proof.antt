@@ -1,7 +1,7 @@
-use Rattle.judge.proofs.usually.Statement.{statement}
-use Rattle.judge.proofs.usually.Tie as tie
+use Rattle.verdict.proofs.usually.Statement.{statement}
+use Rattle.verdict.proofs.usually.Tie as tie
 use borrow.Author.Needs.{needs}
-use Rattle.judge.proofs.Laws as laws
+use Rattle.verdict.proofs.Laws as laws
 
 returns : tie.Need-returns
 returns c = laws.usually-scaled _ _ _ _ _ _ _ _ _ (c .before .before .before .is-scaled .ensures) (c .before .before .if1 .taken) (c .before .dust-test .ensures) (c .by-dust .ensures)

@@ -1,7 +1,7 @@
-use Rattle.judge.proofs.diffusely.Statement.{statement}
-use Rattle.judge.proofs.diffusely.Tie as tie
+use Rattle.verdict.proofs.diffusely.Statement.{statement}
+use Rattle.verdict.proofs.diffusely.Tie as tie
 use borrow.Author.Needs.{needs}
-use Rattle.judge.proofs.Laws as laws
+use Rattle.verdict.proofs.Laws as laws
 
 returns : tie.Need-returns
 returns c = laws.diffusely-yes _ _ _ _ _ _ _ _ _ _ _ (c .before .before .before .before .before .before .before .before .mat-vec .ensures) (c .before .before .before .before .before .before .f-inf .ensures) (c .before .before .before .before .before .mat-t-vec .ensures) (c .before .before .dot .ensures) (c .before .is-diffuse .ensures) (c .if1 .taken)

@@ -1,9 +1,9 @@
-use Rattle.judge.proofs.dust_test.Statement.{statement}
-use Rattle.judge.proofs.dust_test.Tie as tie
+use Rattle.verdict.proofs.dust_test.Statement.{statement}
+use Rattle.verdict.proofs.dust_test.Tie as tie
 use borrow.Author.Needs.{needs}
-use Rattle.judge.proofs.Laws as laws
+use Rattle.verdict.proofs.Laws as laws
 use Rattle.definition.specs.Cov.{dust}
-use Rattle.judge.specs.Views.{dustOf}
+use Rattle.verdict.specs.Views.{dustOf}
 
 returns : tie.Need-returns
 unfolding dust dustOf
