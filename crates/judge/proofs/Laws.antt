@@ -34,7 +34,7 @@ use Rattle.definition.specs.Cov.{
 use Rattle.definition.specs.Star.{againOf}
 use Rattle.dense.specs.Views.{vec, mat, rect}
 use Rattle.dense.proofs.Laws as dense
-use Rattle.star.specs.Views.{Holds, Downdated, projectedAt}
+use Rattle.star.specs.Views.{Sound, Holds, Downdated, projectedAt}
 use Rattle.star.specs.declared.StarRoot.{StarRoot}
 use Rattle.star.proofs.Laws as roots
 use Rattle.verdict.specs.declared.Finding.{Finding}
@@ -208,6 +208,10 @@ module _ (p m : ℕ) (hs design pre : List Float) (i : ℕ) (gap : Bool) (star :
     pub by-root-no : t ≡ false → star′ ≡ star → Recorded m i skipped n n′ → ByRoot p m hs design pre i gap star n root star′ n′ root
     by-root-no g s v = by-root z skipped root step.Passed (decided skipped (rw g)) (λ p∞ b. moved-none m i z (books star p∞ b n) (books star′ p∞ b n′) s refl refl v) (λ taken k w. (w, k))
 
-    pub by-root-yes : (root′ : StarRoot) → t ≡ true → mat m star′ ≡ outerSub m (mat m star) a (over m a f) → Recorded m i (usual f a) n n′ → Downdated z h root root′ → ByRoot p m hs design pre i gap star n root star′ n′ root′
-    by-root-yes root′ g s v u = by-root z (usual f a) root′ step.Taken (decided (usual f a) (rw g)) (λ p∞ b. moved-usual m i z (books star p∞ b n) (books star′ p∞ b n′) f a s refl refl v)
-        (λ taken k w. (roots.kept-next p m (rect p m design) hs (mat m pre) taken root w i root′ (rw (ez, eh) at u), stale-next taken i))
+    pub by-root-yes : (root′ : StarRoot) → Sound m root → t ≡ true → mat m star′ ≡ outerSub m (mat m star) a (over m a f) → Recorded m i (usual f a) n n′ → Downdated z h root root′
+        → Sound m root′ × ByRoot p m hs design pre i gap star n root star′ n′ root′
+    by-root-yes root′ q g s v u = (
+      roots.sound-by m z h root root′ q u,
+      by-root z (usual f a) root′ step.Taken (decided (usual f a) (rw g)) (λ p∞ b. moved-usual m i z (books star p∞ b n) (books star′ p∞ b n′) f a s refl refl v)
+          (λ taken k w. (roots.kept-next p m (rect p m design) hs (mat m pre) taken root w i root′ (rw (ez, eh) at u), stale-next taken i)),
+    )

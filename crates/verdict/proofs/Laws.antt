@@ -5,7 +5,7 @@ use mathlib.Core.Bool.{Bool, true, false}
 use mathlib.Core.List.{List}
 use native.Mathlib.Omega.{arith}
 use lib.Ieee.{Float}
-use Rattle.definition.specs.Num.{_⊕_, _⊗_, _>ᶠ_, rank-tol, cancel-tol, suspect-tol}
+use Rattle.definition.specs.Num.{_⊕_, _⊗_, _>ᶠ_, _≤ᶠ_, rank-tol, cancel-tol, suspect-tol}
 use Rattle.definition.specs.Dense.{matVec, matTVec, dot, absQuadForm}
 use Rattle.definition.specs.Cov as cov
 use Rattle.definition.specs.Cov.{diffuseTest, scaledTest, dust, against, bound, clear, passes, usualTest, usually, diffusely, fInfOf}
@@ -25,6 +25,24 @@ module _ (m : ℕ) (z p n : List Float) (f g : Float) {a : Float} where
   pub diffuse-first : a ≡ absQuadForm m z p → (f >ᶠ rank-tol ⊗ a) ≡ false → false ≡ diffuseTest m z p n f g
   unfolding diffuseTest
   diffuse-first d t = rw (sym d, t)
+
+module _ (m : ℕ) (z star : List Float) (h f : Float) {a : Float} where
+  pub scaled-by : a ≡ absQuadForm m z star → (f >ᶠ rank-tol ⊗ (a ⊕ h)) ≡ scaledTest m z h star f
+  unfolding scaledTest
+  scaled-by e = rw (sym e)
+
+module _ (f r : Float) where
+  pub against-below : (f ≤ᶠ cancel-tol ⊗ r) ≡ true → cov.below ≡ against f r
+  unfolding against
+  against-below t = rw t
+
+  pub against-clear : (f ≤ᶠ cancel-tol ⊗ r) ≡ false → (f >ᶠ suspect-tol ⊗ r) ≡ true → clear ≡ against f r
+  unfolding against
+  against-clear n t = rw (n, t)
+
+  pub against-suspect : (f ≤ᶠ cancel-tol ⊗ r) ≡ false → (f >ᶠ suspect-tol ⊗ r) ≡ false → cov.suspect r ≡ against f r
+  unfolding against
+  against-suspect n t = rw (n, t)
 
 module _ (m : ℕ) (z pre sd : List Float) (h f : Float) {fresh : Bool} {b : Float} where
   pub dust-bound : b ≡ bound m z sd → (f >ᶠ suspect-tol ⊗ (b ⊗ b ⊕ h)) ≡ true → fresh ≡ false → clear ≡ dust m z h pre sd fresh f

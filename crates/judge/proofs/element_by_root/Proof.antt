@@ -3,7 +3,6 @@ use Rattle.judge.proofs.element_by_root.Tie as tie
 use borrow.Author.Needs.{needs}
 use native.Mathlib.Omega.{arith}
 use mathlib.Core.Path.{refl}
-use Rattle.star.proofs.Laws as roots
 use Rattle.judge.proofs.Laws as laws
 
 returns : tie.Need-returns
@@ -19,7 +18,7 @@ downdate-requires : tie.Need-downdate-requires
 downdate-requires c κs = c .before .before .before .before .before .before .before .before .before .before .before .before .before .before .before .before .before .before .before .before .before .before .before .before .pre .1 .1
 
 returns-2 : tie.Need-returns-2
-returns-2 c = (roots.sound-by _ _ _ _ _ (c .before .before .before .before .before .before .before .before .before .before .before .before .before .before .before .before .before .before .before .before .before .before .before .before .before .pre .1 .1) (c .downdate .ensures), laws.by-root-yes _ _ _ _ _ _ _ _ _ _ _ _ (c .before .before .before .before .before .before .before .before .before .before .before .before .before .before .before .before .before .before .before .before .before .before .before .before .if1 .left) (c .before .before .before .before .before .before .before .before .before .before .before .before .before .before .before .before .before .before .before .before .before .before .before .row-to-vec .ensures) (c .before .before .before .before .before .before .before .before .before .before .before .before .before .before .before .before .before .before .before .before .before .before .get .ensures) (c .before .before .before .before .before .before .before .before .before .before .before .before .before .before .before .before .before .before .before .before .before .before .before .before .before .pre .1 .0 .known refl) (c .before .before .before .before .before .before .before .before .before .before .before .before .before .before .before .before .before .before .before .mat-vec .ensures) (c .before .before .before .before .before .before .before .before .before .before .before .before .before .before .before .before .f-star .ensures) (c .before .before .before .before .before .before .before .before .before .before .before .before .before .is-usual .ensures) _ (c .before .before .before .before .before .before .before .before .before .before .before .before .if2 .taken) (c .before .before .before .before .before .before .before .before .before .usual-update .ensures) (c .before .before .record-usual .ensures) (c .downdate .ensures))
+returns-2 c = laws.by-root-yes _ _ _ _ _ _ _ _ _ _ _ _ (c .before .before .before .before .before .before .before .before .before .before .before .before .before .before .before .before .before .before .before .before .before .before .before .before .if1 .left) (c .before .before .before .before .before .before .before .before .before .before .before .before .before .before .before .before .before .before .before .before .before .before .before .row-to-vec .ensures) (c .before .before .before .before .before .before .before .before .before .before .before .before .before .before .before .before .before .before .before .before .before .before .get .ensures) (c .before .before .before .before .before .before .before .before .before .before .before .before .before .before .before .before .before .before .before .before .before .before .before .before .before .pre .1 .0 .known refl) (c .before .before .before .before .before .before .before .before .before .before .before .before .before .before .before .before .before .before .before .mat-vec .ensures) (c .before .before .before .before .before .before .before .before .before .before .before .before .before .before .before .before .f-star .ensures) (c .before .before .before .before .before .before .before .before .before .before .before .before .before .is-usual .ensures) _ (c .before .before .before .before .before .before .before .before .before .before .before .before .before .before .before .before .before .before .before .before .before .before .before .before .before .pre .1 .1) (c .before .before .before .before .before .before .before .before .before .before .before .before .if2 .taken) (c .before .before .before .before .before .before .before .before .before .usual-update .ensures) (c .before .before .record-usual .ensures) (c .downdate .ensures)
 
 returns-3 : tie.Need-returns-3
 returns-3 c = (c .before .before .before .before .before .before .before .before .before .before .before .before .before .before .before .before .before .before .before .pre .1 .1, laws.by-root-no _ _ _ _ _ _ _ _ _ _ _ _ (c .before .before .before .before .before .before .before .before .before .before .before .before .before .before .before .before .before .before .if1 .left) (c .before .before .before .before .before .before .before .before .before .before .before .before .before .before .before .before .before .row-to-vec .ensures) (c .before .before .before .before .before .before .before .before .before .before .before .before .before .before .before .before .get .ensures) (c .before .before .before .before .before .before .before .before .before .before .before .before .before .before .before .before .before .before .before .pre .1 .0 .known refl) (c .before .before .before .before .before .before .before .before .before .before .before .before .before .mat-vec .ensures) (c .before .before .before .before .before .before .before .before .before .before .f-star .ensures) (c .before .before .before .before .before .before .before .is-usual .ensures) (c .before .before .before .before .before .before .if2 .left) refl (c .record-skipped2 .ensures))
