@@ -1,15 +1,17 @@
 -- The loop over the periods, from the last to the first: what holds with the periods from t on done, how a period keeps it, and what it comes to.
-use mathlib.Core.Path.{_≡_, sym, ap, ap₂, _∙_}
+use mathlib.Core.Path.{_≡_, refl, sym, ap, ap₂, _∙_}
 use Prim.Native.Nat.{ℕ, suc, _-_, _*_, _≤_, _<_}
 use native.Mathlib.Nat.{zero-add}
 use native.Mathlib.Omega.{arith}
+use mathlib.Core.Bool.{Bool, true, false}
 use mathlib.Core.List.{List}
 use lib.ListN.{length, getD}
 use lib.Ieee.{Float}
 use Rattle.definition.specs.Num.{zeros}
+use Rattle.definition.specs.Dense.{axpy}
 use Rattle.definition.specs.Run.{scanBack, join}
 use Rattle.definition.specs.Mean.{Frame}
-use Rattle.definition.specs.Smooth.{Rs, Look, MeanLook, backMeanOf, backMean, noRs}
+use Rattle.definition.specs.Smooth.{Rs, Look, MeanLook, backA, backMeanOf, backMean, noRs}
 use Rattle.definition.specs.Inputs.{designFrom, frameFrom}
 use Rattle.laws.specs.Lists.{tab-at, length-tab, pairs-at}
 use Rattle.laws.specs.Flat.{Flat, lookAt, looks, meanLookAt, meanLooks}
@@ -18,6 +20,12 @@ use Rattle.laws.specs.Backward.{later, WroteFrom, from-none, later-none, later-
 use Rattle.dense.specs.Views.{vec, mat}
 use Rattle.mean.proofs.Laws.{length-pairs}
 use Rattle.mean_back.specs.View.{lookedAt, looked}
+
+-- a smoothed mean has m places
+smoothed-long : (m : ℕ) (live : Bool) (p p∞ a : List Float) (r : Rs) → length (backA m live p p∞ a r) ≡ m
+unfolding backA axpy
+smoothed-long m true p p∞ a r = length-tab m 0 _
+smoothed-long m false p p∞ a r = length-tab m 0 _
 
 module _ (n p m dd : ℕ) (pm pc pi vs : List Float) (r : Flat) where
   looks-long : length (looks n p m dd pc pi r) ≡ n
@@ -51,8 +59,9 @@ module _ (n p m dd : ℕ) (pm pc pi vs : List Float) (r : Flat) where
 
     module _ {i : ℕ} {s s′ : Rs} {o₀ o : List Float} (b : List Float) where
       -- period i - 1 leaves b in its block
-      pub going-next : Going i s o₀ o → 0 < i → n * m ≤ length o₀ → length b ≡ m → _≡_ (b, s′) (backMean y (i - 1) s (lookedAt p m dd pm pc pi vs r (i - 1))) → Going (i - 1) s′ o₀ (over (i - 1) m o b)
-      going-next g h room lb q =
+      pub going-next : Going i s o₀ o → 0 < i → n * m ≤ length o₀ → y .m ≡ m → _≡_ (b, s′) (backMean y (i - 1) s (lookedAt p m dd pm pc pi vs r (i - 1))) → Going (i - 1) s′ o₀ (over (i - 1) m o b)
+      unfolding backMeanOf
+      going-next g h room em q =
           let up : i ≡ suc (i - 1) = omega arith in
           let t = i - 1 in
           let t< : t < n = omega (arith, g .low) in
@@ -60,6 +69,7 @@ module _ (n p m dd : ℕ) (pm pc pi vs : List Float) (r : Flat) where
           let hl : t < length es = rw looked-long t< in
           let st : s ≡ later (backMean y) m es s₀ (suc t) .1 = rw up at (g .state) in
           let wr : WroteFrom (backMean y) m es s₀ o₀ o (suc t) = rw up at (g .out) in
+          let lb : length b ≡ m = ap (λ (x : List Float × Rs). length (x .0)) q ∙ smoothed-long (y .m) _ _ _ _ _ ∙ em in
           let now : _≡_ (b, s′) (backMean y t (later (backMean y) m es s₀ (suc t) .1) (getD es t d)) = q ∙ ap₂ (backMean y t) st (sym (looked-at t d t<)) in
           record {
             low = omega (arith, g .low);
@@ -74,6 +84,10 @@ module _ (n p m dd : ℕ) (pm pc pi vs : List Float) (r : Flat) where
 pub framed : (p m t : ℕ) (z zs tr design : List Float) (s : Rs) (c : Look × MeanLook) {b : List Float × Rs} → design ≡ designFrom p m z zs t → b ≡ backMeanOf m tr design s c → b ≡ backMean (frameFrom p m z zs tr) t s c
 unfolding frameFrom
 framed p m t z zs tr design s c q h = h ∙ ap (λ (l : List Float). backMeanOf m tr l s c) q
+
+pub framed-m : (p m : ℕ) (z zs tr : List Float) → frameFrom p m z zs tr .m ≡ m
+unfolding frameFrom
+framed-m p m z zs tr = refl
 
 -- T loaded and r0 and r1 set to zeros before it
 pub started : (m : ℕ) (r0 r1 : List Float) → vec m r0 ≡ zeros m → vec m r1 ≡ zeros m → _≡_ {A = Rs} (record { r0 = vec m r0; r1 = vec m r1 }) (noRs m)
