@@ -54,7 +54,7 @@ block-long t k l h = simp (length-take, length-drop) (omega arith)
 -- ---- what has to be there
 
 -- the records below fewer places
-fewer : {m j k : ℕ} {r : Flat} → j ≤ k → Holds m k r → Holds m j r
+pub fewer : {m j k : ℕ} {r : Flat} → j ≤ k → Holds m k r → Holds m j r
 fewer {m} h g =
     record {
       ks = omega (arith, g .ks);

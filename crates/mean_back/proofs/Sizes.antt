@@ -1,7 +1,7 @@
 -- Places and lengths on the way back: what an element and a period need of what the pass has.
 use mathlib.Core.Path.{_≡_, ap, _∙_}
 use Prim.Native.Nat.{ℕ, _+_, _-_, _*_, _≤_, _<_}
-use native.Mathlib.Nat.{mul-le-mul, mul-le-mul-right}
+use native.Mathlib.Nat.{mul-le-mul}
 use native.Mathlib.Omega.{arith}
 use mathlib.Core.List.{List}
 use lib.ListN.{length}
@@ -11,7 +11,7 @@ use Rattle.laws.specs.Flat.{Flat}
 use Rattle.laws.specs.Lists.{square-le}
 use Rattle.laws.specs.Passes.{block-in}
 use Rattle.model.specs.Design.{length-design}
-use Rattle.mean.specs.View.{Holds}
+use Rattle.mean.proofs.Sizes.{fewer}
 use Rattle.mean_back.specs.View.{Square, Element, Period, Block, Periods}
 
 pub one-less : {i n : ℕ} → 0 < i → i ≤ n → i - 1 < n
@@ -30,17 +30,6 @@ row-in {m} {i} g = omega (arith, block-in i m m (g .row), g .whole)
 
 pub row-small : {m i a : ℕ} → Square m i a → i * m + m ≤ 64
 row-small {m} {i} g = omega (arith, block-in i m m (g .row), square-le m (g .m8))
-
--- the records below fewer places
-fewer : {m j k : ℕ} {r : Flat} → j ≤ k → Holds m k r → Holds m j r
-fewer {m} h g =
-    record {
-      ks = omega (arith, g .ks);
-      fs = omega (arith, g .fs);
-      fi = omega (arith, g .fi);
-      ms = omega (arith, g .ms, mul-le-mul-right m h);
-      mi = omega (arith, g .mi, mul-le-mul-right m h);
-    }
 
 -- element i of a period, by the record at its place
 pub element-in : {p m t i design v : ℕ} {r : Flat} → Period p m t design v r → i < p → Element m i (t * p + i) design v r
