@@ -6,12 +6,12 @@ use native.Mathlib.Omega.{arith}
 use mathlib.Core.Bool.{Bool, true, false, cond, _&&_}
 use mathlib.Core.List.{List, [], _∷_, _++_, map, append-assoc}
 use lib.ListN.{length, getD, take, drop, length-append, length-take, length-drop, length-map, length-replicate, take-append-drop, List·getD-append}
-use lib.Seq.{drop-length, drop-cons, take-at, drop-at, take-take, drop-drop, take-append-le, ext-getD, length-take-le}
+use lib.Seq.{drop-length, drop-cons, take-at, drop-at, take-take, drop-drop, take-append-le, ext-getD, length-take-le, getD-take, getD-drop}
 use lib.Dec.{ltb}
 use lib.Ieee.{Float, nan}
 use borrow.Rule.Slice.PartMut.{midOf, putMid, same-len-mid}
 use Rattle.definition.specs.Num.{tabFrom, tabulate, at}
-use Rattle.definition.specs.Run.{scanBack, join, lay}
+use Rattle.definition.specs.Run.{scanBack, foldBack, join, lay}
 use Rattle.definition.specs.Cov.{Decision, CovPeriod}
 use Rattle.definition.specs.Mean.{MeanPeriod}
 use Rattle.definition.specs.Smooth.{Look, lookOf, MeanLook, meanLookOf}
@@ -65,6 +65,26 @@ module _ {A S X : Type 0} (f : ℕ → S → A → List X × S) (k : ℕ) (xs : 
       let l = simp (length-append, length-drop) at (ap length is) in
       let long : length (join (scanBack f 0 s xs .0)) ≡ n * k = omega (arith, w .0) in
       record { long = long; is = is ∙ ap (λ (i : ℕ). join (scanBack f 0 s xs .0) ++ drop i old) (sym long) }
+
+-- ---- the elements of a period, from the last: the state with those from t on done
+module _ {A S : Type 0} (f : ℕ → S → A → S) (xs : List A) (s : S) where
+  pub fold-none : (n : ℕ) → length xs ≡ n → s ≡ foldBack f n s (drop n xs)
+  unfolding foldBack
+  fold-none n e = rw (← e, drop-length xs) refl
+
+  pub fold-step : (t : ℕ) (d : A) → t < length xs → foldBack f t s (drop t xs) ≡ f t (foldBack f (suc t) s (drop (suc t) xs)) (getD xs t d)
+  unfolding foldBack
+  fold-step t d h = ap (foldBack f t s) (drop-cons xs t d h)
+
+-- ---- a part of a slice, as the block that it is
+pub part-block : (t k : ℕ) (l : List Float) → t * k + k ≤ length l → take (t * k + k - t * k) (drop (t * k) l) ≡ blockAt k l t
+unfolding blockAt
+part-block t k l h =
+    let s : t * k + k - t * k ≡ k = omega arith in
+    rw s
+    (ext-getD nan (take k (drop (t * k) l)) (tabulate k (λ j. at l (t * k + j))) (simp (length-take, length-drop, length-tab) (omega arith)) (λ j b.
+    let j< : j < k = omega (arith, simp (length-take, length-drop) at b) in
+    getD-take k (drop (t * k) l) j nan j< ∙ getD-drop (t * k) l j nan ∙ sym (tab-at k 0 j (λ j. at l (t * k + j)) nan j< ∙ ap (λ (i : ℕ). at l (t * k + i)) (zero-add j))))
 
 -- ---- a block read back
 pub block-back : (k : ℕ) (ls : List (List Float)) (tail : List Float) (t : ℕ) → Each k ls → t < length ls → blockAt k (join ls ++ tail) t ≡ getD ls t []

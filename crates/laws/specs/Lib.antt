@@ -14,3 +14,4 @@ pub mod Halves
 pub mod Signs
 pub mod Squares
 pub mod RootLaws
+pub mod Looked
