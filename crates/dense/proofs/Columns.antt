@@ -35,7 +35,7 @@ module _ (m : ℕ) (a x : List Float) (j : ℕ) where
       let s : at o i ≡ matVecTo m a x j i = ap (λ (l : List Float). at l i) e ∙ vector-at m i (matVecTo m a x j) (omega arith) in
       rw (add-one, s))
 
-zeros-tab : (n k : ℕ) → zeros n ≡ tabFrom k n (λ i. 0ᶠ)
+pub zeros-tab : (n k : ℕ) → zeros n ≡ tabFrom k n (λ i. 0ᶠ)
 unfolding tabFrom
 zeros-tab zero k = refl
 zeros-tab (suc n) k = ap (λ (l : List Float). 0ᶠ ∷ l) (zeros-tab n (suc k))

@@ -7,10 +7,11 @@ ghost use lib.Ieee.{Float};
 ghost use lib.ListN.{set, length};
 ghost use Rattle.definition.specs.Num.{_⊕_, _⊗_, isZero, tabulate, matrix, at, ent, sumFrom};
 ghost use Rattle.definition.specs.Dense.{dot, axpy, over, scaled, row, matVec, matTVec, matTVecAt};
-ghost use Rattle.definition.specs.Dense.{outerSub, outerScaled, product, productAt, transpose, sandwich, quad};
+ghost use Rattle.definition.specs.Dense.{outerSub, outerScaled, product, productAt, mul, tr, transpose, sandwich, quad};
 ghost use Rattle.definition.specs.Dense.{plus, minus, symmetrise, sqTerm, frobSq, absTerm, absColumn, absQuadForm};
 ghost use Rattle.dense.specs.Views.{vec, mat, rect};
 ghost use Rattle.dense.specs.Columns.{moreAt, moreKeptAt, columnLess, columnKept};
+ghost use Rattle.dense.specs.Rows.{rowMoreAt};
 ghost use Rattle.dense.specs.Pairs.{meanOf, Paired};
 ghost use Rattle.dense.specs.Places.{Within, Cell, Sizes, Entry, Saved};
 
@@ -421,6 +422,97 @@ pub fn transpose(a: &[f64; 64], r: usize, c: usize) -> [f64; 64]
     out
 }
 
+// ---- square products row by row: the same sums in the same order, with the places of a row side by side
+
+// r and x times row l of B.
+fn add_row(r: &mut [f64; 8], x: f64, b: &[f64; 64], m: usize, l: usize)
+    requires { ⌜ (m ≤ 8) × (l < m) ⌝ }
+    ensures { λ _. ⌜ vec m (now (r .exit)) ≡ tabulate m (rowMoreAt m x (mat m (now (b .entry))) l (vec m (now (r .entry)))) ⌝ }
+{
+    sized8(r);
+    for j in 0..m {
+        r[j] = r[j] + x * get(b, m, l, j);
+    }
+}
+
+// Row i of A B.
+fn product_row(a: &[f64; 64], b: &[f64; 64], m: usize, i: usize) -> [f64; 8]
+    requires { ⌜ (m ≤ 8) × (i < m) ⌝ }
+    ensures { λ r. ⌜ vec m r ≡ tabulate m (productAt m m (mat m (now (a .entry))) (mat m (now (b .entry))) i) ⌝ }
+{
+    let mut r = [0.0; 8];
+    for l in 0..m {
+        add_row(&mut r, get(a, m, i, l), b, m, l);
+    }
+    r
+}
+
+// Row i of A' B.
+fn t_product_row(a: &[f64; 64], b: &[f64; 64], m: usize, i: usize) -> [f64; 8]
+    requires { ⌜ (m ≤ 8) × (i < m) ⌝ }
+    ensures { λ r. ⌜ vec m r ≡ tabulate m (productAt m m (tr m (mat m (now (a .entry)))) (mat m (now (b .entry))) i) ⌝ }
+{
+    let mut r = [0.0; 8];
+    for l in 0..m {
+        add_row(&mut r, get(a, m, l, i), b, m, l);
+    }
+    r
+}
+
+fn product_rows(out: &mut [f64; 64], a: &[f64; 64], b: &[f64; 64], m: usize)
+    requires { ⌜ m ≤ 8 ⌝ }
+    ensures { λ _. ⌜ mat m (now (out .exit)) ≡ mul m (mat m (now (a .entry))) (mat m (now (b .entry))) ⌝ }
+{
+    sized(out);
+    for i in 0..m {
+        let r = product_row(a, b, m, i);
+        for j in 0..m {
+            put(out, m, i, j, nth(&r, m, j));
+        }
+    }
+}
+
+fn t_product_rows(out: &mut [f64; 64], a: &[f64; 64], b: &[f64; 64], m: usize)
+    requires { ⌜ m ≤ 8 ⌝ }
+    ensures { λ _. ⌜ mat m (now (out .exit)) ≡ mul m (tr m (mat m (now (a .entry)))) (mat m (now (b .entry))) ⌝ }
+{
+    sized(out);
+    for i in 0..m {
+        let r = t_product_row(a, b, m, i);
+        for j in 0..m {
+            put(out, m, i, j, nth(&r, m, j));
+        }
+    }
+}
+
+// A B of m by m. In the frequent sizes the compiler knows the size.
+pub fn mul_into(out: &mut [f64; 64], a: &[f64; 64], b: &[f64; 64], m: usize)
+    requires { ⌜ m ≤ 8 ⌝ }
+    ensures { λ _. ⌜ mat m (now (out .exit)) ≡ mul m (mat m (now (a .entry))) (mat m (now (b .entry))) ⌝ }
+{
+    match m {
+        1 => product_rows(out, a, b, 1),
+        2 => product_rows(out, a, b, 2),
+        4 => product_rows(out, a, b, 4),
+        8 => product_rows(out, a, b, 8),
+        _ => product_rows(out, a, b, m),
+    }
+}
+
+// A' B of m by m.
+pub fn t_mul_into(out: &mut [f64; 64], a: &[f64; 64], b: &[f64; 64], m: usize)
+    requires { ⌜ m ≤ 8 ⌝ }
+    ensures { λ _. ⌜ mat m (now (out .exit)) ≡ mul m (tr m (mat m (now (a .entry)))) (mat m (now (b .entry))) ⌝ }
+{
+    match m {
+        1 => t_product_rows(out, a, b, 1),
+        2 => t_product_rows(out, a, b, 2),
+        4 => t_product_rows(out, a, b, 4),
+        8 => t_product_rows(out, a, b, 8),
+        _ => t_product_rows(out, a, b, m),
+    }
+}
+
 // T P T', as (T P) T'.
 pub fn sandwich_into(out: &mut [f64; 64], t: &[f64; 64], p: &[f64; 64], m: usize)
     requires { ⌜ m ≤ 8 ⌝ }
@@ -446,8 +538,8 @@ pub fn quad_into(out: &mut [f64; 64], a: &[f64; 64], n: &[f64; 64], b: &[f64; 64
     ensures { λ _. ⌜ mat m (now (out .exit)) ≡ quad m (mat m (now (a .entry))) (mat m (now (n .entry))) (mat m (now (b .entry))) ⌝ }
 {
     let mut an = [0.0; 64];
-    t_product_into(&mut an, a, n, m, m, m);
-    product_into(out, &an, b, m, m, m);
+    t_mul_into(&mut an, a, n, m);
+    mul_into(out, &an, b, m);
 }
 
 pub fn quad(a: &[f64; 64], n: &[f64; 64], b: &[f64; 64], m: usize) -> [f64; 64]
