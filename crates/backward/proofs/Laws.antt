@@ -1,17 +1,24 @@
 -- What the steps of an element back come to, over plain variables: each is handed what a call left.
 use mathlib.Core.Path.{_≡_, refl, sym, ap, ap₂, _∙_}
-use Prim.Native.Nat.{ℕ, zero, suc}
+use Prim.Native.Nat.{ℕ, zero, suc, _*_}
 use mathlib.Core.Bool.{Bool, true, false, cond}
 use mathlib.Core.List.{List}
-use lib.Ieee.{Float}
-use Rattle.definition.specs.Dense.{outerScaled, plus, quad, mul, tr}
+use lib.Ieee.{Float, binary64}
+use Rattle.definition.specs.Dense.{outerScaled, plus, plusAt, quad, mul, tr}
 use Rattle.definition.specs.Cov.{usual, diffuse}
+use Rattle.laws.specs.Lists.{tab-cong}
+use Rattle.laws.specs.Swap.{add-swap}
 use Rattle.definition.specs.Smooth.{Ns, fOne, fTwo, lUsual, lDiffuse, usualN0, diffuseN1, diffuseN2, backN}
 
+-- a sum of matrices does not turn on their order
+plus-swap : (m : ℕ) (a b : List Float) → plus m a b ≡ plus m b a
+unfolding plus plusAt
+plus-swap m a b = tab-cong (m * m) 0 _ _ (λ k u v. add-swap binary64 _ _)
+
 module _ (m : ℕ) (z : List Float) where
-  pub usual-n0 : (g : Float) (l n0 q s r : List Float) → q ≡ quad m l n0 l → s ≡ outerScaled m z z g → r ≡ plus m s q → r ≡ usualN0 m z g l n0
-  unfolding usualN0
-  usual-n0 _ _ _ _ _ _ a b c = cc
+  pub usual-n0 : (g : Float) (l n0 ln q s r : List Float) → ln ≡ mul m (tr m l) n0 → q ≡ mul m ln l → s ≡ outerScaled m z z g → r ≡ plus m q s → r ≡ usualN0 m z g l n0
+  unfolding usualN0 quad
+  usual-n0 _ _ _ _ q s _ a b c d = let e = plus-swap m q s in cc
 
   pub usual-n : (f g : Float) (live : Bool) (m* l a b c a′ b′ : List Float) → l ≡ lUsual m z f m* → g ≡ fOne f → a′ ≡ usualN0 m z g l a → b′ ≡ cond live (mul m b l) b → _≡_ {A = Ns} (record { n0 = a′; n1 = b′; n2 = c }) (backN m live z (record { n0 = a; n1 = b; n2 = c }) (usual f m*))
   unfolding backN
@@ -21,9 +28,9 @@ module _ (m : ℕ) (z : List Float) where
   unfolding diffuseN1
   diffuse-n1 _ _ _ _ _ _ _ _ _ _ _ e1 e2 e3 e4 e5 = cc
 
-  pub diffuse-n2 : (f2 : Float) (l0 l1 a b c s0 q1 s1 q2 s2 t q3 s3 q4 r : List Float) → s0 ≡ outerScaled m z z f2 → q1 ≡ quad m l0 c l0 → s1 ≡ plus m s0 q1 → q2 ≡ quad m l0 b l1 → s2 ≡ plus m s1 q2 → t ≡ tr m b → q3 ≡ quad m l1 t l0 → s3 ≡ plus m s2 q3 → q4 ≡ quad m l1 a l1 → r ≡ plus m s3 q4 → r ≡ diffuseN2 m z f2 l0 l1 (record { n0 = a; n1 = b; n2 = c })
+  pub diffuse-n2 : (f2 : Float) (l0 l1 a b c s0 q1 s1 q2 s2 q3 s3 q4 r : List Float) → s0 ≡ outerScaled m z z f2 → q1 ≡ quad m l0 c l0 → s1 ≡ plus m s0 q1 → q2 ≡ quad m l0 b l1 → s2 ≡ plus m s1 q2 → q3 ≡ quad m l1 (tr m b) l0 → s3 ≡ plus m s2 q3 → q4 ≡ quad m l1 a l1 → r ≡ plus m s3 q4 → r ≡ diffuseN2 m z f2 l0 l1 (record { n0 = a; n1 = b; n2 = c })
   unfolding diffuseN2
-  diffuse-n2 _ _ _ _ _ _ _ _ _ _ _ _ _ _ _ _ e1 e2 e3 e4 e5 e6 e7 e8 e9 e10 = cc
+  diffuse-n2 _ _ _ _ _ _ _ _ _ _ _ _ _ _ _ e1 e2 e3 e4 e5 e6 e7 e8 e9 = cc
 
   pub diffuse-n : (f f∞ f1 f2 : Float) (live : Bool) (m* m∞ l0 l1 a b c a′ b′ c′ : List Float) → l0 ≡ lUsual m z f∞ m∞ → l1 ≡ lDiffuse m z f f∞ m* m∞ → f1 ≡ fOne f∞ → f2 ≡ fTwo f f∞ → c′ ≡ diffuseN2 m z f2 l0 l1 (record { n0 = a; n1 = b; n2 = c }) → b′ ≡ diffuseN1 m z f1 l0 l1 (record { n0 = a; n1 = b; n2 = c }) → a′ ≡ quad m l0 a l0 → _≡_ {A = Ns} (record { n0 = a′; n1 = b′; n2 = c′ }) (backN m live z (record { n0 = a; n1 = b; n2 = c }) (diffuse f f∞ m* m∞))
   unfolding backN

@@ -4,7 +4,7 @@ ghost use Prim.Native.Nat.{_≤_};
 ghost use mathlib.Core.Bool.{Bool, cond};
 ghost use mathlib.Core.List.{List};
 ghost use lib.Ieee.{Float};
-ghost use Rattle.definition.specs.Dense.{mul};
+ghost use Rattle.definition.specs.Dense.{mul, tr, quad};
 ghost use Rattle.definition.specs.Cov.{usual, diffuse};
 ghost use Rattle.definition.specs.Smooth.{lZeroAt, lZero, lOne, fOne, fTwo, kOne, lUsual, lDiffuse, usualN0, diffuseN1, diffuseN2, backN};
 ghost use Rattle.dense.specs.Views.{vec, mat};
@@ -104,15 +104,16 @@ pub fn l_diffuse(
 
 // ---- through the covariances
 
-// N0 = z z' / F + L' N0 L, of a usual element.
+// N0 = z z' / F + L' N0 L, of a usual element, in place: the sum's operands may change places.
 fn usual_n0(n0: &mut [f64; 64], z: &[f64; 8], g: f64, l: &[f64; 64], m: usize)
     requires { ⌜ m ≤ 8 ⌝ }
     ensures { λ _. ⌜ mat m (now (n0 .exit)) ≡ usualN0 m (vec m (now (z .entry))) g (mat m (now (l .entry))) (mat m (now (n0 .entry))) ⌝ }
 {
-    let q = dense::quad(l, n0, l, m);
-    let mut s = dense::outer_scaled(z, z, g, m);
-    dense::add(&mut s, &q, m);
-    *n0 = s;
+    let mut ln = [0.0; 64];
+    dense::t_mul_into(&mut ln, l, n0, m);
+    dense::mul_into(n0, &ln, l, m);
+    let s = dense::outer_scaled(z, z, g, m);
+    dense::add(n0, &s, m);
 }
 
 // N1 L, in a diffuse period alone.
@@ -164,6 +165,15 @@ fn diffuse_n1(
     s
 }
 
+// A' N' B.
+fn quad_turned(a: &[f64; 64], n: &[f64; 64], b: &[f64; 64], m: usize) -> [f64; 64]
+    requires { ⌜ m ≤ 8 ⌝ }
+    ensures { λ r. ⌜ mat m r ≡ quad m (mat m (now (a .entry))) (tr m (mat m (now (n .entry)))) (mat m (now (b .entry))) ⌝ }
+{
+    let turned = dense::transpose(n, m, m);
+    dense::quad(a, &turned, b, m)
+}
+
 // N2 = z z' F2 + L0' N2 L0 + L0' N1 L1 + L1' N1' L0 + L1' N0 L1.
 fn diffuse_n2(
     n0: &[f64; 64],
@@ -183,8 +193,7 @@ fn diffuse_n2(
     dense::add(&mut s, &a, m);
     let b = dense::quad(l0, n1, l1, m);
     dense::add(&mut s, &b, m);
-    let turned = dense::transpose(n1, m, m);
-    let c = dense::quad(l1, &turned, l0, m);
+    let c = quad_turned(l1, n1, l0, m);
     dense::add(&mut s, &c, m);
     let d = dense::quad(l1, n0, l1, m);
     dense::add(&mut s, &d, m);
