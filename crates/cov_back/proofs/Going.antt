@@ -1,10 +1,10 @@
 -- The loop from the last period to the first: what holds with the periods from i on done, how a period keeps it, and what it comes to.
 use mathlib.Core.Path.{_≡_, refl, sym, ap, ap₂, _∙_}
-use Prim.Native.Nat.{ℕ, zero, suc, _+_, _-_, _*_, _≤_, _<_}
-use native.Mathlib.Nat.{zero-add, not-suc-le-zero, le-of-suc-le-suc}
+use Prim.Native.Nat.{ℕ, suc, _+_, _-_, _*_, _≤_, _<_}
+use native.Mathlib.Nat.{zero-add}
 use native.Mathlib.Omega.{arith}
-use mathlib.Core.List.{List, [], _∷_}
-use lib.ListN.{length, getD, take, replicate}
+use mathlib.Core.List.{List, []}
+use lib.ListN.{length, getD, replicate}
 use lib.Ieee.{Float}
 use Rattle.definition.specs.Num.{0ᶠ}
 use Rattle.definition.specs.Run.{scanBack, join}
@@ -15,7 +15,8 @@ use Rattle.laws.specs.Lists.{tab-at, length-tab}
 use Rattle.laws.specs.Flat.{Flat, lookAt, looks}
 use Rattle.laws.specs.Passes.{over, Laid}
 use Rattle.laws.specs.Backward.{later, WroteFrom, from-none, later-none, later-step, from-next, from-all}
-use Rattle.dense.specs.Views.{rect, mat}
+use Rattle.dense.specs.Views.{vec, rect, mat}
+use Rattle.dense.proofs.Laws.{vec-zeros}
 use Rattle.backward.specs.View.{nsIn}
 
 module _ (y : Frame) (s₀ : Ns) (n p m dd : ℕ) (pc pi : List Float) (r : Flat) where
@@ -66,14 +67,9 @@ framed p m t z zs tr design s l q h = h ∙ ap (λ (d : List Float). backCovOf m
 
 -- ---- N0, N1 and N2 of zeros, and T loaded
 
-take-replicate : {A : Type 0} (k n : ℕ) (x : A) → k ≤ n → take k (replicate n x) ≡ replicate k x
-take-replicate zero n x h = refl
-take-replicate (suc k) zero x h = absurd (not-suc-le-zero h)
-take-replicate (suc k) (suc n) x h = ap (λ (l : List _). x ∷ l) (take-replicate k n x (le-of-suc-le-suc h))
-
 none-yet : (m : ℕ) → m * m ≤ 64 → nsIn m (replicate 64 0ᶠ) (replicate 64 0ᶠ) (replicate 64 0ᶠ) ≡ noNs m
-unfolding noNs rect
-none-yet m h = rw (take-replicate (m * m) 64 0ᶠ h) refl
+unfolding noNs vec rect
+none-yet m h = rw (vec-zeros (m * m) 64 h) refl
 
 pub passed : (p m : ℕ) (k : ℕ) (z zs t tr : List Float) (ls : List Look) {o₀ o : List Float} → m * m ≤ 64 → mat m tr ≡ t → Laid k (join (scanBack (backCov (frameFrom p m z zs (mat m tr))) 0 (nsIn m (replicate 64 0ᶠ) (replicate 64 0ᶠ) (replicate 64 0ᶠ)) ls .0)) o₀ o
     → Laid k (join (scanBack (backCov (frameFrom p m z zs t)) 0 (noNs m) ls .0)) o₀ o

@@ -6,51 +6,32 @@ use native.Mathlib.Omega.{arith}
 use mathlib.Core.Bool.{Bool, cond}
 use mathlib.Core.List.{List, [], _∷_}
 use lib.ListN.{length, getD, take, drop, length-take, length-drop}
-use lib.Seq.{drop-length, drop-cons, ext-getD, getD-take, getD-drop}
 use lib.Dec.{ltb}
-use lib.Ieee.{Float, nan}
-use Rattle.definition.specs.Num.{at, tabulate}
+use lib.Ieee.{Float}
+use Rattle.definition.specs.Num.{at}
 use Rattle.definition.specs.Dense.{mul, tr, minus, quad, symmetrise, row, rowAt}
 use Rattle.definition.specs.Run.{foldBack}
 use Rattle.definition.specs.Cov.{Decision, skipped}
 use Rattle.definition.specs.Smooth.{Ns, backN, backElement, elementsN, between, diffuseV, backV, stepNs, backCovOf}
 use Rattle.laws.specs.Lists.{tab-at, length-tab}
 use Rattle.laws.specs.Flat.{Flat, decisionOf, readBack, decisionsAt, blockAt, lookAt}
-use Rattle.dense.specs.Views.{vec, rect, mat}
+use Rattle.laws.specs.Backward.{fold-none, fold-step, part-block}
+use Rattle.dense.specs.Views.{vec, mat}
 use Rattle.dense.specs.Places.{Saved}
+use Rattle.dense.proofs.Laws.{saved-rect}
 
 -- ---- parts of slices, loaded and saved
 
 pub block-long : {A : Type 0} (t k : ℕ) (l : List A) → t * k + k ≤ length l → length (take (t * k + k - t * k) (drop (t * k) l)) ≡ k
 block-long t k l h = simp (length-take, length-drop) (omega arith)
 
-pub part-block : (k m : ℕ) (l : List Float) → k * m + m ≤ length l → take (k * m + m - k * m) (drop (k * m) l) ≡ blockAt m l k
-unfolding blockAt
-part-block k m l h =
-    let s : k * m + m - k * m ≡ m = omega arith in
-    rw s
-    (ext-getD nan (take m (drop (k * m) l)) (tabulate m (λ j. at l (k * m + j))) (simp (length-take, length-drop, length-tab) (omega arith)) (λ j b.
-    let j< : j < m = omega (arith, simp (length-take, length-drop) at b) in
-    getD-take m (drop (k * m) l) j nan j< ∙ getD-drop (k * m) l j nan ∙ sym (tab-at m 0 j (λ j. at l (k * m + j)) nan j< ∙ ap (λ (i : ℕ). at l (k * m + i)) (zero-add j))))
-
-loaded : (k : ℕ) {s : List Float} (r : List Float) → length s ≡ k → vec (length s) r ≡ s → vec k r ≡ s
-loaded k r e h = rw e at h
-
-pub loaded-mat : (m : ℕ) {s : List Float} (r : List Float) → length s ≡ m * m → vec (length s) r ≡ s → mat m r ≡ s
-unfolding vec rect
-loaded-mat m r e h = loaded (m * m) r e h
-
 -- the m entries from place k * m on
 pub loaded-block : (k m : ℕ) (l r : List Float) → k * m + m ≤ length l → vec (length (take (k * m + m - k * m) (drop (k * m) l))) r ≡ take (k * m + m - k * m) (drop (k * m) l) → vec m r ≡ blockAt m l k
-loaded-block k m l r h e = loaded m r (block-long k m l h) e ∙ part-block k m l h
+loaded-block k m l r h e = ap (λ (i : ℕ). vec i r) (sym (block-long k m l h)) ∙ e ∙ part-block k m l h
 
 pub loaded-row : (i m : ℕ) (l r : List Float) → i * m + m ≤ length l → vec (length (take (i * m + m - i * m) (drop (i * m) l))) r ≡ take (i * m + m - i * m) (drop (i * m) l) → vec m r ≡ row m l i
 unfolding row rowAt blockAt
 loaded-row i m l r h e = loaded-block i m l r h e
-
-saved-mat : (m : ℕ) {n : ℕ} {a out : List Float} → n ≡ m * m → Saved n a out → out ≡ mat m a
-unfolding rect
-saved-mat m {a = a} e h = h .holds ∙ ap (λ (i : ℕ). take i a) e
 
 -- ---- one element, by the record at place k
 
@@ -60,15 +41,6 @@ unfolding backElement readBack blockAt
 element-back m i k live design r n z ms mi ez es ei h = rw (ez, es, ei) at h
 
 -- ---- the elements of a period, last to first
-
-module _ {A S : Type 0} (f : ℕ → S → A → S) (xs : List A) (s : S) where
-  pub fold-none : (n : ℕ) → length xs ≡ n → s ≡ foldBack f n s (drop n xs)
-  unfolding foldBack
-  fold-none n e = rw (← e, drop-length xs) refl
-
-  pub fold-step : (t : ℕ) (d : A) → t < length xs → foldBack f t s (drop t xs) ≡ f t (foldBack f (suc t) s (drop (suc t) xs)) (getD xs t d)
-  unfolding foldBack
-  fold-step t d h = ap (foldBack f t s) (drop-cons xs t d h)
 
 module _ (p m t : ℕ) (r : Flat) where
   decisions-long : length (decisionsAt p m r t) ≡ p
@@ -115,7 +87,7 @@ module _ (m : ℕ) where
 
   pub backed : (live : Bool) (n : Ns) (pred inf p v w x out : List Float) {k : ℕ} → mat m p ≡ pred → mat m v ≡ minus m (mat m p) (between m (mat m p) (n .n0) (mat m p)) → mat m w ≡ cond live (diffuseV m (mat m p) inf n (mat m v)) (mat m v) → mat m x ≡ symmetrise m (mat m w) → k ≡ m * m → Saved k x out → out ≡ backV m live pred inf n
   unfolding backV
-  backed live n pred inf p v w x out ep ev ew ex ek es = let eo = saved-mat m ek es in rw (← ep) (eo ∙ ex ∙ ap (symmetrise m) (rw ev at ew))
+  backed live n pred inf p v w x out ep ev ew ex ek es = let eo = saved-rect m m ek es in rw (← ep) (eo ∙ ex ∙ ap (symmetrise m) (rw ev at ew))
 
   -- P and P∞ as period t's blocks of the parts
   pub of-blocks : (t : ℕ) (live : Bool) (pc pi : List Float) (n : Ns) {out : List Float} → t * (m * m) + m * m ≤ length pc → t * (m * m) + m * m ≤ length pi

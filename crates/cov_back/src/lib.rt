@@ -114,8 +114,8 @@ fn less_between(v: &mut [f64; 64], a: &[f64; 64], n: &[f64; 64], b: &[f64; 64], 
 {
     let mut an = [0.0; 64];
     let mut anb = [0.0; 64];
-    dense::product_into(&mut an, a, n, m, m, m);
-    dense::product_into(&mut anb, &an, b, m, m, m);
+    dense::mul_into(&mut an, a, n, m);
+    dense::mul_into(&mut anb, &an, b, m);
     dense::sub(v, &anb, m);
 }
 
@@ -134,8 +134,8 @@ fn less_diffuse(
 {
     let mut a = [0.0; 64];
     let mut x = [0.0; 64];
-    dense::product_into(&mut a, p_inf, n1, m, m, m);
-    dense::product_into(&mut x, &a, p, m, m, m);
+    dense::mul_into(&mut a, p_inf, n1, m);
+    dense::mul_into(&mut x, &a, p, m);
     dense::sub(v, &x, m);
     let turned = dense::transpose(&x, m, m);
     dense::sub(v, &turned, m);
@@ -222,8 +222,8 @@ fn step(n: &mut [f64; 64], t: &[f64; 64], tn: &mut [f64; 64], m: usize)
     requires { ⌜ m ≤ 8 ⌝ }
     ensures { λ _. ⌜ mat m (now (n .exit)) ≡ quad m (mat m (now (t .entry))) (mat m (now (n .entry))) (mat m (now (t .entry))) ⌝ }
 {
-    dense::t_product_into(tn, t, n, m, m, m);
-    dense::product_into(n, tn, t, m, m, m);
+    dense::t_mul_into(tn, t, n, m);
+    dense::mul_into(n, tn, t, m);
 }
 
 fn step_all(n0: &mut [f64; 64], n1: &mut [f64; 64], n2: &mut [f64; 64], t: &[f64; 64], m: usize)

@@ -1,7 +1,7 @@
 -- P∞ is loaded in a diffuse period alone.
 use mathlib.Core.Path.{refl}
 use borrow.Author.Needs.{needs}
-use Rattle.cov_back.proofs.Laws as laws
+use Rattle.dense.proofs.Laws as dense
 use Rattle.cov_back.proofs.Sizes as sizes
 use Rattle.cov_back.proofs.less_if_diffuse.Statement.{statement}
 use Rattle.cov_back.proofs.less_if_diffuse.Tie as tie
@@ -10,7 +10,7 @@ load64-requires : tie.Need-load64-requires
 load64-requires c κs = sizes.square-most (c .before .before .pre .1) (c .before .before .pre .0)
 
 returns : tie.Need-returns
-returns c = λ n0. rw (c .before .before .before .before .if1 .taken, ← laws.loaded-mat (c .before .before .before .before .before .before .args .m) _ (c .before .before .before .before .before .before .pre .1) (c .before .before .before .load64 .ensures)) (c .less-diffuse .ensures n0)
+returns c = λ n0. rw (c .before .before .before .before .if1 .taken, ← dense.loaded-rect (c .before .before .before .before .before .before .args .m) (c .before .before .before .before .before .before .args .m) _ _ (c .before .before .before .before .before .before .pre .1) (c .before .before .before .load64 .ensures)) (c .less-diffuse .ensures n0)
 
 returns-2 : tie.Need-returns-2
 returns-2 c = λ n0. rw (c .if1 .left) refl

@@ -1,6 +1,7 @@
 -- V as the definition puts it together.
 use borrow.Author.Needs.{needs}
 use Rattle.cov_back.proofs.Laws as laws
+use Rattle.dense.proofs.Laws as dense
 use Rattle.cov_back.proofs.Sizes as sizes
 use Rattle.cov_back.proofs.smoothed.Statement.{statement}
 use Rattle.cov_back.proofs.smoothed.Tie as tie
@@ -13,7 +14,7 @@ save64-requires c κs = sizes.square-most (c .before .before .before .before .be
 
 returns : tie.Need-returns
 returns c =
-    laws.backed _ _ _ _ _ _ _ _ _ _ (laws.loaded-mat (c .before .before .before .before .before .before .before .before .before .before .before .before .before .before .before .before .before .before .args .m) _ (c .before .before .before .before .before .before .before .before .before .before .before .before .before .before .before .before .before .before .pre .1 .1 .0) (c .before .before .before .before .before .before .before .before .before .before .before .before .before .before .load64 .ensures)) (c .before .before .before .before .before .before .before .before .before .before .less-between .ensures) (c .before .before .before .before .before .before .before .less-if-diffuse .ensures _) (c .before .before .before .before .before .symmetrize-in-place .ensures) (c .before .before .before .before .before .before .before .before .before .before .before .before .before .before .before .before .before .before .pre .1 .0) (c .before .before .save64 .ensures)
+    laws.backed _ _ _ _ _ _ _ _ _ _ (dense.loaded-rect (c .before .before .before .before .before .before .before .before .before .before .before .before .before .before .before .before .before .before .args .m) (c .before .before .before .before .before .before .before .before .before .before .before .before .before .before .before .before .before .before .args .m) _ _ (c .before .before .before .before .before .before .before .before .before .before .before .before .before .before .before .before .before .before .pre .1 .1 .0) (c .before .before .before .before .before .before .before .before .before .before .before .before .before .before .load64 .ensures)) (c .before .before .before .before .before .before .before .before .before .before .less-between .ensures) (c .before .before .before .before .before .before .before .less-if-diffuse .ensures _) (c .before .before .before .before .before .symmetrize-in-place .ensures) (c .before .before .before .before .before .before .before .before .before .before .before .before .before .before .before .before .before .before .pre .1 .0) (c .before .before .save64 .ensures)
 
 pub smoothed-spec : {M : Type 1} → statement M
 smoothed-spec = tie.close (tie.spec load64-requires (λ c κs. search needs) (λ c κs. search needs) (λ c κs. search needs) save64-requires (λ c. search needs) returns)
