@@ -6,7 +6,6 @@ use native.Mathlib.Omega.{arith}
 use mathlib.Core.Bool.{Bool, cond}
 use mathlib.Core.List.{List}
 use lib.ListN.{length, getD, take, drop}
-use lib.Seq.{drop-length, drop-cons}
 use lib.Dec.{ltb}
 use lib.Ieee.{Float, nan, neg}
 use Rattle.definition.specs.Num.{_⊕_, _⊗_, 1ᶠ, isZero, at, sumBut}
@@ -18,7 +17,8 @@ use Rattle.laws.specs.Lists.{tab-at, length-tab, matrix-at, pairs-at}
 use Rattle.laws.specs.Flat.{Flat, readBack, decisionsAt, blockAt, lookAt, meanLookAt, kind-skipped, kind-usual, kind-diffuse}
 use Rattle.dense.proofs.Laws.{but-next}
 use Rattle.dense.specs.Views.{vec}
-use Rattle.mean.proofs.Laws.{length-pairs, part-block, part-row, loaded}
+use Rattle.laws.specs.Backward.{fold-none, fold-step, part-block}
+use Rattle.mean.proofs.Laws.{length-pairs, part-row, loaded}
 use Rattle.mean.proofs.Sizes.{block-long}
 use Rattle.mean_back.specs.View.{lookedAt}
 
@@ -82,17 +82,6 @@ module _ (m i k : ℕ) (v f : Float) (design z : List Float) (hr : i * m + m ≤
 pub smooth-at : (m t : ℕ) (live : Bool) (r : Rs) (pm pc pi out : List Float) → t * m + m ≤ length pm → t * (m * m) + m * m ≤ length pc → t * (m * m) + m * m ≤ length pi
     → out ≡ backA m live (take (t * (m * m) + m * m - t * (m * m)) (drop (t * (m * m)) pc)) (take (t * (m * m) + m * m - t * (m * m)) (drop (t * (m * m)) pi)) (take (t * m + m - t * m) (drop (t * m) pm)) r → out ≡ backA m live (blockAt (m * m) pc t) (blockAt (m * m) pi t) (blockAt m pm t) r
 smooth-at m t live r pm pc pi out hm hc hi h = rw (part-block t m pm hm, part-block t (m * m) pc hc, part-block t (m * m) pi hi) at h
-
--- ---- going through a list from its end: the state with the places from i on done
-
-module _ {A S : Type 0} (f : ℕ → S → A → S) (xs : List A) (s : S) where
-  pub fold-none : (n : ℕ) → length xs ≡ n → s ≡ foldBack f n s (drop n xs)
-  unfolding foldBack
-  fold-none n e = rw (← e, drop-length xs) refl
-
-  pub fold-step : (i : ℕ) (d : A) → i < length xs → foldBack f i s (drop i xs) ≡ f i (foldBack f (suc i) s (drop (suc i) xs)) (getD xs i d)
-  unfolding foldBack
-  fold-step i d h = ap (foldBack f i s) (drop-cons xs i d h)
 
 -- ---- the elements of a period
 

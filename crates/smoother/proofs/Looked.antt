@@ -22,7 +22,7 @@ use Rattle.passes.specs.View.{covParts, meanParts, Fit, Ran}
 use Rattle.mean.specs.View.{flatIn}
 use Rattle.mean.specs.declared.Answer.{Answer}
 use Rattle.cov_back.specs.Call as cov-call
-use Rattle.cov_back.specs.Looked as cov-looked
+use Rattle.laws.specs.Looked as cov-looked
 use Rattle.mean_back.specs.Call as mean-call
 use Rattle.mean_back.specs.Looked as mean-looked
 use Rattle.passes_back.specs.View.{ReadyBack, Back}
