@@ -1,6 +1,11 @@
 //! The proved call, by the C calling convention.
 
+use std::sync::atomic::{AtomicUsize, Ordering};
+
 use oracle::{Answer, Inputs, Outcome, Outputs};
+
+/// Where the last call was made from: an address in its caller's frame. What lies below is the parameters and the call's own.
+pub static FROM: AtomicUsize = AtomicUsize::new(0);
 
 extern "C" {
     fn goxundar_filter(
@@ -68,6 +73,7 @@ const UNTOUCHED: u64 = 0xA5A5_A5A5_A5A5_A5A5;
 pub fn filter(i: &Inputs<'_>, o: &mut Outputs<'_>) -> Outcome {
     let mut loglik = f64::from_bits(UNTOUCHED);
     let (mut d_diffuse, mut heard, mut news) = (UNTOUCHED as usize, UNTOUCHED as usize, UNTOUCHED as usize);
+    FROM.store(std::ptr::addr_of!(loglik) as usize, Ordering::Relaxed);
     let refusal = unsafe {
         goxundar_filter(
             i.p,

@@ -1,5 +1,7 @@
 //! The stack that a call takes: it runs on a painted stack of its own, and the deepest byte that lost its paint tells.
 
+use std::sync::atomic::Ordering;
+
 use oracle::case::{Buffers, Case};
 use oracle::gen::Cases;
 use oracle::time;
@@ -32,7 +34,7 @@ unsafe fn call_on(top: *mut u8, case: *const Case, buffers: *mut Buffers) {
     );
 }
 
-/// Bytes of stack that the call on a case takes, its caller's own frame and the parameters among them.
+/// Bytes of stack that the call on a case takes, with its parameters.
 #[cfg(target_arch = "x86_64")]
 fn depth(case: &Case, room: &mut [u128]) -> usize {
     let bytes = room.as_mut_ptr().cast::<u8>();
@@ -41,7 +43,7 @@ fn depth(case: &Case, room: &mut [u128]) -> usize {
         bytes.write_bytes(PAINT, SIZE);
         call_on(bytes.add(SIZE), case, &mut buffers);
         let kept = (0..SIZE).take_while(|&k| bytes.add(k).read() == PAINT).count();
-        SIZE - kept
+        proved::FROM.load(Ordering::Relaxed) - bytes.add(kept) as usize
     }
 }
 

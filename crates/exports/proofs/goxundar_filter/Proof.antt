@@ -1,4 +1,4 @@
--- `exports::goxundar_filter` meets its contract. Assumes nothing.
+-- `exports::goxundar_filter` meets its contract. Assumes nothing. Made of Proof.tpl by tools/expand.
 use borrow.Author.Needs.{needs}
 use Rattle.exports.proofs.goxundar_filter.Statement.{statement}
 use Rattle.exports.proofs.goxundar_filter.Tie as tie
