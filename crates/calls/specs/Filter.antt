@@ -31,6 +31,10 @@ module _ (x : Model) (o : Offsets) (y : List Float) (w : CovParts) (w′ : MeanP
       let s = refusals.keeps x o y w w′ k l h (subst (λ (n : ℕ). n ≡ k) (seen.refusal-is call) e) in
       seen.parts-are call (s .0) (s .1)
 
+  -- and 12 blanks
+  pub blanked : seen.refusalOf r ≡ 12 → seen.BlankParts x w b w′ b′
+  blanked e = seen.blanks call (refusals.blanked x o y w w′ (subst (λ (n : ℕ). n ≡ 12) (seen.refusal-is call) e))
+
   -- demand 2: no room. What the call came back with and left is one thing
   pub determined : {s : Outcome} {c : CovParts} {c′ : MeanParts} → Called x o y w w′ s c c′ → seen.Same r s b c b′ c′
   determined again = seen.same call again refl

@@ -43,6 +43,12 @@ pub record SameParts (b c : CovParts) (b′ c′ : MeanParts) : Type 0 where
   pub covs : SameCovs b c
   pub means : (q : MeanPart) → b′ q ≡ c′ q
 
+-- demand 1, refusal 12: of each part, lent as w or w′, the stretch that a run needs is blank, and the tail is as it was
+pub record BlankParts (x : Model) (w b : CovParts) (w′ b′ : MeanParts) : Type 0 where
+  pub kinds : Blanked (kindsNeed x) 0 (w .kinds) (b .kinds)
+  pub covs : (q : CovPart) → Blanked (covNeed x q) 0ᶠ (w .part q) (b .part q)
+  pub means : (q : MeanPart) → Blanked (meanNeed x q) 0ᶠ (w′ q) (b′ q)
+
 -- demand 3, first half: the same refusal or the same counts, and the same decisions, variances and covariances
 pub record Blind (r s : Outcome) (b c : CovParts) : Type 0 where
   pub refusals : refusalOf r ≡ refusalOf s
@@ -102,7 +108,7 @@ module _ {u : CovOutcome × MeanOutcome} {r : Outcome} {b : CovParts} {b′ : Me
   loglik-is : loglikOf r ≡ loglikBy (u .0 .refused) (u .1 .loglik)
   loglik-is = ap loglikOf (p .answer) ∙ loglik-by (u .0 .refused) (u .0 .counts) (u .1 .loglik)
 
-  -- the parts are what v says, where the outcome's are
+  -- the parts are c and c′ where the outcome's are
   pub parts-are : {c : CovParts} {c′ : MeanParts} → u .0 .parts ≡ c → u .1 .parts ≡ c′ → SameParts b c b′ c′
   parts-are e e′ =
       record {
@@ -110,7 +116,7 @@ module _ {u : CovOutcome × MeanOutcome} {r : Outcome} {b : CovParts} {b′ : Me
         means = λ q. p .mean q ∙ ap (λ (z : MeanParts). z q) e′;
       }
 
-  pub blanks : {x : Model} {w : CovParts} {w′ : MeanParts} → Blank x w w′ u → Blank x w w′ (record { refused = u .0 .refused; counts = u .0 .counts; parts = b }, record { loglik = u .1 .loglik; parts = b′ })
+  pub blanks : {x : Model} {w : CovParts} {w′ : MeanParts} → Blank x w w′ u → BlankParts x w b w′ b′
   blanks z = record { kinds = p .kinds ∙ z .kinds; covs = λ q. p .cov q ∙ z .covs q; means = λ q. p .mean q ∙ z .means q }
 
   pub no-news : {y : List Float} {k : ℕ} → NoNews y r b k → values.NoNews y (u .0) k

@@ -7,12 +7,13 @@ use mathlib.Core.List.{List}
 use lib.ListN.{set}
 use lib.Dec.{T}
 use lib.Ieee.{Float, nan}
-use Rattle.definition.specs.Num.{isFinite}
+use Rattle.definition.specs.Num.{0ᶠ, isFinite}
 use Rattle.definition.specs.Inputs.{Model, Offsets}
-use Rattle.definition.specs.Outcome.{CovParts, MeanParts, SmoothedCov, SmoothedMean, CovOutcome, MeanOutcome, smoothOutcome}
+use Rattle.definition.specs.Outcome.{CovParts, MeanParts, SmoothedCov, SmoothedMean, CovOutcome, MeanOutcome, smoothedCovNeed, smoothedMeanNeed, smoothOutcome}
 use Rattle.definition.specs.Tracks.{smooth-by-kinds}
 use Rattle.demands.specs.Conditions.{RoomSmooth, table, First}
 use Rattle.demands.specs.Refusals as refusals
+use Rattle.demands.specs.Refusals.{Blanked}
 use Rattle.demands.specs.Values as demand
 use Rattle.filter.specs.declared.Outcome.{Outcome}
 use Rattle.smoother.specs.Promise.{PromiseSmooth}
@@ -47,6 +48,11 @@ module _ (x : Model) (o : Offsets) (y : List Float) (w : CovParts) (w′ : MeanP
   keeps k l h e =
       let s = refusals.keeps-smooth x o y w w′ sc sm k l h (subst (λ (n : ℕ). n ≡ k) (seen.refusal-is (call .filter)) e) in
       (seen.parts-are (call .filter) (s .0) (s .1), call .mean ∙ s .3, call .cov ∙ s .2)
+
+  pub blanked : seen.refusalOf r ≡ 12 → seen.BlankParts x w b w′ b′ × Blanked (smoothedMeanNeed x) 0ᶠ sm sm′ × Blanked (smoothedCovNeed x) 0ᶠ sc sc′
+  blanked e =
+      let s = refusals.blanked-smooth x o y w w′ sc sm (subst (λ (n : ℕ). n ≡ 12) (seen.refusal-is (call .filter)) e) in
+      (seen.blanks (call .filter) (s .0), call .mean ∙ s .2, call .cov ∙ s .1)
 
   -- demand 2: no room
   pub determined : {s : Outcome} {c : CovParts} {c′ : MeanParts} {sm″ sc″ : List Float} → Called x o y w w′ sm sc s c c′ sm″ sc″ → Same r s b c b′ c′ sm′ sm″ sc′ sc″
