@@ -1,7 +1,7 @@
 -- What the steps of an element back come to, over plain variables: each is handed what a call left.
-use mathlib.Core.Path.{_≡_, refl, sym, ap, ap₂, _∙_}
-use Prim.Native.Nat.{ℕ, zero, suc, _*_}
-use mathlib.Core.Bool.{Bool, true, false, cond}
+use mathlib.Core.Path.{_≡_}
+use Prim.Native.Nat.{ℕ, _*_}
+use mathlib.Core.Bool.{Bool, cond}
 use mathlib.Core.List.{List}
 use lib.Ieee.{Float, binary64}
 use Rattle.definition.specs.Dense.{outerScaled, plus, plusAt, quad, mul, tr}

@@ -110,8 +110,8 @@ fn usual_n0(n0: &mut [f64; 64], z: &[f64; 8], g: f64, l: &[f64; 64], m: usize)
     ensures { λ _. ⌜ mat m (now (n0 .exit)) ≡ usualN0 m (vec m (now (z .entry))) g (mat m (now (l .entry))) (mat m (now (n0 .entry))) ⌝ }
 {
     let mut ln = [0.0; 64];
-    dense::t_mul_into(&mut ln, l, n0, m);
-    dense::mul_into(n0, &ln, l, m);
+    products::t_mul_into(&mut ln, l, n0, m);
+    products::mul_into(n0, &ln, l, m);
     let s = dense::outer_scaled(z, z, g, m);
     dense::add(n0, &s, m);
 }
@@ -122,7 +122,7 @@ fn usual_n1(n1: &mut [f64; 64], live: bool, l: &[f64; 64], m: usize)
     ensures { λ _. ⌜ mat m (now (n1 .exit)) ≡ cond live (mul m (mat m (now (n1 .entry))) (mat m (now (l .entry)))) (mat m (now (n1 .entry))) ⌝ }
 {
     if live {
-        let x = dense::product(n1, l, m, m, m);
+        let x = products::product(n1, l, m, m, m);
         *n1 = x;
     }
 }
@@ -158,9 +158,9 @@ fn diffuse_n1(
     ensures { λ r. ⌜ ((n2 : List Float) → mat m r ≡ diffuseN1 m (vec m (now (z .entry))) f1 (mat m (now (l0 .entry))) (mat m (now (l1 .entry))) (record { n0 = mat m (now (n0 .entry)); n1 = mat m (now (n1 .entry)); n2 = n2 })) ⌝ }
 {
     let mut s = dense::outer_scaled(z, z, f1, m);
-    let a = dense::quad(l0, n1, l0, m);
+    let a = products::quad(l0, n1, l0, m);
     dense::add(&mut s, &a, m);
-    let b = dense::quad(l1, n0, l0, m);
+    let b = products::quad(l1, n0, l0, m);
     dense::add(&mut s, &b, m);
     s
 }
@@ -170,8 +170,8 @@ fn quad_turned(a: &[f64; 64], n: &[f64; 64], b: &[f64; 64], m: usize) -> [f64; 6
     requires { ⌜ m ≤ 8 ⌝ }
     ensures { λ r. ⌜ mat m r ≡ quad m (mat m (now (a .entry))) (tr m (mat m (now (n .entry)))) (mat m (now (b .entry))) ⌝ }
 {
-    let turned = dense::transpose(n, m, m);
-    dense::quad(a, &turned, b, m)
+    let turned = products::transpose(n, m, m);
+    products::quad(a, &turned, b, m)
 }
 
 // N2 = z z' F2 + L0' N2 L0 + L0' N1 L1 + L1' N1' L0 + L1' N0 L1.
@@ -189,13 +189,13 @@ fn diffuse_n2(
     ensures { λ r. ⌜ mat m r ≡ diffuseN2 m (vec m (now (z .entry))) f2 (mat m (now (l0 .entry))) (mat m (now (l1 .entry))) (nsIn m (now (n0 .entry)) (now (n1 .entry)) (now (n2 .entry))) ⌝ }
 {
     let mut s = dense::outer_scaled(z, z, f2, m);
-    let a = dense::quad(l0, n2, l0, m);
+    let a = products::quad(l0, n2, l0, m);
     dense::add(&mut s, &a, m);
-    let b = dense::quad(l0, n1, l1, m);
+    let b = products::quad(l0, n1, l1, m);
     dense::add(&mut s, &b, m);
     let c = quad_turned(l1, n1, l0, m);
     dense::add(&mut s, &c, m);
-    let d = dense::quad(l1, n0, l1, m);
+    let d = products::quad(l1, n0, l1, m);
     dense::add(&mut s, &d, m);
     s
 }
@@ -218,7 +218,7 @@ fn back_diffuse(
     let l1 = l_diffuse(z, f, f_inf, m_star, m_inf, m);
     let c = diffuse_n2(n0, n1, n2, z, f_two(f, f_inf), &l0, &l1, m);
     let b = diffuse_n1(n0, n1, z, f_one(f_inf), &l0, &l1, m);
-    let a = dense::quad(&l0, n0, &l0, m);
+    let a = products::quad(&l0, n0, &l0, m);
     *n2 = c;
     *n1 = b;
     *n0 = a;

@@ -16,24 +16,16 @@ pub record Sizes (p m n : ℕ) : Type 0 where
 
 -- the stretches' lengths are small
 pub record Small (p m n : ℕ) : Type 0 where
-  pub np : n * p ≤ 32768
-  pub nm : n * m ≤ 32768
   pub pm : p * m ≤ 64
   pub mm : m * m ≤ 64
-  pub npm : n * (p * m) ≤ 262144
-  pub nmm : n * (m * m) ≤ 262144
 
 pub small : {p m n : ℕ} → Sizes p m n → Small p m n
 small {p} {m} {n} s =
     let pm : p * m ≤ 64 = mul-le-mul {n₁ = p} {m₁ = m} {n₂ = 8} {m₂ = 8} (s .p8) (s .m8) in
     let mm : m * m ≤ 64 = mul-le-mul {n₁ = m} {m₁ = m} {n₂ = 8} {m₂ = 8} (s .m8) (s .m8) in
     record {
-      np = mul-le-mul {n₁ = n} {m₁ = p} {n₂ = 4096} {m₂ = 8} (s .n4096) (s .p8);
-      nm = mul-le-mul {n₁ = n} {m₁ = m} {n₂ = 4096} {m₂ = 8} (s .n4096) (s .m8);
       pm = pm;
       mm = mm;
-      npm = mul-le-mul {n₁ = n} {m₁ = p * m} {n₂ = 4096} {m₂ = 64} (s .n4096) pm;
-      nmm = mul-le-mul {n₁ = n} {m₁ = m * m} {n₂ = 4096} {m₂ = 64} (s .n4096) mm;
     }
 
 pub record MeanRoom (p m n : ℕ) (pm fm vs : ℕ) : Type 0 where

@@ -1,6 +1,6 @@
 -- The three demands, of the smoother's call: the filter's eleven parts and the two smoothed ones. `Called` is as in Filter, with the smoothed parts
 -- lent as sm and sc and left as sm′ and sc′. That every call does so is the contract of smoother::smooth_univariate.
-use mathlib.Core.Path.{_≡_, refl, sym, ap, ap₂, _∙_, subst}
+use mathlib.Core.Path.{_≡_, refl, sym, ap, _∙_, subst}
 use mathlib.Core.Logic.{_↔_}
 use Prim.Native.Nat.{ℕ, _<_}
 use mathlib.Core.List.{List}

@@ -1,29 +1,27 @@
 -- The loop over the periods: what holds before period i, how a period's three steps keep it, and what it comes to.
 use mathlib.Core.Path.{_≡_, refl, sym, ap, ap₂, _∙_, subst}
-use Prim.Native.Nat.{ℕ, zero, suc, _+_, _-_, _*_, _≤_, _<_}
-use native.Mathlib.Nat.{mul-le-mul}
+use Prim.Native.Nat.{ℕ, _+_, _-_, _*_, _≤_, _<_}
 use native.Mathlib.Omega.{arith}
 use mathlib.Core.Bool.{Bool, true, false, cond}
 use mathlib.Core.List.{List, [], _∷_, _++_, map}
-use lib.ListN.{length, getD, take, drop, length-map}
+use lib.ListN.{length, getD, take}
 use lib.Seq.{take-all}
 use lib.Ieee.{Float}
 use mir.Val.{Fits}
 use mir.Syntax.{w64}
 use Rattle.definition.specs.Dense.{symmetrise}
-use Rattle.definition.specs.Run.{scan, count, join, chunks}
-use Rattle.definition.specs.Cov.{System, Cov, CovPeriod, Decision, Inner, isLive, entered, elementOf, stepped, ended, periodOf, period, covRun}
+use Rattle.definition.specs.Run.{scan, count, join}
+use Rattle.definition.specs.Cov.{System, Cov, CovPeriod, isLive, entered, stepped, ended, periodOf, period, covRun}
 use Rattle.definition.specs.Inputs.{Kind, isGap, gapRows, systemFrom, designFrom}
 use Rattle.definition.specs.Parts.{predCov, predInf, filtCov, fStar, fInf, mStar, mInf, covBlock, kindBlock}
 use Rattle.definition.specs.Outcome.{covWritten, kindsWritten}
 use Rattle.laws.specs.Lists.{length-chunks}
-use Rattle.laws.specs.Passes.{wrote-none, wrote-next, wrote-all, state-next, state-all, count-next, count-append, chunk-at, block-in, over, Laid, lay-last}
+use Rattle.laws.specs.Passes.{wrote-none, wrote-next, wrote-all, state-next, state-all, count-next, count-append, chunk-at, block-in, lay-last}
 use Rattle.laws.specs.Passes as passes
 use Rattle.dense.specs.Views.{vec, mat, rect}
 use Rattle.blocks.specs.Block.{Put}
-use Rattle.model.specs.Design.{DesignFits, length-design}
 use Rattle.element.specs.Views.{stateOf}
-use Rattle.cov.specs.View.{gapsAt, Two, Entered, Five, absorbOf, Absorbed, Wrote, Left, Periods, Room, LoopedTo, Passed}
+use Rattle.cov.specs.View.{gapsAt, Entered, absorbOf, Absorbed, Wrote, Left, Room, LoopedTo, Passed}
 
 -- a whole period, from what its steps leave
 module _ (p m : ℕ) (h t r z s q b u : List Float) (live : Bool) (gaps : List Bool) where

@@ -6,13 +6,12 @@ use native.Mathlib.Omega.{arith}
 use mathlib.Core.Bool.{Bool}
 use mathlib.Core.List.{List, [], _∷_, map}
 use lib.ListN.{length, take, drop, length-take, length-drop}
-use lib.Seq.{length-take-le}
 use lib.Ieee.{Float}
 use mir.Val.{Fits}
 use mir.Syntax.{w64}
 use Rattle.definition.specs.Dense.{symmetrise}
 use Rattle.definition.specs.Run.{scan}
-use Rattle.definition.specs.Cov.{Cov, Decision, Inner, elementOf, stepped}
+use Rattle.definition.specs.Cov.{Cov, elementOf, stepped}
 use Rattle.definition.specs.Inputs.{kindOf, isGap}
 use Rattle.dense.specs.Views.{vec, mat, rect}
 use Rattle.blocks.specs.Block.{Put}

@@ -8,7 +8,7 @@ use lib.Ieee.{Float}
 use Rattle.definition.specs.Dense.{symmetrise}
 use Rattle.definition.specs.Run.{scan, join, count}
 use Rattle.definition.specs.Cov.{Cov, CovPeriod, Decision, Inner, isLive, entered, elementOf, stepped}
-use Rattle.definition.specs.Parts.{CovPart, predCov, predInf, filtCov, fStar, fInf, mStar, mInf, covBlock, kindBlock, kindNo, mStarOf, mInfOf}
+use Rattle.definition.specs.Parts.{predCov, predInf, filtCov, fStar, fInf, mStar, mInf, covBlock, kindBlock, kindNo, mStarOf, mInfOf}
 use Rattle.definition.specs.Parts as parts
 use Rattle.definition.specs.Outcome.{covWritten, kindsWritten}
 use Rattle.definition.specs.Inputs.{Kind, isGap}

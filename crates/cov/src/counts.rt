@@ -4,7 +4,6 @@ ghost use mathlib.Core.List.{map};
 ghost use mathlib.Core.Bool.{not, cond};
 ghost use Prim.Native.Nat.{_≤_, _+_};
 ghost use lib.ListN.{length, take};
-ghost use lib.Dec.{eqb};
 ghost use Rattle.definition.specs.Inputs.{kindOf, isGap};
 ghost use Rattle.definition.specs.Run.{count};
 ghost use Rattle.cov.specs.Counts.{isKept};

@@ -1,37 +1,33 @@
 -- Laws of one period back: what is read off the lent parts, the elements from the last, the smoothed covariance, the step.
-use mathlib.Core.Path.{_≡_, refl, sym, ap, ap₂, _∙_}
-use Prim.Native.Nat.{ℕ, zero, suc, _+_, _-_, _*_, _≤_, _<_}
+use mathlib.Core.Path.{_≡_, sym, ap, ap₂, _∙_}
+use Prim.Native.Nat.{ℕ, suc, _+_, _-_, _*_, _≤_, _<_}
 use native.Mathlib.Nat.{zero-add}
 use native.Mathlib.Omega.{arith}
 use mathlib.Core.Bool.{Bool, cond}
-use mathlib.Core.List.{List, [], _∷_}
-use lib.ListN.{length, getD, take, drop, length-take, length-drop}
+use mathlib.Core.List.{List}
+use lib.ListN.{length, getD, take, drop}
 use lib.Dec.{ltb}
 use lib.Ieee.{Float}
 use Rattle.definition.specs.Num.{at}
-use Rattle.definition.specs.Dense.{mul, tr, minus, quad, symmetrise, row, rowAt}
+use Rattle.definition.specs.Dense.{mul, tr, minus, quad, symmetrise, row}
 use Rattle.definition.specs.Run.{foldBack}
-use Rattle.definition.specs.Cov.{Decision, skipped}
+use Rattle.definition.specs.Cov.{skipped}
 use Rattle.definition.specs.Smooth.{Ns, backN, backElement, elementsN, between, diffuseV, backV, stepNs, backCovOf}
 use Rattle.laws.specs.Lists.{tab-at, length-tab}
 use Rattle.laws.specs.Flat.{Flat, decisionOf, readBack, decisionsAt, blockAt, lookAt}
-use Rattle.laws.specs.Backward.{fold-none, fold-step, part-block}
+use Rattle.laws.specs.Backward.{fold-none, fold-step, part-block, part-row, block-long}
 use Rattle.dense.specs.Views.{vec, mat}
 use Rattle.dense.specs.Places.{Saved}
 use Rattle.dense.proofs.Laws.{saved-rect}
 
 -- ---- parts of slices, loaded and saved
 
-pub block-long : {A : Type 0} (t k : ℕ) (l : List A) → t * k + k ≤ length l → length (take (t * k + k - t * k) (drop (t * k) l)) ≡ k
-block-long t k l h = simp (length-take, length-drop) (omega arith)
-
 -- the m entries from place k * m on
 pub loaded-block : (k m : ℕ) (l r : List Float) → k * m + m ≤ length l → vec (length (take (k * m + m - k * m) (drop (k * m) l))) r ≡ take (k * m + m - k * m) (drop (k * m) l) → vec m r ≡ blockAt m l k
 loaded-block k m l r h e = ap (λ (i : ℕ). vec i r) (sym (block-long k m l h)) ∙ e ∙ part-block k m l h
 
 pub loaded-row : (i m : ℕ) (l r : List Float) → i * m + m ≤ length l → vec (length (take (i * m + m - i * m) (drop (i * m) l))) r ≡ take (i * m + m - i * m) (drop (i * m) l) → vec m r ≡ row m l i
-unfolding row rowAt blockAt
-loaded-row i m l r h e = loaded-block i m l r h e
+loaded-row i m l r h e = ap (λ (i : ℕ). vec i r) (sym (block-long i m l h)) ∙ e ∙ part-row i m l h
 
 -- ---- one element, by the record at place k
 

@@ -9,10 +9,10 @@ use lib.Ieee.{Float}
 use mir.Val.{Fits}
 use mir.Syntax.{w64}
 use Rattle.definition.specs.Inputs.{designFrom}
-use Rattle.laws.specs.Flat.{Flat}
+use Rattle.laws.specs.Flat.{Flat, fewer}
 use Rattle.laws.specs.Passes.{block-in}
 use Rattle.model.specs.Design.{length-design}
-use Rattle.cov_back.specs.View.{Holds, Element, Period, Blocks, Periods, Ready}
+use Rattle.cov_back.specs.View.{Element, Period, Blocks, Periods, Ready}
 
 pub square : {m : ℕ} → m ≤ 8 → m * m ≤ 64
 square {m} h = mul-le-mul {n₁ = m} {m₁ = m} {n₂ = 8} {m₂ = 8} h h
@@ -74,17 +74,6 @@ element-in {p} {m} {t} {i} h b =
       fi = omega (arith, h .holds .fi);
       ms = omega (arith, h .holds .ms);
       mi = omega (arith, h .holds .mi);
-    }
-
--- the records below fewer places
-fewer : {m j k : ℕ} {r : Flat} → j ≤ k → Holds m k r → Holds m j r
-fewer {m} h g =
-    record {
-      ks = omega (arith, g .ks);
-      fs = omega (arith, g .fs);
-      fi = omega (arith, g .fi);
-      ms = omega (arith, g .ms, mul-le-mul-right m h);
-      mi = omega (arith, g .mi, mul-le-mul-right m h);
     }
 
 -- a part that is as long as it was has room for block t

@@ -5,7 +5,6 @@ use native.Mathlib.Omega.{arith}
 use mathlib.Core.Bool.{Bool}
 use mathlib.Core.List.{List, map}
 use lib.ListN.{length}
-use lib.Ieee.{Float}
 use Rattle.definition.specs.Run.{scanBack}
 use Rattle.definition.specs.Cov.{CovPeriod}
 use Rattle.definition.specs.Smooth.{Look, lookOf, backCov, noNs, smoothCov}

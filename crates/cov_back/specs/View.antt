@@ -1,30 +1,11 @@
 -- What the covariances' way back reads off the lent parts, what it needs of them, and what it promises.
 use mathlib.Core.Path.{_≡_}
 use Prim.Native.Nat.{ℕ, _+_, _*_, _≤_, _<_}
-use mathlib.Core.List.{List}
 use lib.ListN.{length}
-use lib.Ieee.{Float}
-use Rattle.definition.specs.Run.{join}
-use Rattle.definition.specs.Smooth.{Ns}
-use Rattle.laws.specs.Flat.{Flat}
-use Rattle.laws.specs.Passes.{Laid}
+use Rattle.laws.specs.Flat.{Flat, Holds}
 use Rattle.model.specs.Design.{DesignFits}
 
--- ---- what the flat parts stand for
-
--- the records: kinds, F*, F∞, M* and M∞
-abbrev pub flatIn : List ℕ → List Float → List Float → List Float → List Float → Flat
-flatIn k f g a b = record { kinds = k; fStars = f; fInfs = g; mStars = a; mInfs = b }
-
 -- ---- what has to be there
-
--- the records of the places below k
-pub record Holds (m k : ℕ) (r : Flat) : Type 0 where
-  pub ks : k ≤ length (r .kinds)
-  pub fs : k ≤ length (r .fStars)
-  pub fi : k ≤ length (r .fInfs)
-  pub ms : k * m ≤ length (r .mStars)
-  pub mi : k * m ≤ length (r .mInfs)
 
 -- element i of a period, by the record at place k
 pub record Element (m i k design : ℕ) (r : Flat) : Type 0 where

@@ -5,17 +5,16 @@ ghost use mathlib.Core.Bool.{cond};
 ghost use mathlib.Core.List.{List};
 ghost use Prim.Native.Nat.{_≤_, _*_, _+_};
 ghost use lib.ListN.{length};
-ghost use lib.Dec.{ltb};
 ghost use lib.Ieee.{Float};
 ghost use Rattle.definition.specs.Dense.{quad, minus};
 ghost use Rattle.definition.specs.Run.{scanBack, join};
 ghost use Rattle.definition.specs.Inputs.{frameFrom};
 ghost use Rattle.definition.specs.Smooth.{backElement, elementsN, between, diffuseV, backV, stepNs, backCovOf, backCov, noNs};
-ghost use Rattle.laws.specs.Flat.{readBack, decisionsAt, blockAt, lookAt, looks};
+ghost use Rattle.laws.specs.Flat.{flatIn, readBack, decisionsAt, blockAt, lookAt, looks};
 ghost use Rattle.laws.specs.Passes.{Laid};
 ghost use Rattle.dense.specs.Views.{mat};
 ghost use Rattle.backward.specs.View.{nsIn};
-ghost use Rattle.cov_back.specs.View.{flatIn, Element, Period, Blocks, Periods, Ready};
+ghost use Rattle.cov_back.specs.View.{Element, Period, Blocks, Periods, Ready};
 
 // ---- the elements
 
@@ -114,8 +113,8 @@ fn less_between(v: &mut [f64; 64], a: &[f64; 64], n: &[f64; 64], b: &[f64; 64], 
 {
     let mut an = [0.0; 64];
     let mut anb = [0.0; 64];
-    dense::mul_into(&mut an, a, n, m);
-    dense::mul_into(&mut anb, &an, b, m);
+    products::mul_into(&mut an, a, n, m);
+    products::mul_into(&mut anb, &an, b, m);
     dense::sub(v, &anb, m);
 }
 
@@ -134,10 +133,10 @@ fn less_diffuse(
 {
     let mut a = [0.0; 64];
     let mut x = [0.0; 64];
-    dense::mul_into(&mut a, p_inf, n1, m);
-    dense::mul_into(&mut x, &a, p, m);
+    products::mul_into(&mut a, p_inf, n1, m);
+    products::mul_into(&mut x, &a, p, m);
     dense::sub(v, &x, m);
-    let turned = dense::transpose(&x, m, m);
+    let turned = products::transpose(&x, m, m);
     dense::sub(v, &turned, m);
     less_between(v, p_inf, n2, p_inf, m);
 }
@@ -222,8 +221,8 @@ fn step(n: &mut [f64; 64], t: &[f64; 64], tn: &mut [f64; 64], m: usize)
     requires { ⌜ m ≤ 8 ⌝ }
     ensures { λ _. ⌜ mat m (now (n .exit)) ≡ quad m (mat m (now (t .entry))) (mat m (now (n .entry))) (mat m (now (t .entry))) ⌝ }
 {
-    dense::t_mul_into(tn, t, n, m);
-    dense::mul_into(n, tn, t, m);
+    products::t_mul_into(tn, t, n, m);
+    products::mul_into(n, tn, t, m);
 }
 
 fn step_all(n0: &mut [f64; 64], n1: &mut [f64; 64], n2: &mut [f64; 64], t: &[f64; 64], m: usize)

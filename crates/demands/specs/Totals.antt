@@ -4,7 +4,7 @@ use mathlib.Core.Path.{_≡_, refl, sym, ap, ap₂, _∙_}
 use Prim.Native.Nat.{ℕ, zero, suc, _+_, _*_, _≤_, _<_}
 use native.Mathlib.Nat.{le-refl}
 use native.Mathlib.Omega.{arith}
-use mathlib.Core.Bool.{Bool, true, false, not, cond, _&&_}
+use mathlib.Core.Bool.{Bool, true, false, not, _&&_}
 use mathlib.Core.List.{List, [], _∷_, map}
 use lib.Dec.{ltb, eqb}
 use lib.ListN.{length, getD, take, drop, replicate, getD-replicate, length-map}
@@ -20,9 +20,9 @@ use Rattle.definition.specs.Outcome.{CovParts, MeanParts, CovOutcome, Counts, F
 use Rattle.definition.specs.Computed.{opened}
 use Rattle.definition.specs.Tracks.{heard-is}
 use Rattle.laws.specs.Lists.{length-join, length-chunks, place-lt}
-use Rattle.laws.specs.ReadBack.{AllOf}
+use Rattle.laws.specs.ReadBack.{AllOf, kinds-join, kinds-count}
 use Rattle.laws.specs.Shapes.{run-whole, run-length, first-ones, period-first}
-use Rattle.demands.specs.Unheard.{answered-by, readings-fit, each-many, kinds-join, noPeriod}
+use Rattle.demands.specs.Unheard.{answered-by, readings-fit, each-many, noPeriod}
 
 -- the periods of a call's run, as the covariance track leaves them: each says whether it is diffuse
 abbrev pub periodsOf : Model → List Float → List CovPeriod
@@ -95,11 +95,6 @@ none-refused zero true e = absurd (omega arith)
 none-refused zero false e = refl
 none-refused (suc r) q e = absurd (omega arith)
 
-count-map : {A B : Type 0} (q : B → Bool) (g : A → B) (l : List A) → count q (map g l) ≡ count (λ (a : A). q (g a)) l
-unfolding count
-count-map q g [] = refl
-count-map q g (a ∷ l) = ap (λ (k : ℕ). cond (q (g a)) 1 0 + k) (count-map q g l)
-
 module _ (x : Model) (o : Offsets) (y : List Float) (b : CovParts) (room : Bool) (ok : fate x o (map kindOf y) room ≡ answered) where
   fit : length (map kindOf y) ≡ x .n * x .p
   unfolding fate
@@ -122,8 +117,7 @@ module _ (x : Model) (o : Offsets) (y : List Float) (b : CovParts) (room : Bool)
   news-is : countsOf (periodsOf x y) (map kindOf y) .news ≡ count (λ (k : ℕ). not (eqb k 0)) (kindsWritten (covOf x (map kindOf y)))
   unfolding countsOf kindsWritten
   news-is =
-      let ds = join (decisionsOf (periodsOf x y)) in
-      sym (count-map (λ (k : ℕ). not (eqb k 0)) kindNo ds) ∙ ap (count (λ (k : ℕ). not (eqb k 0))) (sym (kinds-join (periodsOf x y)))
+      sym (kinds-count (λ (k : ℕ). not (eqb k 0)) (periodsOf x y))
 
   rows : length (gapRows (x .n) (x .p) (map kindOf y)) ≡ x .n
   unfolding gapRows

@@ -19,7 +19,7 @@ use Rattle.definition.specs.Parts.{kindNo, kindBlock}
 use Rattle.definition.specs.Outcome.{answered, fateOf, fate, kindsWritten, covOf, meanOf, countsOf, decisionsOf, noInformation}
 use Rattle.definition.specs.Tracks.{finite-kind, skip-unheard}
 use Rattle.laws.specs.Lists.{scan-set, map-set, pairs-set, pairs-at, chunks-set, length-chunks, chunks-each, Each, join-at, length-join, each-at, place-lt, count-set, anyOf-set}
-use Rattle.laws.specs.ReadBack.{AllOf, Whole, getD-map-in, map-map, map-join}
+use Rattle.laws.specs.ReadBack.{AllOf, Whole, getD-map-in, kinds-join}
 use Rattle.laws.specs.Shapes.{run-whole, run-length}
 use Rattle.laws.specs.Numbered.{none-refused}
 
@@ -144,10 +144,6 @@ skips (diffuse f f∞ m* m∞) e = absurd (omega arith)
 pub each-many : (p m : ℕ) (cs : List CovPeriod) → AllOf (λ c. Whole p m (c .decisions)) cs → Each p (decisionsOf cs)
 each-many p m [] h = tt
 each-many p m (c ∷ cs) h = (h .0 .many, each-many p m cs (h .1))
-
-pub kinds-join : (cs : List CovPeriod) → join (map kindBlock cs) ≡ map kindNo (join (decisionsOf cs))
-unfolding kindBlock
-kinds-join cs = ap join (sym (map-map (map kindNo) (λ (c : CovPeriod). c .decisions) cs)) ∙ map-join kindNo (decisionsOf cs)
 
 abbrev noDecision : Decision
 noDecision = usual 0ᶠ []

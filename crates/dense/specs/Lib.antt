@@ -2,4 +2,3 @@ pub mod Views
 pub mod Places
 pub mod Columns
 pub mod Pairs
-pub mod Rows

@@ -8,13 +8,11 @@ use lib.ListN.{length}
 use lib.Ieee.{Float}
 use Rattle.definition.specs.Run.{anyOf}
 use Rattle.definition.specs.Inputs.{Model, Offsets, Kind, kindOf, isInfinity}
-use Rattle.definition.specs.Refusals.{refusal}
 use Rattle.definition.specs.Outcome.{CovParts, MeanParts, Fate, turned, silent, answered, fate, roomy, outcome, outcomeAt}
 use Rattle.laws.specs.Accepted.{accepted}
 use Rattle.model.specs.Lengths.{Room, by-room}
 use Rattle.mean.specs.declared.Answer.{Answer}
 use Rattle.passes.specs.View.{Fit, Ran}
-use Rattle.filter.specs.declared.Outcome.{Outcome}
 use Rattle.filter.specs.declared.Outcome.the-variants.{Refused, Answered}
 use Rattle.filter.specs.Promise.{Promise, isSilent}
 use Rattle.filter.specs.Blanked.{Blanked}

@@ -1,7 +1,6 @@
 -- Refusal 12: the stretch of every part that a run needs may be blanked, and is blank then.
 use mathlib.Core.Path.{_≡_}
-use Prim.Native.Nat.{ℕ, _+_, _*_, _≤_}
-use native.Mathlib.Omega.{arith}
+use Prim.Native.Nat.{ℕ}
 use mathlib.Core.List.{List}
 use lib.ListN.{length, replicate}
 use lib.Ieee.{Float}
@@ -10,14 +9,11 @@ use Rattle.definition.specs.Run.{lay}
 use Rattle.definition.specs.Parts.{CovPart, predCov, predInf, filtCov, fStar, fInf, mStar, mInf, MeanPart, predMean, filtMean, innovations}
 use Rattle.definition.specs.Inputs.{Model, Offsets}
 use Rattle.definition.specs.Outcome.{CovParts, MeanParts, kindsNeed, covNeed, meanNeed}
-use Rattle.laws.specs.Accepted.{Roomy, room-of}
+use Rattle.laws.specs.Accepted.{Roomy, room-of, as-long}
 use Rattle.blank.specs.Stretches.{Sizes, MeanRoom, CovRoom, RecordRoom, MeanBlank, CovBlank, RecordBlank}
 use Rattle.passes.specs.View.{covParts, meanParts, Fit}
 
 -- ---- past refusal 2 the stretches are there, in parts that are as long as they were lent
-
-as-long : {n a b : ℕ} → n ≤ b → a ≡ b → n ≤ a
-as-long h e = omega arith
 
 module _ {x : Model} {o : Offsets} {y : ℕ} {w : CovParts} {w′ : MeanParts} (f : Fit x o y w w′) where
   room : Roomy x w w′

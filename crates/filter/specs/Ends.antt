@@ -1,6 +1,6 @@
 -- A call's three ends, over the filter's parts: turned away before anything is written, silent, answered. The smoother's call ends the same ways.
-use mathlib.Core.Path.{_≡_, refl, sym, ap, _∙_}
-use Prim.Native.Nat.{ℕ, zero, suc}
+use mathlib.Core.Path.{_≡_, refl, ap, _∙_}
+use Prim.Native.Nat.{ℕ, suc}
 use mathlib.Core.Bool.{Bool, true, false}
 use mathlib.Core.List.{List, map}
 use lib.ListN.{length, replicate, length-map, length-replicate}
@@ -13,7 +13,6 @@ use Rattle.definition.specs.Outcome.{CovParts, MeanParts, CovOutcome, MeanOutco
 use Rattle.laws.specs.Passes.{lay-again}
 use Rattle.mean.specs.declared.Answer.{Answer}
 use Rattle.passes.specs.View.{Ran}
-use Rattle.filter.specs.declared.Outcome.{Outcome}
 use Rattle.filter.specs.declared.Outcome.the-variants.{Refused, Answered}
 use Rattle.filter.specs.Promise.{answerBy, Promise, isSilent}
 use Rattle.filter.specs.Blanked.{Blanked}

@@ -1,6 +1,6 @@
 -- What a call knows once refusals 1 and 2 have passed: the sizes are in range, and every lent part has its length.
 use mathlib.Core.Path.{_≡_, refl, sym}
-use Prim.Native.Nat.{ℕ, zero, suc, _+_, _*_, _/_, _≤_, _<_}
+use Prim.Native.Nat.{ℕ, zero, suc, _*_, _/_, _≤_, _<_}
 use native.Mathlib.Omega.{arith}
 use mathlib.Core.Bool.{Bool, true, false, not, _&&_, _||_}
 use mathlib.Core.Logic.{_⊎_, inl, inr, ⊎-elim}
@@ -172,6 +172,9 @@ accepted x o y infinity room e =
     }
 
 -- ---- the outputs' lengths
+
+pub as-long : {n a b : ℕ} → n ≤ b → a ≡ b → n ≤ a
+as-long h e = omega arith
 
 pub record Roomy (x : Model) (b : CovParts) (b′ : MeanParts) : Type 0 where
   pub kinds : kindsNeed x ≤ length (b .kinds)

@@ -9,7 +9,7 @@ use native.Mathlib.Nat.{eq-or-lt-of-le, le-of-suc-le-suc, not-suc-le-zero}
 use mathlib.Core.Bool.{Bool, true, false, _||_}
 use mathlib.Core.List.{List, [], _∷_, map}
 use lib.ListN.{length, getD, take}
-use lib.Seq.{take-suc, take-length}
+use lib.Seq.{take-length}
 use Rattle.definition.specs.Run.{anyOf, anyTo}
 
 pub or-assoc : (a b c : Bool) → ((a || b) || c) ≡ (a || (b || c))

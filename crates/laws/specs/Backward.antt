@@ -1,17 +1,18 @@
 -- Laws of a pass from the last period to the first, and: what is read back of a period is what was written.
-use mathlib.Core.Path.{_≡_, refl, sym, ap, ap₂, _∙_}
-use Prim.Native.Nat.{ℕ, zero, suc, _+_, _-_, _*_, _≤_, _<_}
-use native.Mathlib.Nat.{suc-mul, zero-mul, zero-add, not-suc-le-zero, le-of-suc-le-suc}
+use mathlib.Core.Path.{_≡_, refl, sym, ap, _∙_}
+use Prim.Native.Nat.{ℕ, suc, _+_, _-_, _*_, _≤_, _<_}
+use native.Mathlib.Nat.{suc-mul, zero-mul, zero-add}
 use native.Mathlib.Omega.{arith}
-use mathlib.Core.Bool.{Bool, true, false, cond, _&&_}
+use mathlib.Core.Bool.{Bool}
 use mathlib.Core.List.{List, [], _∷_, _++_, map, append-assoc}
-use lib.ListN.{length, getD, take, drop, length-append, length-take, length-drop, length-map, length-replicate, take-append-drop, List·getD-append}
-use lib.Seq.{drop-length, drop-cons, take-at, drop-at, take-take, drop-drop, take-append-le, ext-getD, length-take-le, getD-take, getD-drop}
+use lib.ListN.{length, getD, take, drop, length-append, length-take, length-drop, length-map, take-append-drop, List·getD-append}
+use lib.Seq.{drop-length, drop-cons, drop-at, take-take, drop-drop, take-append-le, ext-getD, length-take-le, getD-take, getD-drop}
 use lib.Dec.{ltb}
 use lib.Ieee.{Float, nan}
-use borrow.Rule.Slice.PartMut.{midOf, putMid, same-len-mid}
+use borrow.Rule.Slice.PartMut.{midOf, same-len-mid}
 use Rattle.definition.specs.Num.{tabFrom, tabulate, at}
-use Rattle.definition.specs.Run.{scanBack, foldBack, join, lay}
+use Rattle.definition.specs.Dense.{row, rowAt}
+use Rattle.definition.specs.Run.{scanBack, foldBack, join}
 use Rattle.definition.specs.Cov.{Decision, CovPeriod}
 use Rattle.definition.specs.Mean.{MeanPeriod}
 use Rattle.definition.specs.Smooth.{Look, lookOf, MeanLook, meanLookOf}
@@ -85,6 +86,13 @@ part-block t k l h =
     (ext-getD nan (take k (drop (t * k) l)) (tabulate k (λ j. at l (t * k + j))) (simp (length-take, length-drop, length-tab) (omega arith)) (λ j b.
     let j< : j < k = omega (arith, simp (length-take, length-drop) at b) in
     getD-take k (drop (t * k) l) j nan j< ∙ getD-drop (t * k) l j nan ∙ sym (tab-at k 0 j (λ j. at l (t * k + j)) nan j< ∙ ap (λ (i : ℕ). at l (t * k + i)) (zero-add j))))
+
+pub part-row : (i m : ℕ) (l : List Float) → i * m + m ≤ length l → take (i * m + m - i * m) (drop (i * m) l) ≡ row m l i
+unfolding row rowAt blockAt
+part-row i m l h = part-block i m l h
+
+pub block-long : {A : Type 0} (t k : ℕ) (l : List A) → t * k + k ≤ length l → length (take (t * k + k - t * k) (drop (t * k) l)) ≡ k
+block-long t k l h = simp (length-take, length-drop) (omega arith)
 
 -- ---- a block read back
 pub block-back : (k : ℕ) (ls : List (List Float)) (tail : List Float) (t : ℕ) → Each k ls → t < length ls → blockAt k (join ls ++ tail) t ≡ getD ls t []

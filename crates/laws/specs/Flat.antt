@@ -1,8 +1,10 @@
 -- The flat form read back: the decisions, and what the way back looks at, off the lent lists that a pass wrote.
 use mathlib.Core.Path.{_≡_, refl}
-use Prim.Native.Nat.{ℕ, zero, suc, _+_, _*_}
+use Prim.Native.Nat.{ℕ, zero, suc, _+_, _*_, _≤_}
+use native.Mathlib.Nat.{mul-le-mul-right}
+use native.Mathlib.Omega.{arith}
 use mathlib.Core.List.{List}
-use lib.ListN.{getD}
+use lib.ListN.{length, getD}
 use lib.Dec.{ltb}
 use lib.Ieee.{Float}
 use Rattle.definition.specs.Num.{tabulate, at}
@@ -15,6 +17,27 @@ pub record Flat : Type 0 where
   pub fInfs : List Float
   pub mStars : List Float
   pub mInfs : List Float
+
+abbrev pub flatIn : List ℕ → List Float → List Float → List Float → List Float → Flat
+flatIn k f g a b = record { kinds = k; fStars = f; fInfs = g; mStars = a; mInfs = b }
+
+-- room for the records of the places below k, and of fewer
+pub record Holds (m k : ℕ) (r : Flat) : Type 0 where
+  pub ks : k ≤ length (r .kinds)
+  pub fs : k ≤ length (r .fStars)
+  pub fi : k ≤ length (r .fInfs)
+  pub ms : k * m ≤ length (r .mStars)
+  pub mi : k * m ≤ length (r .mInfs)
+
+pub fewer : {m j k : ℕ} {r : Flat} → j ≤ k → Holds m k r → Holds m j r
+fewer {m} h g =
+    record {
+      ks = omega (arith, g .ks);
+      fs = omega (arith, g .fs);
+      fi = omega (arith, g .fi);
+      ms = omega (arith, g .ms, mul-le-mul-right m h);
+      mi = omega (arith, g .mi, mul-le-mul-right m h);
+    }
 
 unfoldable pub decisionOf : ℕ → Float → Float → List Float → List Float → Decision
 decisionOf zero f g a b = skipped

@@ -1,20 +1,20 @@
 -- Half of x + x is x, where x + x does not overflow; and it does not where x is itself half of a value. So to symmetrise twice is to symmetrise once.
 -- Assumes nothing.
 use mathlib.Core.Path.{_≡_, refl, sym, ap, _∙_, subst}
-use mathlib.Core.Bool.{Bool, true, false, not, _&&_, cond, Bool·beq}
+use mathlib.Core.Bool.{Bool, true, false}
 use Prim.Native.Nat.{ℕ, zero, suc, _+_, _-_, _*_, _/_, _%_, _^_, _≤_, _<_, compare}
-use native.Mathlib.Nat.{le-refl, le-trans, le-of-eq, lt-of-lt-of-le, lt-of-le-of-lt, zero-lt-suc, mul-one, one-mul, mul-comm, mul-assoc, mul-right-comm, mul-left-comm, mul-mul-mul-comm, mul-pos, pow-suc, pow-succ', add-mul, two-mul, mul-div-cancel, div-le-self, lt-irrefl, eq-of-mul-eq-mul-right}
+use native.Mathlib.Nat.{le-refl, le-trans, le-of-eq, lt-of-le-of-lt, zero-lt-suc, mul-one, one-mul, mul-comm, mul-assoc, mul-right-comm, mul-pos, pow-suc, pow-succ', two-mul, div-le-self, eq-of-mul-eq-mul-right}
 use native.Mathlib.Omega.{arith}
-use lib.Dec.{T, lit≤, lit<}
-use lib.Pow.{pow-pos, pow-add, pow-lt, pow-mono}
-use lib.IntN.{ℤ, pos, negsuc}
-use lib.Ieee.{Float, nan, inf, fin, Format, binary32, binary64, prec, emax, low, up, down, size, round, units, nearest, unlike, add, mul, sum, fits}
+use lib.Dec.{T, lit<}
+use lib.Pow.{pow-pos, pow-lt}
+use lib.IntN.{ℤ, negsuc}
+use lib.Ieee.{Float, nan, inf, fin, Format, binary32, binary64, prec, emax, low, up, down, size, round, unlike, add, mul, sum, fits}
 use lib.Ieee.Digits.{size-le}
-use lib.Ieee.Fits.{up-pos, down-pos, round-fits, add-fits, mul-fits, core, round-is, nearest-le}
+use lib.Ieee.Fits.{down-pos, add-fits, mul-fits, core, round-is, nearest-le}
 use lib.Ieee.Exact.{HasValue, round-exact, units-val}
 use lib.Ieee.Nearest.{div-same, closest}
 use lib.Ieee.Scale.{round-same}
-use Rattle.laws.specs.Same.{Held, held, place, in-range, round-of}
+use Rattle.laws.specs.Same.{held, place, in-range, round-of}
 
 abbrev pub half : Float
 half = fin false 1 (negsuc 0)

@@ -1,18 +1,18 @@
 -- What the covariance run wrote is what the way back looks at.
-use mathlib.Core.Path.{_≡_, refl, sym, ap, _∙_}
-use Prim.Native.Nat.{ℕ, _+_, _*_, _<_}
+use mathlib.Core.Path.{_≡_}
+use Prim.Native.Nat.{ℕ, _*_, _<_}
 use mathlib.Core.Bool.{false}
-use mathlib.Core.List.{List, [], _++_, map, append-assoc}
-use lib.ListN.{length, getD, drop}
+use mathlib.Core.List.{List, [], map, append-assoc}
+use lib.ListN.{length, getD}
 use lib.Dec.{ltb}
 use lib.Ieee.{Float}
 use Rattle.definition.specs.Run.{count, join}
 use Rattle.definition.specs.Cov.{System, Cov, CovPeriod, period, covRun}
 use Rattle.definition.specs.Smooth.{lookOf}
-use Rattle.definition.specs.Parts.{predCov, predInf, fStar, fInf, mStar, mInf, covBlock, kindBlock}
+use Rattle.definition.specs.Parts.{predCov, predInf, fStar, fInf, mStar, mInf, covBlock}
 use Rattle.definition.specs.Inputs.{Model, Kind, gapRows, systemFrom, systemOf, startInf, startFrom, startOf}
 use Rattle.definition.specs.Outcome.{kindsWritten, covWritten, covOf}
-use Rattle.laws.specs.Flat.{Flat, looks}
+use Rattle.laws.specs.Flat.{looks}
 use Rattle.laws.specs.Lists.{length-tab, length-scan}
 use Rattle.laws.specs.Passes.{Laid}
 use Rattle.laws.specs.ReadBack.{AllOf, Whole}

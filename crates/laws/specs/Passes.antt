@@ -6,10 +6,10 @@ use native.Mathlib.Omega.{arith}
 use native.Mathlib.Numerals.{add-one}
 use mathlib.Core.Bool.{Bool, true, false, cond}
 use mathlib.Core.List.{List, [], _∷_, _++_, map, append-assoc, append-nil}
-use lib.ListN.{length, getD, take, drop, length-append, length-take, length-drop, length-map}
-use lib.Seq.{take-suc, take-all, take-at, drop-at, drop-drop, take-add, ext-getD, getD-append-add}
+use lib.ListN.{length, getD, take, drop, length-append, length-take, length-drop}
+use lib.Seq.{take-all, take-at, drop-at, drop-drop, take-add}
 use borrow.Rule.Slice.PartMut.{midOf, putMid, same-len-mid}
-use Rattle.definition.specs.Run.{scan, scanBack, join, count, chunks, lay}
+use Rattle.definition.specs.Run.{scan, join, count, chunks, lay}
 use Rattle.laws.specs.Lists.{scan-next}
 
 -- w, of k places, laid over old, is o
@@ -32,6 +32,11 @@ module _ {A B : Type 0} where
   pub map-append : (g : A → B) (xs ys : List A) → map g (xs ++ ys) ≡ map g xs ++ map g ys
   map-append g [] ys = refl
   map-append g (x ∷ xs) ys = ap (λ (l : List B). g x ∷ l) (map-append g xs ys)
+
+  pub count-map : (q : B → Bool) (g : A → B) (l : List A) → count q (map g l) ≡ count (λ (a : A). q (g a)) l
+  unfolding count
+  count-map q g [] = refl
+  count-map q g (a ∷ l) = ap (λ (k : ℕ). cond (q (g a)) 1 0 + k) (count-map q g l)
 
 pub block-in : (t n k : ℕ) → t < n → t * k + k ≤ n * k
 block-in t n k h = rw suc-mul at (mul-le-mul-right k h)

@@ -1,20 +1,19 @@
 -- The decisions read back from the flat parts are the decisions that were written.
-use mathlib.Core.Path.{_≡_, refl, sym, ap, ap₂, _∙_}
-use Prim.Native.Nat.{ℕ, zero, suc, _+_, _-_, _*_, _≤_, _<_}
-use native.Mathlib.Nat.{zero-mul, suc-mul, zero-add, not-suc-le-zero, le-of-suc-le-suc, mul-le-mul-right}
-use native.Mathlib.Omega.{arith}
+use mathlib.Core.Path.{_≡_, refl, sym, ap, _∙_}
+use Prim.Native.Nat.{ℕ, zero, suc, _+_, _-_, _*_, _<_}
+use native.Mathlib.Nat.{zero-add, not-suc-le-zero, le-of-suc-le-suc}
 use mathlib.Core.Bool.{Bool}
-use mathlib.Core.List.{List, [], _∷_, _++_, map, append-assoc}
-use lib.ListN.{length, getD, replicate, length-map, length-append, length-replicate, List·getD-append}
+use mathlib.Core.List.{List, [], _∷_, _++_, map}
+use lib.ListN.{length, getD, length-map, List·getD-append}
 use lib.Seq.{ext-getD}
 use lib.Ieee.{Float, nan}
 use Rattle.definition.specs.Num.{tabFrom, tabulate, at}
-use Rattle.definition.specs.Run.{scan, join}
+use Rattle.definition.specs.Run.{scan, join, count}
 use Rattle.definition.specs.Cov.{Decision, skipped, usual, diffuse, CovPeriod}
-use Rattle.definition.specs.Parts.{CovPart, fStar, fInf, mStar, mInf, kindNo, fStarOf, fInfOf, mStarOf, mInfOf, kindBlock, covBlock}
+use Rattle.definition.specs.Parts.{fStar, fInf, mStar, mInf, kindNo, fStarOf, fInfOf, mStarOf, mInfOf, kindBlock, covBlock}
 use Rattle.laws.specs.Flat.{Flat, decisionOf, readBack, decisionsAt, decisionRows}
-use Rattle.laws.specs.Lists.{Each, join-at, length-join, each-at, place-lt, tab-at, length-tab, length-scan}
-use Rattle.laws.specs.Passes.{map-append, join-append}
+use Rattle.laws.specs.Lists.{Each, join-at, length-join, each-at, place-lt, tab-at, length-tab}
+use Rattle.laws.specs.Passes.{map-append, join-append, count-map}
 
 -- P of each
 abbrev pub AllOf : {A : Type 0} → (A → Type 0) → List A → Type 0
@@ -114,6 +113,14 @@ module _ (m : ℕ) (l : List Decision) (sh : AllOf (Shaped m) l) (tk : List ℕ)
       let s = all-at (Shaped m) l k skipped sh h in
       rw (number-back kindNo l tk k 0 h, number-back fStarOf l t1 k nan h, number-back fInfOf l t2 k nan h, vector-back m (mStarOf m) l t3 k (each-star m l sh) h (s .star), vector-back m (mInfOf m) l t4 k (each-inf m l sh) h (s .inf)) (again m d)
 
+-- the kinds of all periods, and how many of them are of a sort
+pub kinds-join : (cs : List CovPeriod) → join (map kindBlock cs) ≡ map kindNo (join (map (λ c. c .decisions) cs))
+unfolding kindBlock
+kinds-join cs = ap join (sym (map-map (map kindNo) (λ c. c .decisions) cs)) ∙ map-join kindNo (map (λ c. c .decisions) cs)
+
+pub kinds-count : (q : ℕ → Bool) (cs : List CovPeriod) → count q (join (map kindBlock cs)) ≡ count (λ (d : Decision). q (kindNo d)) (join (map (λ c. c .decisions) cs))
+kinds-count q cs = ap (count q) (kinds-join cs) ∙ count-map q kindNo (join (map (λ c. c .decisions) cs))
+
 -- the periods' decisions, from the parts that hold their blocks
 module _ (p m : ℕ) (cs : List CovPeriod) (wh : AllOf (λ c. Whole p m (c .decisions)) cs) where
   dss : List (List Decision)
@@ -124,8 +131,8 @@ module _ (p m : ℕ) (cs : List CovPeriod) (wh : AllOf (λ c. Whole p m (c .deci
   whole (c ∷ cs) h = (h .0, whole cs (h .1))
 
   kinds-flat : join (map kindBlock cs) ≡ map kindNo (join dss)
-  unfolding kindBlock dss
-  kinds-flat = ap join (sym (map-map (map kindNo) (λ c. c .decisions) cs)) ∙ map-join kindNo (map (λ c. c .decisions) cs)
+  unfolding dss
+  kinds-flat = kinds-join cs
 
   fs-flat : join (map (covBlock m fStar) cs) ≡ map fStarOf (join dss)
   unfolding covBlock dss

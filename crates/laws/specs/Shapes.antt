@@ -1,9 +1,9 @@
 -- Shapes of the covariance run: each period decides on p elements, with vectors of m; each matrix has m * m places; the diffuse periods come first.
-use mathlib.Core.Path.{_≡_, refl, sym, ap, _∙_}
-use Prim.Native.Nat.{ℕ, zero, suc, _+_, _*_, _≤_, _<_}
+use mathlib.Core.Path.{_≡_, refl, sym, _∙_}
+use Prim.Native.Nat.{ℕ, zero, suc, _+_, _*_, _<_}
 use native.Mathlib.Nat.{zero-add, not-suc-le-zero, le-of-suc-le-suc}
 use native.Mathlib.Omega.{arith}
-use mathlib.Core.Bool.{Bool, true, false, cond, _&&_}
+use mathlib.Core.Bool.{Bool, true, false, cond}
 use mathlib.Core.List.{List, [], _∷_, map}
 use lib.ListN.{length, getD, length-map, length-replicate}
 use lib.Dec.{ltb}
@@ -14,7 +14,6 @@ use Rattle.definition.specs.Dense.{dot, matVec, matTVec, symmetrise}
 use Rattle.definition.specs.Run.{scan, chunks, count}
 use Rattle.definition.specs.Cov.{System, Cov, Fixed, Inner, Decision, skipped, usual, diffuse, CovPeriod, usually, usualTest, diffusely, diffuseTest, fStarOf, fInfOf, judge, verdict, elementOf, isLive, entered, ended, stepped, stepStar, stepInf, periodOf, period, covRun}
 use Rattle.definition.specs.Inputs.{Kind, isGap, gapRows}
-use Rattle.definition.specs.Parts.{mStarOf, mInfOf}
 use Rattle.laws.specs.Lists.{Each, chunks-each, length-tab, length-scan, length-chunks}
 use Rattle.laws.specs.ReadBack.{AllOf, Shaped, Whole, scan-all}
 

@@ -21,9 +21,9 @@ fn products(a: &[f64; 64], b: &[f64; 64], r: usize, k: usize, c: usize, group: &
     requires { ⌜ Sizes r k c ⌝ }
 {
     let n = cells(r, c);
-    let p = dense::product(a, b, r, k, c);
-    let q = dense::product_t(a, b, r, k, c);
-    let t = dense::t_product(a, b, r, k, c);
+    let p = products::product(a, b, r, k, c);
+    let q = products::product_t(a, b, r, k, c);
+    let t = products::t_product(a, b, r, k, c);
     wrapping_add_u64(
         apart64(&p, n, group, 1168),
         wrapping_add_u64(apart64(&q, n, group, 1680), apart64(&t, n, group, 2192)),
@@ -34,8 +34,8 @@ fn triples(a: &[f64; 64], b: &[f64; 64], m: usize, group: &[u8; 8616]) -> u64
     requires { ⌜ m ≤ 8 ⌝ }
 {
     let n = cells(m, m);
-    let p = dense::sandwich(a, b, m);
-    let q = dense::quad(a, b, a, m);
+    let p = products::sandwich(a, b, m);
+    let q = products::quad(a, b, a, m);
     wrapping_add_u64(apart64(&p, n, group, 3216), apart64(&q, n, group, 3728))
 }
 
@@ -69,7 +69,7 @@ fn rows(a: &[f64; 64], x: &[f64; 8], r: usize, c: usize, group: &[u8; 8616]) -> 
     requires { ⌜ (0 < r) × (r ≤ 8) × (c ≤ 8) ⌝ }
 {
     let n = cells(r, c);
-    let t = dense::transpose(a, r, c);
+    let t = products::transpose(a, r, c);
     let mut p = *a;
     dense::put_row(&mut p, x, r - 1, c);
     wrapping_add_u64(apart64(&t, n, group, 2704), apart64(&p, n, group, 6800))

@@ -93,14 +93,14 @@ pub extern "C" fn leaf_outer_sub(p: &mut [f64; 64], a: &[f64; 8], b: &[f64; 8], 
 #[no_mangle]
 pub extern "C" fn leaf_product(a: &[f64; 64], b: &[f64; 64], m: usize, out: &mut [f64; 64]) {
     if m <= 8 {
-        *out = dense::product(a, b, m, m, m);
+        *out = products::product(a, b, m, m, m);
     }
 }
 
 #[no_mangle]
 pub extern "C" fn leaf_sandwich(t: &[f64; 64], p: &[f64; 64], m: usize, out: &mut [f64; 64]) {
     if m <= 8 {
-        *out = dense::sandwich(t, p, m);
+        *out = products::sandwich(t, p, m);
     }
 }
 

@@ -6,34 +6,22 @@ use native.Mathlib.Omega.{arith}
 use native.Mathlib.Numerals.{add-one}
 use mathlib.Core.List.{List, [], _∷_}
 use lib.ListN.{length, getD, take, drop, set, length-take, length-drop, length-set}
-use lib.Seq.{ext-getD, getD-take, getD-drop, take-suc-set, take-all}
+use lib.Seq.{getD-take, getD-drop, take-suc-set, take-all}
 use lib.Ieee.{Float, nan}
 use Rattle.definition.specs.Num.{_⊕_, _⊗_, _⊘_, 0ᶠ, at, tabulate}
-use Rattle.definition.specs.Dense.{axpy, axpyAt, over, overAt, row, rowAt}
+use Rattle.definition.specs.Dense.{axpy, axpyAt, over, overAt, row}
 use Rattle.definition.specs.Run.{scan, pairs}
-use Rattle.definition.specs.Cov.{Decision, skipped, diffuse}
+use Rattle.definition.specs.Cov.{Decision, skipped}
 use Rattle.definition.specs.Mean.{Mean, told, heed, usualTerm, diffuseTerm, hear, meanStep, meanEnded, meanPeriodOf}
 use Rattle.laws.specs.Lists.{tab-at, tab-cong, vector-at, length-tab, pairs-at, scan-next}
-use Rattle.laws.specs.Flat.{Flat, decisionOf, readBack, decisionsAt, blockAt}
+use Rattle.laws.specs.Flat.{Flat, decisionOf, readBack, decisionsAt, blockAt, kind-diffuse}
+use Rattle.laws.specs.Backward.{part-block, part-row}
 use Rattle.dense.specs.Views.{vec, rect, mat}
 use Rattle.dense.specs.Places.{Saved}
 use Rattle.dense.proofs.Laws.{both, vec-at}
 use Rattle.mean.specs.View.{meanIn, entryAt, heardAt, leftIn, Followed}
 
--- ---- a part of a slice, as the m entries from place k * m on
-
-pub part-block : (k m : ℕ) (l : List Float) → k * m + m ≤ length l → take (k * m + m - k * m) (drop (k * m) l) ≡ blockAt m l k
-unfolding blockAt
-part-block k m l h =
-    let s : k * m + m - k * m ≡ m = omega arith in
-    rw s
-    (ext-getD nan (take m (drop (k * m) l)) (tabulate m (λ j. at l (k * m + j))) (simp (length-take, length-drop, length-tab) (omega arith)) (λ j b.
-    let j< : j < m = omega (arith, simp (length-take, length-drop) at b) in
-    getD-take m (drop (k * m) l) j nan j< ∙ getD-drop (k * m) l j nan ∙ sym (tab-at m 0 j (λ j. at l (k * m + j)) nan j< ∙ ap (λ (i : ℕ). at l (k * m + i)) (zero-add j))))
-
-pub part-row : (i m : ℕ) (l : List Float) → i * m + m ≤ length l → take (i * m + m - i * m) (drop (i * m) l) ≡ row m l i
-unfolding row rowAt blockAt
-part-row i m l h = part-block i m l h
+-- ---- a part of a slice, loaded and saved
 
 -- an array that a part of k places was loaded into
 pub loaded : (k : ℕ) {s : List Float} (r : List Float) → length s ≡ k → vec (length s) r ≡ s → vec k r ≡ s
@@ -63,12 +51,6 @@ moved-all v f m a gain =
     let g = vec-at m i gain h in
     cc)
 
-a-diffuse : (k : ℕ) (f g : Float) (a b : List Float) → (k ≡ 0 → ⊥) → (k ≡ 1 → ⊥) → decisionOf k f g a b ≡ diffuse f g a b
-unfolding decisionOf
-a-diffuse zero f g a b h o = absurd (h refl)
-a-diffuse (suc zero) f g a b h o = absurd (o refl)
-a-diffuse (suc (suc k)) f g a b h o = refl
-
 -- the row and the gain vector as parts of the lists that hold them
 pub followed-at : (i k : ℕ) (design gains : List Float) {m : ℕ} {a a′ : List Float} {d x f v : Float} → i * m + m ≤ length design → k * m + m ≤ length gains → Followed m (take (i * m + m - i * m) (drop (i * m) design)) d x (take (k * m + m - k * m) (drop (k * m) gains)) f a a′ v → Followed m (row m design i) d x (blockAt m gains k) f a a′ v
 followed-at i k design gains {m} hd hg h = rw (part-row i m design hd, part-block k m gains hg) at h
@@ -88,7 +70,7 @@ module _ (m : ℕ) (r : Flat) (design ds : List Float) (i k : ℕ) (a : List Flo
     pub heard-diffuse : (getD (r .kinds) k 0 ≡ 0 → ⊥) → (getD (r .kinds) k 0 ≡ 1 → ⊥) → Followed m (row m design i) (at ds i) x (blockAt m (r .mInfs) k) (at (r .fInfs) k) a a′ v → l′ ≡ diffuseTerm l (at (r .fInfs) k)
         → _≡_ (v, meanIn m a′ l′) (hear m design ds i (meanIn m a l) (readBack m r k, x))
     unfolding hear readBack told heed blockAt
-    heard-diffuse n o h el = rw (a-diffuse (getD (r .kinds) k 0) (at (r .fStars) k) (at (r .fInfs) k) (blockAt m (r .mStars) k) (blockAt m (r .mInfs) k) n o, h .moved, el, h .is) refl
+    heard-diffuse n o h el = rw (kind-diffuse (getD (r .kinds) k 0) (at (r .fStars) k) (at (r .fInfs) k) (blockAt m (r .mStars) k) (blockAt m (r .mInfs) k) n o, h .moved, el, h .is) refl
 
 -- ---- the elements of a period, in order
 

@@ -1,18 +1,18 @@
 -- Places and lengths: block t of a part, what a period needs of what the pass has.
 use mathlib.Core.Path.{_≡_, ap, _∙_}
 use Prim.Native.Nat.{ℕ, _+_, _-_, _*_, _≤_, _<_}
-use native.Mathlib.Nat.{mul-le-mul, mul-le-mul-right, mul-assoc}
+use native.Mathlib.Nat.{mul-le-mul, mul-assoc}
 use native.Mathlib.Omega.{arith}
 use mathlib.Core.List.{List}
-use lib.ListN.{length, take, drop, length-take, length-drop}
+use lib.ListN.{length}
 use lib.Ieee.{Float}
 use mir.Val.{Fits}
 use mir.Syntax.{w64}
 use Rattle.definition.specs.Inputs.{designFrom}
-use Rattle.laws.specs.Flat.{Flat}
+use Rattle.laws.specs.Flat.{Flat, fewer}
 use Rattle.laws.specs.Passes.{block-in}
 use Rattle.model.specs.Design.{length-design}
-use Rattle.mean.specs.View.{Holds, Element, Period, Periods, Room, Ready, Rooms}
+use Rattle.mean.specs.View.{Element, Period, Periods, Room, Ready, Rooms}
 
 pub at-most : {a b c : ℕ} → a ≡ b → b ≤ c → a ≤ c
 at-most e h = omega arith
@@ -48,21 +48,7 @@ ordered a k = omega arith
 pub part-in : {n t long long₀ : ℕ} (k : ℕ) → t < n → n * k ≤ long₀ → long ≡ long₀ → t * k + k ≤ long
 part-in {n} {t} k h room e = omega (arith, block-in t n k h)
 
-pub block-long : {A : Type 0} (t k : ℕ) (l : List A) → t * k + k ≤ length l → length (take (t * k + k - t * k) (drop (t * k) l)) ≡ k
-block-long t k l h = simp (length-take, length-drop) (omega arith)
-
 -- ---- what has to be there
-
--- the records below fewer places
-pub fewer : {m j k : ℕ} {r : Flat} → j ≤ k → Holds m k r → Holds m j r
-fewer {m} h g =
-    record {
-      ks = omega (arith, g .ks);
-      fs = omega (arith, g .fs);
-      fi = omega (arith, g .fi);
-      ms = omega (arith, g .ms, mul-le-mul-right m h);
-      mi = omega (arith, g .mi, mul-le-mul-right m h);
-    }
 
 -- element i of a period, by a record of its block
 pub element-in : {p m t i design d y v : ℕ} {r : Flat} (k : ℕ) → Period p m t design d y v r → i < p → k < t * p + p → Element m i k design d y r

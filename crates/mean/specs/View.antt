@@ -10,7 +10,7 @@ use Rattle.definition.specs.Dense.{axpy, over}
 use Rattle.definition.specs.Mean.{Mean, MeanPeriod, innovation}
 use Rattle.definition.specs.Parts.{predMean, filtMean, innovations, meanBlock}
 use Rattle.definition.specs.Outcome.{meanWritten}
-use Rattle.laws.specs.Flat.{Flat, decisionsAt, decisionRows}
+use Rattle.laws.specs.Flat.{Flat, Holds, decisionsAt, decisionRows}
 use Rattle.laws.specs.Passes.{Laid}
 use Rattle.dense.specs.Views.{vec}
 use Rattle.model.specs.Design.{DesignFits}
@@ -21,10 +21,6 @@ use Rattle.mean.specs.declared.Answer.{Answer}
 -- the state of the means
 abbrev pub meanIn : ℕ → List Float → Float → Mean
 meanIn m a l = record { a = vec m a; loglik = l }
-
--- the records: kinds, F*, F∞, M* and M∞
-abbrev pub flatIn : List ℕ → List Float → List Float → List Float → List Float → Flat
-flatIn k f g a b = record { kinds = k; fStars = f; fInfs = g; mStars = a; mInfs = b }
 
 -- what a period hears: its decisions and its readings, the same element by element, and what n periods hear
 unfoldable pub entryAt : ℕ → ℕ → Flat → List Float → ℕ → List Decision × List Float
@@ -45,14 +41,6 @@ abbrev pub withLoglik : Answer → Float → Answer
 withLoglik a l = record { loglik = l; «d_diffuse» = a .«d_diffuse»; heard = a .heard; news = a .news }
 
 -- ---- what has to be there
-
--- the records of the places below k
-pub record Holds (m k : ℕ) (r : Flat) : Type 0 where
-  pub ks : k ≤ length (r .kinds)
-  pub fs : k ≤ length (r .fStars)
-  pub fi : k ≤ length (r .fInfs)
-  pub ms : k * m ≤ length (r .mStars)
-  pub mi : k * m ≤ length (r .mInfs)
 
 -- element i of a period, by the record at place k: its row and intercept, its reading, its F and its M
 pub record Place (m i k : ℕ) (design d y fs gains : ℕ) : Type 0 where

@@ -8,9 +8,9 @@ ghost use Rattle.definition.specs.Dense.{dot, axpy, over, row};
 ghost use Rattle.definition.specs.Run.{scan};
 ghost use Rattle.definition.specs.Mean.{usualTerm, diffuseTerm, hear, meanStep, meanPeriodOf, meanRun};
 ghost use Rattle.definition.specs.Inputs.{frameFrom};
-ghost use Rattle.laws.specs.Flat.{readBack, blockAt};
+ghost use Rattle.laws.specs.Flat.{flatIn, readBack, blockAt};
 ghost use Rattle.dense.specs.Views.{vec, mat};
-ghost use Rattle.mean.specs.View.{meanIn, flatIn, entryAt, entries, heardAt, leftIn};
+ghost use Rattle.mean.specs.View.{meanIn, entryAt, entries, heardAt, leftIn};
 ghost use Rattle.mean.specs.View.{Place, Element, Period, Periods, Room, Ready, Rooms, Followed, Looped, Passed};
 
 // The answer, carried through the loop over the periods.

@@ -17,9 +17,8 @@ use Rattle.laws.specs.Lists.{tab-at, length-tab, matrix-at, pairs-at}
 use Rattle.laws.specs.Flat.{Flat, readBack, decisionsAt, blockAt, lookAt, meanLookAt, kind-skipped, kind-usual, kind-diffuse}
 use Rattle.dense.proofs.Laws.{but-next}
 use Rattle.dense.specs.Views.{vec}
-use Rattle.laws.specs.Backward.{fold-none, fold-step, part-block}
-use Rattle.mean.proofs.Laws.{length-pairs, part-row, loaded}
-use Rattle.mean.proofs.Sizes.{block-long}
+use Rattle.laws.specs.Backward.{fold-none, fold-step, part-block, part-row, block-long}
+use Rattle.mean.proofs.Laws.{length-pairs, loaded}
 use Rattle.mean_back.specs.View.{lookedAt}
 
 -- ---- L' r by the entries of L

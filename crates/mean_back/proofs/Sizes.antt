@@ -7,11 +7,10 @@ use mathlib.Core.List.{List}
 use lib.ListN.{length}
 use lib.Ieee.{Float}
 use Rattle.definition.specs.Inputs.{designFrom}
-use Rattle.laws.specs.Flat.{Flat}
+use Rattle.laws.specs.Flat.{Flat, fewer}
 use Rattle.laws.specs.Lists.{square-le}
 use Rattle.laws.specs.Passes.{block-in}
 use Rattle.model.specs.Design.{length-design}
-use Rattle.mean.proofs.Sizes.{fewer}
 use Rattle.mean_back.specs.View.{Square, Element, Period, Block, Periods}
 
 pub one-less : {i n : ℕ} → 0 < i → i ≤ n → i - 1 < n

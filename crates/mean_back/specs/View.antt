@@ -6,9 +6,8 @@ use lib.ListN.{length}
 use lib.Ieee.{Float}
 use Rattle.definition.specs.Run.{pairs}
 use Rattle.definition.specs.Smooth.{Look, MeanLook}
-use Rattle.laws.specs.Flat.{Flat, lookAt, looks, meanLookAt, meanLooks}
+use Rattle.laws.specs.Flat.{Flat, Holds, lookAt, looks, meanLookAt, meanLooks}
 use Rattle.model.specs.Design.{DesignFits}
-use Rattle.mean.specs.View.{Holds}
 
 -- ---- what a period looks at, and what n periods look at: the parts of the predicted means, of P, of P∞ and of v, and the records
 

@@ -11,11 +11,10 @@ ghost use Rattle.definition.specs.Run.{scanBack, pairs, join};
 ghost use Rattle.definition.specs.Smooth.{fOne, lZero, lOne, lUsual, usualR, backR, elementsR, backA, stepRs, backMeanOf, backMean, noRs};
 ghost use Rattle.definition.specs.Cov.{diffuse};
 ghost use Rattle.definition.specs.Inputs.{frameFrom};
-ghost use Rattle.laws.specs.Flat.{readBack, decisionsAt, blockAt};
+ghost use Rattle.laws.specs.Flat.{flatIn, readBack, decisionsAt, blockAt};
 ghost use Rattle.laws.specs.Passes.{Laid};
 ghost use Rattle.dense.specs.Views.{vec, mat};
 ghost use Rattle.backward.specs.View.{rsIn};
-ghost use Rattle.mean.specs.View.{flatIn};
 ghost use Rattle.mean_back.specs.View.{lookedAt, looked, Vectors, Square, Entry, Element, Period, Smoothed, Block, Periods, Ready};
 
 // ---- L' r, with the entries of L worked out as they are read

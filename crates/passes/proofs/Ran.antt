@@ -1,24 +1,24 @@
 -- The two passes one after the other: what they may ask for, and that they leave the definition's run.
-use mathlib.Core.Path.{_≡_, refl, sym, ap, ap₂, _∙_, subst}
-use Prim.Native.Nat.{ℕ, _+_, _*_, _/_, _≤_}
-use mathlib.Core.Bool.{Bool, not, cond}
-use mathlib.Core.List.{List, [], _∷_, _++_, map}
+use mathlib.Core.Path.{_≡_, refl, ap, _∙_, subst}
+use Prim.Native.Nat.{ℕ, _*_, _/_, _≤_}
+use mathlib.Core.Bool.{not}
+use mathlib.Core.List.{List, map}
 use native.Mathlib.Nat.{mul-le-mul}
 use native.Mathlib.Omega.{arith}
 use lib.ListN.{length, take, drop, length-map}
 use lib.Seq.{take-at}
 use lib.Ieee.{Float}
 use Rattle.definition.specs.Num.{0ᶠ}
-use Rattle.definition.specs.Run.{count, join, lay}
-use Rattle.definition.specs.Cov.{Cov, CovPeriod, Decision, covRun}
+use Rattle.definition.specs.Run.{count, join}
+use Rattle.definition.specs.Cov.{Cov, CovPeriod, covRun}
 use Rattle.definition.specs.Mean.{Mean, MeanPeriod, meanRun}
-use Rattle.definition.specs.Parts.{CovPart, predCov, predInf, filtCov, fStar, fInf, mStar, mInf, MeanPart, predMean, filtMean, innovations, kindNo, isNews, kindBlock}
-use Rattle.definition.specs.Inputs.{Model, Offsets, Kind, kindOf, isGap, gapRows, noise, noiseOf, systemFrom, systemOf, startFrom, startOf, frameFrom}
+use Rattle.definition.specs.Parts.{CovPart, predCov, predInf, filtCov, fStar, fInf, mStar, mInf, MeanPart, predMean, filtMean, innovations, isNews, kindBlock}
+use Rattle.definition.specs.Inputs.{Model, Offsets, kindOf, isGap, gapRows, noise, noiseOf, systemFrom, systemOf, startFrom, startOf, frameFrom}
 use Rattle.definition.specs.Outcome.{CovParts, MeanParts, kindsNeed, covNeed, meanNeed, kindsWritten, covWritten, meanWritten, decisionsOf, covOf, meanOf, countsOf, roomy}
-use Rattle.laws.specs.Accepted.{Roomy, room-of}
-use Rattle.laws.specs.Flat.{Flat, decisionRows}
-use Rattle.laws.specs.Passes.{Laid, count-append}
-use Rattle.laws.specs.ReadBack.{rows-back}
+use Rattle.laws.specs.Accepted.{Roomy, room-of, as-long}
+use Rattle.laws.specs.Flat.{flatIn, decisionRows}
+use Rattle.laws.specs.Passes.{Laid}
+use Rattle.laws.specs.ReadBack.{rows-back, kinds-count}
 use Rattle.laws.specs.Shapes.{run-whole, run-length}
 use Rattle.model.specs.Past.{design-fits, noise-fits, start-fits}
 use Rattle.cov.specs.Counts.{isKept}
@@ -29,9 +29,6 @@ use Rattle.mean.specs.declared.Answer.{Answer}
 use Rattle.passes.specs.View.{covParts, meanParts, Fit, Ran}
 
 -- ---- what the passes may ask for
-
-as-long : {n a b : ℕ} → n ≤ b → a ≡ b → n ≤ a
-as-long h e = omega arith
 
 module _ {x : Model} {o : Offsets} {y : ℕ} {w : CovParts} {w′ : MeanParts} (f : Fit x o y w w′) where
   pub room : Roomy x w w′
@@ -75,30 +72,19 @@ module _ {x : Model} {o : Offsets} {y : ℕ} {w : CovParts} {w′ : MeanParts} (
   unfolding kindsNeed
   records e = as-long (room .kinds) e
 
-  pub mean-ready : {listed : ℕ} (k : List ℕ) (a b c d : List Float) → listed ≡ length (x .zList) / (x .p * x .m) → length k ≡ length (w .kinds) → length a ≡ length (w .part fStar) → length b ≡ length (w .part fInf) → length c ≡ length (w .part mStar) → length d ≡ length (w .part mInf) → means.Ready (x .p) (x .m) (x .n) listed (length (x .zOnce)) (length (x .zList)) (length (x .t)) (length (o .c)) (length (o .d)) (length (o .a1)) y (means.flatIn k a b c d)
+  pub mean-ready : {listed : ℕ} (k : List ℕ) (a b c d : List Float) → listed ≡ length (x .zList) / (x .p * x .m) → length k ≡ length (w .kinds) → length a ≡ length (w .part fStar) → length b ≡ length (w .part fInf) → length c ≡ length (w .part mStar) → length d ≡ length (w .part mInf) → means.Ready (x .p) (x .m) (x .n) listed (length (x .zOnce)) (length (x .zList)) (length (x .t)) (length (o .c)) (length (o .d)) (length (o .a1)) y (flatIn k a b c d)
   mean-ready k a b c d e ek ea eb ec ed =
-      means-call.ready x o (means.flatIn k a b c d) (f .accepted) e (as-long (room .kinds) ek) (as-long (room .cov fStar) ea) (as-long (room .cov fInf) eb) (as-long (room .cov mStar) ec) (as-long (room .cov mInf) ed)
+      means-call.ready x o (flatIn k a b c d) (f .accepted) e (as-long (room .kinds) ek) (as-long (room .cov fStar) ea) (as-long (room .cov fInf) eb) (as-long (room .cov mStar) ec) (as-long (room .cov mInf) ed)
 
   pub mean-rooms : means.Rooms (x .p) (x .m) (x .n) (length (w′ predMean)) (length (w′ filtMean)) (length (w′ innovations))
   mean-rooms = means-call.rooms x o w′ (room .mean predMean) (room .mean filtMean) (room .mean innovations)
 
 -- ---- what the covariance pass left, read back
 
-count-map : {A B : Type 0} (g : A → B) (q : B → Bool) (l : List A) → count q (map g l) ≡ count (λ a. q (g a)) l
-unfolding count
-count-map g q [] = refl
-count-map g q (a ∷ l) = ap (λ (k : ℕ). cond (q (g a)) 1 0 + k) (count-map g q l)
-
-kinds-count : (cs : List CovPeriod) → count isKept (join (map kindBlock cs)) ≡ count isNews (join (decisionsOf cs))
-unfolding join count kindBlock
-kinds-count [] = refl
-kinds-count (c ∷ cs) =
-    count-append isKept (map kindNo (c .decisions)) (join (map kindBlock cs)) ∙ ap₂ _+_ (count-map kindNo isKept (c .decisions)) (kinds-count cs) ∙ sym (count-append isNews (c .decisions) (join (decisionsOf cs)))
-
 pub news-are : (k : ℕ) (r : List CovPeriod × Cov) (ks₀ ks : List ℕ) → Laid k (kindsWritten r) ks₀ ks → count isKept (take k ks) ≡ count isNews (join (decisionsOf (r .0)))
 unfolding kindsWritten
 news-are k r ks₀ ks l =
-    ap (count isKept) (ap (take k) (l .is) ∙ take-at (join (map kindBlock (r .0))) (drop (length (join (map kindBlock (r .0)))) ks₀) k (l .long)) ∙ kinds-count (r .0)
+    ap (count isKept) (ap (take k) (l .is) ∙ take-at (join (map kindBlock (r .0))) (drop (length (join (map kindBlock (r .0)))) ks₀) k (l .long)) ∙ kinds-count isKept (r .0)
 
 module _ (x : Model) (y : List Float) where
   -- the covariance pass's run
@@ -113,12 +99,12 @@ module _ (x : Model) (y : List Float) where
   cov-run = refl
 
   rows : length y ≡ x .n * x .p → {k k₀ : List ℕ} {a a₀ b b₀ c c₀ d d₀ : List Float} → Laid (x .n * x .p) (kindsWritten run) k₀ k → Laid (x .n * x .p) (covWritten (x .m) run fStar) a₀ a → Laid (x .n * x .p) (covWritten (x .m) run fInf) b₀ b → Laid (x .n * (x .p * x .m)) (covWritten (x .m) run mStar) c₀ c → Laid (x .n * (x .p * x .m)) (covWritten (x .m) run mInf) d₀ d
-      → decisionRows (x .n) (x .p) (x .m) (means.flatIn k a b c d) ≡ decisionsOf (run .0)
+      → decisionRows (x .n) (x .p) (x .m) (flatIn k a b c d) ≡ decisionsOf (run .0)
   unfolding covOf systemOf systemFrom kindsWritten covWritten
   rows ly {k} {k₀} {a} {a₀} {b} {b₀} {c} {c₀} {d} {d₀} lk la lb lc ld =
       same (lk .is) (la .is) (lb .is) (lc .is) (ld .is) ∙ rows-back (x .p) (x .m) (run .0) (run-whole (systemOf x) (startOf x) (map kindOf y) (x .n) (x .p) (length-map y kindOf ∙ ly)) (x .n) _ _ _ _ _ (run-length (systemOf x) (startOf x) (map kindOf y) (x .n) (x .p))
     where
-      same : {k k′ : List ℕ} {a a′ b b′ c c′ d d′ : List Float} → k ≡ k′ → a ≡ a′ → b ≡ b′ → c ≡ c′ → d ≡ d′ → decisionRows (x .n) (x .p) (x .m) (means.flatIn k a b c d) ≡ decisionRows (x .n) (x .p) (x .m) (means.flatIn k′ a′ b′ c′ d′)
+      same : {k k′ : List ℕ} {a a′ b b′ c c′ d d′ : List Float} → k ≡ k′ → a ≡ a′ → b ≡ b′ → c ≡ c′ → d ≡ d′ → decisionRows (x .n) (x .p) (x .m) (flatIn k a b c d) ≡ decisionRows (x .n) (x .p) (x .m) (flatIn k′ a′ b′ c′ d′)
       same e1 e2 e3 e4 e5 = cc
 
 -- ---- both passes
@@ -129,7 +115,7 @@ answer-is e f g = cc
 module _ (x : Model) (o : Offsets) (y : List Float) (dd heard news : ℕ) (a : Answer) (pm₀ pm fm₀ fm vs₀ vs pc₀ pc pi₀ pi fc₀ fc : List Float) (ks₀ ks : List ℕ) (fs₀ fs fi₀ fi ms₀ ms mi₀ mi : List Float) where
   -- the mean pass's run, over the records that the covariance pass left
   abbrev meanRan : List MeanPeriod × Mean
-  meanRan = meanRun (frameFrom (x .p) (x .m) (x .zOnce) (x .zList) (x .t)) (record { c = o .c; d = o .d }) 0 (record { a = o .a1; loglik = 0ᶠ }) (means.entries (x .n) (x .p) (x .m) (means.flatIn ks fs fi ms mi) y)
+  meanRan = meanRun (frameFrom (x .p) (x .m) (x .zOnce) (x .zList) (x .t)) (record { c = o .c; d = o .d }) 0 (record { a = o .a1; loglik = 0ᶠ }) (means.entries (x .n) (x .p) (x .m) (flatIn ks fs fi ms mi) y)
 
   abbrev CovPassed : List CovPeriod × Cov → Type 0
   CovPassed r = covs.Passed (x .p) (x .m) (x .n) r dd pc₀ pc pi₀ pi fc₀ fc ks₀ ks fs₀ fs fi₀ fi ms₀ ms mi₀ mi
@@ -161,7 +147,7 @@ module _ (x : Model) (o : Offsets) (y : List Float) (dd heard news : ℕ) (a : A
   unfolding countsOf
   ran ly cp eh en mp =
       let c : CovPassed (run x y) = subst CovPassed (cov-run x y) cp in
-      let e = means-call.run-of x o (run x y .0) y (means.flatIn ks fs fi ms mi) (rows x y ly (c .kinds) (c .stars) (c .infs) (c .m-stars) (c .m-infs)) in
+      let e = means-call.run-of x o (run x y .0) y (flatIn ks fs fi ms mi) (rows x y ly (c .kinds) (c .stars) (c .infs) (c .m-stars) (c .m-infs)) in
       let s : MeanPassed (meanOf x o (run x y .0) y) = subst MeanPassed e mp in
       record {
         answer = s .answer ∙ answer-is (c .diffuse) eh (en ∙ news-are (x .n * x .p) (run x y) ks₀ ks (c .kinds));

@@ -1,6 +1,6 @@
 // Both passes back over the periods, one after the other: the covariances' is crates/cov_back, the means' crates/mean_back.
 ghost use lib.ListN.{length};
-ghost use Rattle.mean.specs.View.{flatIn};
+ghost use Rattle.laws.specs.Flat.{flatIn};
 ghost use Rattle.passes_back.specs.View.{ReadyBack, Back};
 
 // The two passes back, over what the run left: the smoothed covariances and the smoothed means of n periods.

@@ -15,7 +15,6 @@ use Rattle.model.specs.Lengths.{Room, roomsSmoothed, by-room-smoothed}
 use Rattle.blank.specs.Stretches.{SmoothedBlank}
 use Rattle.mean.specs.declared.Answer.{Answer}
 use Rattle.passes.specs.View.{Ran}
-use Rattle.filter.specs.declared.Outcome.{Outcome}
 use Rattle.filter.specs.declared.Outcome.the-variants.{Refused, Answered}
 use Rattle.filter.specs.Promise.{isSilent}
 use Rattle.filter.specs.Blanked.{Blanked}

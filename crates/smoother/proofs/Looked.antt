@@ -1,34 +1,27 @@
 -- The passes back, between the run that wrote what they read and the outcome's smoothed moments.
-use mathlib.Core.Path.{_≡_, refl, sym, ap, _∙_}
-use Prim.Native.Nat.{ℕ, _*_, _/_, _≤_}
-use native.Mathlib.Omega.{arith}
+use mathlib.Core.Path.{_≡_, refl, ap, _∙_}
+use Prim.Native.Nat.{ℕ, _*_}
 use mathlib.Core.Bool.{Bool, true, false, _&&_}
 use mathlib.Core.List.{List, map}
 use lib.ListN.{length, length-map}
 use lib.Dec.{leb}
 use lib.Ieee.{Float}
 use Rattle.definition.specs.Run.{join, count}
-use Rattle.definition.specs.Cov.{CovPeriod}
-use Rattle.definition.specs.Mean.{MeanPeriod}
 use Rattle.definition.specs.Smooth.{lookOf, meanLookOf, smoothCov, smoothMean}
-use Rattle.definition.specs.Parts.{predCov, predInf, filtCov, fStar, fInf, mStar, mInf, predMean, filtMean, innovations}
+use Rattle.definition.specs.Parts.{predCov, predInf, fStar, fInf, mStar, mInf, predMean, innovations}
 use Rattle.definition.specs.Inputs.{Model, Offsets, kindOf, frameOf}
 use Rattle.definition.specs.Outcome.{CovParts, MeanParts, smoothedCovNeed, smoothedMeanNeed, roomy, roomySmoothed, covOf, meanOf, countsOf}
-use Rattle.laws.specs.Accepted.{Accepted, RoomySmoothed, room-smoothed}
-use Rattle.laws.specs.Flat.{Flat, looks, meanLooks}
+use Rattle.laws.specs.Accepted.{Accepted, RoomySmoothed, room-smoothed, as-long}
+use Rattle.laws.specs.Flat.{flatIn, Flat, looks, meanLooks}
 use Rattle.laws.specs.Passes.{Laid}
-use Rattle.blank.specs.Stretches.{Sizes, SmoothedRoom}
-use Rattle.passes.specs.View.{covParts, meanParts, Fit, Ran}
-use Rattle.mean.specs.View.{flatIn}
+use Rattle.blank.specs.Stretches.{SmoothedRoom}
+use Rattle.passes.specs.View.{Fit, Ran}
 use Rattle.mean.specs.declared.Answer.{Answer}
 use Rattle.cov_back.specs.Call as cov-call
 use Rattle.laws.specs.Looked as cov-looked
 use Rattle.mean_back.specs.Call as mean-call
 use Rattle.mean_back.specs.Looked as mean-looked
 use Rattle.passes_back.specs.View.{ReadyBack, Back}
-
-as-long : {n a b : ℕ} → n ≤ b → a ≡ b → n ≤ a
-as-long h e = omega arith
 
 first : (a b c : Bool) → (a && b && c) ≡ true → a ≡ true
 first true b c e = refl

@@ -1,4 +1,4 @@
-use mathlib.Core.Path.{_≡_, refl}
+use mathlib.Core.Path.{refl}
 use borrow.Author.Needs.{needs}
 use Rattle.definition.specs.Smooth.{backN}
 use Rattle.laws.specs.Flat.{kind-skipped, kind-usual, kind-diffuse}

@@ -3,7 +3,6 @@ use Rattle.backward.proofs.k_one.Tie as tie
 use native.Mathlib.Omega.{arith}
 use mathlib.Core.Path.{_≡_, refl, ap₂, _∙_}
 use Prim.Native.Nat.{_≤_, _-_}
-use mathlib.Core.List.{List}
 use lib.Ieee.{Float}
 use lib.ListN.{length}
 use Rattle.definition.specs.Num.{_⊗_, _⊕_, tabulate}

@@ -1,9 +1,8 @@
 use Rattle.backward.proofs.l_zero_at.Statement.{statement}
 use Rattle.backward.proofs.l_zero_at.Tie as tie
 use native.Mathlib.Omega.{arith}
-use mathlib.Core.Path.{_≡_, refl}
+use mathlib.Core.Path.{refl}
 use borrow.Author.Tests.{eq-eqb, ne-eqb}
-use borrow.Author.Needs.{needs}
 use Rattle.definition.specs.Smooth.{lZeroAt}
 
 returns : tie.Need-returns

@@ -1,7 +1,5 @@
-use mathlib.Core.Path.{_≡_, refl, sym, ap, _∙_}
-use Prim.Native.Nat.{ℕ, _≤_, _<_, _-_, _+_, _*_}
-use native.Mathlib.Omega.{arith}
-use native.Mathlib.Nat.{mul-le-mul}
+use mathlib.Core.Path.{refl}
+use Prim.Native.Nat.{_-_}
 use borrow.Author.Needs.{needs}
 use native.Mathlib.Nat.{add-zero}
 use Rattle.cov.proofs.and_one.Statement.{statement}

@@ -1,6 +1,6 @@
 -- The row and the gain vectors are the parts that the definition reads. Made of Proof.tpl by tools/expand.
 use borrow.Author.Needs.{needs}
-use Rattle.cov_back.specs.View.{flatIn}
+use Rattle.laws.specs.Flat.{flatIn}
 use Rattle.cov_back.proofs.Laws as laws
 use Rattle.cov_back.proofs.element.Statement.{statement}
 use Rattle.cov_back.proofs.element.Tie as tie

@@ -4,6 +4,7 @@ use Rattle.cov_back.proofs.Laws as laws
 use Rattle.cov_back.proofs.Sizes as sizes
 use Rattle.cov_back.proofs.smoothed_at.Statement.{statement}
 use Rattle.cov_back.proofs.smoothed_at.Tie as tie
+use Rattle.laws.specs.Backward.{block-long}
 
 mul-mm : tie.Need-mul-mm
 mul-mm c = sizes.square-fits (c .before .before .before .pre .m8)
@@ -42,7 +43,7 @@ smoothed-requires : tie.Need-smoothed-requires
 smoothed-requires c κs =
     let a = c .before .before .before .before .before .before .args in
     let h = c .before .before .before .before .before .before .pre in
-    (h .m8, (h .own, (laws.block-long (a .t) (a .m * a .m) (a .pred-cov .now) (h .pred), laws.block-long (a .t) (a .m * a .m) (a .pred-inf .now) (h .inf))))
+    (h .m8, (h .own, (block-long (a .t) (a .m * a .m) (a .pred-cov .now) (h .pred), block-long (a .t) (a .m * a .m) (a .pred-inf .now) (h .inf))))
 
 same-length : tie.Need-same-length
 same-length c = c .before .before .smoothed .kept .0

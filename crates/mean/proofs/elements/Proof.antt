@@ -2,7 +2,8 @@
 use mathlib.Core.Path.{sym, _∙_}
 use Prim.Native.Nat.{_-_}
 use native.Mathlib.Omega.{arith}
-use Rattle.mean.specs.View.{meanIn, flatIn}
+use Rattle.mean.specs.View.{meanIn}
+use Rattle.laws.specs.Flat.{flatIn}
 use Rattle.mean.proofs.Laws as laws
 use Rattle.mean.proofs.Sizes as sizes
 use Rattle.mean.proofs.elements.Statement.{statement}

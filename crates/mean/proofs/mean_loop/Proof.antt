@@ -3,11 +3,13 @@ use mathlib.Core.Path.{refl, _∙_}
 use Prim.Native.Nat.{_-_}
 use Rattle.definition.specs.Inputs.{frameFrom}
 use Rattle.dense.specs.Views.{vec, mat}
-use Rattle.mean.specs.View.{meanIn, flatIn}
+use Rattle.mean.specs.View.{meanIn}
+use Rattle.laws.specs.Flat.{flatIn}
 use Rattle.mean.proofs.Sizes as sizes
 use Rattle.mean.proofs.Going as going
 use Rattle.mean.proofs.mean_loop.Statement.{statement}
 use Rattle.mean.proofs.mean_loop.Tie as tie
+use Rattle.laws.specs.Backward.{block-long}
 
 abbrev Inv-loop : tie.InvT-loop
 Inv-loop a₀ pred-mean₀ filt-mean₀ v₀ z zs tr c d y kinds f-star f-inf m-star m-inf p m n listed answer₀ t₀ a pred-mean filt-mean v answer t =
@@ -75,9 +77,9 @@ mean-period-requires c κs =
     let s = c .before .before .before .before .before .before .before .before .before .before .before .before .before .before .before .before .before .before .before in
     let g = c .before .before .before .before .before .before .loop .inv in
     let h = c .before .before .before .before .before .loop-test .taken in
-    let lp = sizes.block-long _ (s .args .m) _ (sizes.part-in (s .args .m) h (s .pre .1 .pm) (g .pm .0)) in
-    let lf = sizes.block-long _ (s .args .m) _ (sizes.part-in (s .args .m) h (s .pre .1 .fm) (g .fm .0)) in
-    let lv = sizes.block-long _ (s .args .p) _ (sizes.part-in (s .args .p) h (s .pre .1 .vs) (g .vs .0)) in
+    let lp = block-long _ (s .args .m) _ (sizes.part-in (s .args .m) h (s .pre .1 .pm) (g .pm .0)) in
+    let lf = block-long _ (s .args .m) _ (sizes.part-in (s .args .m) h (s .pre .1 .fm) (g .fm .0)) in
+    let lv = block-long _ (s .args .p) _ (sizes.part-in (s .args .p) h (s .pre .1 .vs) (g .vs .0)) in
     (lp, (lf, sizes.period-in (s .args .z .now) (s .args .zs .now) (s .pre .0) h (c .before .before .before .before .design .ensures) lv))
 
 add-t : tie.Need-add-t Inv-loop μ-loop
@@ -91,9 +93,9 @@ loop-again c =
     let s = c .before .before .before .before .before .before .before .before .before .before .before .before .before .before .before .before .before .before .before .before .before .before .before .before .before .before in
     let g = c .before .before .before .before .before .before .before .before .before .before .before .before .before .loop .inv in
     let h = c .before .before .before .before .before .before .before .before .before .before .before .before .loop-test .taken in
-    let lp = sizes.block-long _ (s .args .m) _ (sizes.part-in (s .args .m) h (s .pre .1 .pm) (g .pm .0)) in
-    let lf = sizes.block-long _ (s .args .m) _ (sizes.part-in (s .args .m) h (s .pre .1 .fm) (g .fm .0)) in
-    let lv = sizes.block-long _ (s .args .p) _ (sizes.part-in (s .args .p) h (s .pre .1 .vs) (g .vs .0)) in
+    let lp = block-long _ (s .args .m) _ (sizes.part-in (s .args .m) h (s .pre .1 .pm) (g .pm .0)) in
+    let lf = block-long _ (s .args .m) _ (sizes.part-in (s .args .m) h (s .pre .1 .fm) (g .fm .0)) in
+    let lv = block-long _ (s .args .p) _ (sizes.part-in (s .args .p) h (s .pre .1 .vs) (g .vs .0)) in
     let w = c .before .before .before .before .before .before .mean-period in
     going.going-next _ _ _ _ _ _ _ _ _ _ _ g h (s .pre .1) (w .kept .1 .0 ∙ lp) (w .kept .1 .1 .0 ∙ lf) (w .kept .1 .1 .1 .0 ∙ lv)
     (going.framed (s .args .p) (s .args .m) _ (s .args .z .now) (s .args .zs .now) _ _ _ _ _ _ (c .before .before .before .before .before .before .before .before .before .before .before .design .ensures) (w .ensures))

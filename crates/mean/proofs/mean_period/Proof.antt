@@ -1,6 +1,7 @@
 -- The period is begin, elements and step. Made of Proof.tpl by tools/expand.
 use Rattle.dense.specs.Views.{vec, mat}
-use Rattle.mean.specs.View.{meanIn, flatIn}
+use Rattle.mean.specs.View.{meanIn}
+use Rattle.laws.specs.Flat.{flatIn}
 use Rattle.mean.proofs.Laws as laws
 use Rattle.mean.proofs.Sizes as sizes
 use Rattle.mean.proofs.mean_period.Statement.{statement}

@@ -4,7 +4,7 @@ use native.Mathlib.Omega.{arith}
 use Rattle.definition.specs.Inputs.{frameFrom}
 use Rattle.dense.specs.Views.{mat}
 use Rattle.backward.specs.View.{rsIn}
-use Rattle.mean.specs.View.{flatIn}
+use Rattle.laws.specs.Flat.{flatIn}
 use Rattle.mean_back.proofs.Sizes as sizes
 use Rattle.mean_back.proofs.Going as going
 use Rattle.mean_back.proofs.loop_back.Statement.{statement}

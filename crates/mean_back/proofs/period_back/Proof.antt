@@ -1,7 +1,7 @@
 -- The period is its elements, its smoothed mean and the step. Made of Proof.tpl by tools/expand.
 use Rattle.dense.specs.Views.{mat}
 use Rattle.backward.specs.View.{rsIn}
-use Rattle.mean.specs.View.{flatIn}
+use Rattle.laws.specs.Flat.{flatIn}
 use Rattle.mean_back.proofs.Laws as laws
 use Rattle.mean_back.proofs.period_back.Statement.{statement}
 use Rattle.mean_back.proofs.period_back.Tie as tie

@@ -1,5 +1,5 @@
 -- `cov::counts::and_heard` meets its contract. Assumes nothing.
-use mathlib.Core.Path.{_≡_, refl, sym, ap, _∙_}
+use mathlib.Core.Path.{refl}
 use native.Mathlib.Nat.{add-zero}
 use Rattle.cov.proofs.Counting.{gap-yes, gap-no}
 use borrow.Author.Needs.{needs}

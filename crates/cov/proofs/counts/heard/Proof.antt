@@ -1,7 +1,7 @@
 -- `cov::counts::heard` meets its contract: the count over the readings before i. Assumes nothing.
 use mathlib.Core.Path.{_≡_, sym, ap, _∙_}
 use mathlib.Core.Bool.{not, cond, true}
-use Prim.Native.Nat.{ℕ, _≤_, _<_, _-_, _+_}
+use Prim.Native.Nat.{_≤_, _<_, _-_, _+_}
 use native.Mathlib.Omega.{arith}
 use lib.ListN.{length, take}
 use Rattle.definition.specs.Run.{count}
