@@ -25,14 +25,7 @@ fn clear_bytes(out: &mut [u8], k: usize)
     }
 }
 
-pub fn means(
-    pred_mean: &mut [f64],
-    filt_mean: &mut [f64],
-    v: &mut [f64],
-    p: usize,
-    m: usize,
-    n: usize,
-)
+fn means(pred_mean: &mut [f64], filt_mean: &mut [f64], v: &mut [f64], p: usize, m: usize, n: usize)
     requires { ⌜ MeanRoom p m n (length (now «pred_mean»)) (length (now «filt_mean»)) (length (now v)) ⌝ }
     ensures { λ _. ⌜ MeanBlank p m n (now («pred_mean» .entry)) (now («pred_mean» .exit)) (now («filt_mean» .entry)) (now («filt_mean» .exit)) (now (v .entry)) (now (v .exit)) ⌝ }
 {
@@ -42,7 +35,7 @@ pub fn means(
     clear(v, n * p);
 }
 
-pub fn covs(
+fn covs(
     pred_cov: &mut [f64],
     pred_inf: &mut [f64],
     filt_cov: &mut [f64],
@@ -61,7 +54,7 @@ pub fn covs(
     clear(filt_cov, nmm);
 }
 
-pub fn records(
+fn records(
     kinds: &mut [u8],
     f_star: &mut [f64],
     f_inf: &mut [f64],
@@ -81,6 +74,35 @@ pub fn records(
     clear(f_inf, np);
     clear(m_star, npm);
     clear(m_inf, npm);
+}
+
+// All of the filter's parts.
+pub fn filtered(
+    pred_mean: &mut [f64],
+    pred_cov: &mut [f64],
+    pred_inf: &mut [f64],
+    filt_mean: &mut [f64],
+    filt_cov: &mut [f64],
+    kinds: &mut [u8],
+    v: &mut [f64],
+    f_star: &mut [f64],
+    f_inf: &mut [f64],
+    m_star: &mut [f64],
+    m_inf: &mut [f64],
+    p: usize,
+    m: usize,
+    n: usize,
+)
+    requires { ⌜ (MeanRoom p m n (length (now «pred_mean»)) (length (now «filt_mean»)) (length (now v)))
+        × (CovRoom p m n (length (now «pred_cov»)) (length (now «pred_inf»)) (length (now «filt_cov»)))
+        × (RecordRoom p m n (length (now kinds)) (length (now «f_star»)) (length (now «f_inf»)) (length (now «m_star»)) (length (now «m_inf»))) ⌝ }
+    ensures { λ _. ⌜ (MeanBlank p m n (now («pred_mean» .entry)) (now («pred_mean» .exit)) (now («filt_mean» .entry)) (now («filt_mean» .exit)) (now (v .entry)) (now (v .exit)))
+        × (CovBlank m n (now («pred_cov» .entry)) (now («pred_cov» .exit)) (now («pred_inf» .entry)) (now («pred_inf» .exit)) (now («filt_cov» .entry)) (now («filt_cov» .exit)))
+        × (RecordBlank p m n (now (kinds .entry)) (now (kinds .exit)) (now («f_star» .entry)) (now («f_star» .exit)) (now («f_inf» .entry)) (now («f_inf» .exit)) (now («m_star» .entry)) (now («m_star» .exit)) (now («m_inf» .entry)) (now («m_inf» .exit))) ⌝ }
+{
+    means(pred_mean, filt_mean, v, p, m, n);
+    covs(pred_cov, pred_inf, filt_cov, p, m, n);
+    records(kinds, f_star, f_inf, m_star, m_inf, p, m, n);
 }
 
 // The smoother's two parts.

@@ -17,34 +17,33 @@ use Rattle.filter.specs.declared.Outcome.the-variants.{Refused, Answered
 use Rattle.filter.specs.Promise.{Promise, isSilent}
 use Rattle.filter.specs.Blanked.{Blanked}
 use Rattle.filter.specs.Ends as ends
+use Rattle.filter.specs.Ends.{Checked}
 
-pub none : {k c : ℕ} → k ≤ 0 → k ≡ c → 0 ≡ c
-none h e = omega arith
+abbrev kinds : List Float → List Kind
+kinds y = map kindOf y
 
-module _ (x : Model) (o : Offsets) (y : List Float) (w : CovParts) (w′ : MeanParts) where
-  abbrev kinds : List Kind
-  kinds = map kindOf y
+module _ {x : Model} {o : Offsets} {y : List Float} {w : CovParts} {w′ : MeanParts} {k : ℕ} where
+  pub checked : {room : Bool} → k ≡ ends.number x o y room → Room x o (length y) (anyOf isInfinity (kinds y)) w w′ room → Checked x o y w w′ k
+  checked e h = record { number = e ∙ by-room x o (length y) (anyOf isInfinity (kinds y)) w w′ h }
 
-  abbrev pub number : ℕ
-  number = ends.number x o y (roomy x w w′)
+by-fate : (x : Model) (o : Offsets) (y : List Float) (w : CovParts) (w′ : MeanParts) (f : Fate) → fate x o (kinds y) (roomy x w w′) ≡ f → outcome x o y w w′ ≡ ends.End x o y w w′ f
+unfolding outcome outcomeAt
+by-fate x o y w w′ f e = ap (ends.End x o y w w′) e
 
-  pub number-is : {k : ℕ} {room : Bool} → k ≡ ends.number x o y room → Room x o (length y) (anyOf isInfinity kinds) w w′ room → k ≡ number
-  number-is e h = e ∙ by-room x o (length y) (anyOf isInfinity kinds) w w′ h
+module _ {x : Model} {o : Offsets} {y : List Float} {w : CovParts} {w′ : MeanParts} {k : ℕ} (e : Checked x o y w w′ k) where
+  pub refused : 0 < k → Promise (outcome x o y w w′) (Refused k) w w′
+  refused h = refused-by k (e .number) h
+    where
+      refused-by : (k : ℕ) → k ≡ ends.number x o y (roomy x w w′) → 0 < k → Promise (outcome x o y w w′) (Refused k) w w′
+      refused-by zero e h = absurd (omega arith)
+      refused-by (suc k) e h = rw (by-fate x o y w w′ (turned (suc k)) (ends.is-turned x o y (roomy x w w′) k e)) (ends.turned-away x o y w w′ k)
 
-  by-fate : (f : Fate) → fate x o kinds (roomy x w w′) ≡ f → outcome x o y w w′ ≡ ends.End x o y w w′ f
-  unfolding outcome outcomeAt
-  by-fate f e = ap (ends.End x o y w w′) e
+  pub fit : k ≤ 0 → Fit x o (length y) w w′
+  fit h = record { accepted = accepted x o (length y) (anyOf isInfinity (kinds y)) (roomy x w w′) (sym (ends.none h (e .number))) }
 
-  pub refused : (k : ℕ) → k ≡ number → 0 < k → Promise (outcome x o y w w′) (Refused k) w w′
-  refused zero e h = absurd (omega arith)
-  refused (suc k) e h = rw (by-fate (turned (suc k)) (ends.is-turned x o y (roomy x w w′) k e)) (ends.turned-away x o y w w′ k)
-
-  pub fit : 0 ≡ number → Fit x o (length y) w w′
-  fit e = record { accepted = accepted x o (length y) (anyOf isInfinity kinds) (roomy x w w′) (sym e) }
-
-  module _ {a : Answer} {b : CovParts} {b′ : MeanParts} (e : 0 ≡ number) (r : Ran x o y a w b w′ b′) where
+  module _ {a : Answer} {b : CovParts} {b′ : MeanParts} (none : k ≤ 0) (r : Ran x o y a w b w′ b′) where
     pub heard : isSilent (a .heard) (a .news) ≡ false → Promise (outcome x o y w w′) (Answered a) b b′
-    heard h = rw (by-fate answered (ends.is-answered x o y w w′ r (roomy x w w′) e h)) (ends.answered-so x o y w w′ r)
+    heard h = rw (by-fate x o y w w′ answered (ends.is-answered x o y w w′ r (roomy x w w′) (ends.none none (e .number)) h)) (ends.answered-so x o y w w′ r)
 
     pub silenced : {c : CovParts} {c′ : MeanParts} → isSilent (a .heard) (a .news) ≡ true → Blanked x b c b′ c′ → Promise (outcome x o y w w′) (Refused 12) c c′
-    silenced h z = rw (by-fate silent (ends.is-silent x o y w w′ r (roomy x w w′) e h)) (ends.silent-so x o y w w′ r z)
+    silenced h z = rw (by-fate x o y w w′ silent (ends.is-silent x o y w w′ r (roomy x w w′) (ends.none none (e .number)) h)) (ends.silent-so x o y w w′ r z)

@@ -22,18 +22,22 @@ module _ {x : Model} {o : Offsets} {y : ℕ} {w : CovParts} {w′ : MeanParts} (
   sizes : Sizes (x .p) (x .m) (x .n)
   sizes = record { p8 = f .accepted .sizes .p8; m8 = f .accepted .sizes .m8; n4096 = f .accepted .sizes .n4096 }
 
-  pub mean-room : {pm fm vs : ℕ} → pm ≡ length (w′ predMean) → fm ≡ length (w′ filtMean) → vs ≡ length (w′ innovations) → MeanRoom (x .p) (x .m) (x .n) pm fm vs
+  mean-room : {pm fm vs : ℕ} → pm ≡ length (w′ predMean) → fm ≡ length (w′ filtMean) → vs ≡ length (w′ innovations) → MeanRoom (x .p) (x .m) (x .n) pm fm vs
   unfolding meanNeed
   mean-room e1 e2 e3 = record { sizes = sizes; pred = as-long (room .mean predMean) e1; filt = as-long (room .mean filtMean) e2; v = as-long (room .mean innovations) e3 }
 
-  pub cov-room : {pc pi fc : ℕ} → pc ≡ length (w .part predCov) → pi ≡ length (w .part predInf) → fc ≡ length (w .part filtCov) → CovRoom (x .p) (x .m) (x .n) pc pi fc
+  cov-room : {pc pi fc : ℕ} → pc ≡ length (w .part predCov) → pi ≡ length (w .part predInf) → fc ≡ length (w .part filtCov) → CovRoom (x .p) (x .m) (x .n) pc pi fc
   unfolding covNeed
   cov-room e1 e2 e3 = record { sizes = sizes; pred = as-long (room .cov predCov) e1; pred-inf = as-long (room .cov predInf) e2; filt = as-long (room .cov filtCov) e3 }
 
-  pub record-room : {ks fs fi ms mi : ℕ} → ks ≡ length (w .kinds) → fs ≡ length (w .part fStar) → fi ≡ length (w .part fInf) → ms ≡ length (w .part mStar) → mi ≡ length (w .part mInf) → RecordRoom (x .p) (x .m) (x .n) ks fs fi ms mi
+  record-room : {ks fs fi ms mi : ℕ} → ks ≡ length (w .kinds) → fs ≡ length (w .part fStar) → fi ≡ length (w .part fInf) → ms ≡ length (w .part mStar) → mi ≡ length (w .part mInf) → RecordRoom (x .p) (x .m) (x .n) ks fs fi ms mi
   unfolding kindsNeed covNeed
   record-room e1 e2 e3 e4 e5 =
       record { sizes = sizes; kinds = as-long (room .kinds) e1; f-star = as-long (room .cov fStar) e2; f-inf = as-long (room .cov fInf) e3; m-star = as-long (room .cov mStar) e4; m-inf = as-long (room .cov mInf) e5 }
+
+  pub rooms : {pm fm vs pc pi fc ks fs fi ms mi : ℕ} → pm ≡ length (w′ predMean) → pc ≡ length (w .part predCov) → pi ≡ length (w .part predInf) → fm ≡ length (w′ filtMean) → fc ≡ length (w .part filtCov) → ks ≡ length (w .kinds) → vs ≡ length (w′ innovations) → fs ≡ length (w .part fStar) → fi ≡ length (w .part fInf) → ms ≡ length (w .part mStar) → mi ≡ length (w .part mInf)
+      → MeanRoom (x .p) (x .m) (x .n) pm fm vs × CovRoom (x .p) (x .m) (x .n) pc pi fc × RecordRoom (x .p) (x .m) (x .n) ks fs fi ms mi
+  rooms e1 e2 e3 e4 e5 e6 e7 e8 e9 e10 e11 = (mean-room e1 e4 e7, cov-room e2 e3 e5, record-room e6 e8 e9 e10 e11)
 
 -- ---- what is blank then
 

@@ -1,6 +1,7 @@
 -- A call's three ends, over the filter's parts: turned away before anything is written, silent, answered. The smoother's call ends the same ways.
 use mathlib.Core.Path.{_≡_, refl, ap, _∙_}
-use Prim.Native.Nat.{ℕ, suc}
+use Prim.Native.Nat.{ℕ, suc, _≤_}
+use native.Mathlib.Omega.{arith}
 use mathlib.Core.Bool.{Bool, true, false}
 use mathlib.Core.List.{List, map}
 use lib.ListN.{length, replicate, length-map, length-replicate}
@@ -9,13 +10,16 @@ use Rattle.definition.specs.Num.{0ᶠ, zeros}
 use Rattle.definition.specs.Run.{anyOf}
 use Rattle.definition.specs.Inputs.{Model, Offsets, Kind, kindOf, isInfinity}
 use Rattle.definition.specs.Refusals.{refusal}
-use Rattle.definition.specs.Outcome.{CovParts, MeanParts, CovOutcome, MeanOutcome, Fate, turned, silent, answered, fateOf, fate, numberOf, after, countsIn, loglikIn, kindsNeed, covNeed, meanNeed, covOf, countsOf, noInformation, covOutcome, meanOutcome}
+use Rattle.definition.specs.Outcome.{CovParts, MeanParts, CovOutcome, MeanOutcome, Fate, turned, silent, answered, fateOf, fate, numberOf, after, countsIn, loglikIn, kindsNeed, covNeed, meanNeed, covOf, countsOf, noInformation, covOutcome, meanOutcome, roomy}
 use Rattle.laws.specs.Passes.{lay-again}
 use Rattle.mean.specs.declared.Answer.{Answer}
 use Rattle.passes.specs.View.{Ran}
 use Rattle.filter.specs.declared.Outcome.the-variants.{Refused, Answered}
 use Rattle.filter.specs.Promise.{answerBy, Promise, isSilent}
 use Rattle.filter.specs.Blanked.{Blanked}
+
+pub none : {k c : ℕ} → k ≤ 0 → k ≡ c → 0 ≡ c
+none h e = omega arith
 
 module _ (x : Model) (o : Offsets) (y : List Float) where
   abbrev kinds : List Kind
@@ -68,3 +72,7 @@ module _ (x : Model) (o : Offsets) (y : List Float) where
             cov = λ q. lay-again (covNeed x q) _ (zeros (covNeed x q)) (w .part q) (b .part q) (c .part q) (r .cov q) (length-replicate (covNeed x q) 0ᶠ) (z .cov q);
             mean = λ q. lay-again (meanNeed x q) _ (zeros (meanNeed x q)) (w′ q) (b′ q) (c′ q) (r .mean q) (length-replicate (meanNeed x q) 0ᶠ) (z .mean q);
           }
+
+-- k is the number of the first of refusals 1 to 11 that the inputs and the lent outputs earn, 0 if none
+pub record Checked (x : Model) (o : Offsets) (y : List Float) (w : CovParts) (w′ : MeanParts) (k : ℕ) : Type 0 where
+  pub number : k ≡ number x o y (roomy x w w′)

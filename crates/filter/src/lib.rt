@@ -4,6 +4,7 @@ ghost use Rattle.definition.specs.Outcome.{outcome};
 ghost use Rattle.model.specs.Given.{modelOf, offsetsOf};
 ghost use Rattle.passes.specs.View.{covParts, meanParts};
 ghost use Rattle.filter.specs.Promise.{Promise, isSilent};
+ghost use Rattle.filter.specs.Ends.{Checked};
 
 // Refused with its number, 1 to 12, or answered.
 pub enum Outcome {
@@ -16,6 +17,79 @@ pub fn is_silent(heard: usize, news: usize) -> bool
     ensures { λ r. ⌜ r ≡ isSilent heard news ⌝ }
 {
     (0 < heard) & (news == 0)
+}
+
+// Refusals 1 to 11, of the inputs and of the outputs lent; 0: none. It writes nothing.
+fn refusal(
+    p: usize,
+    m: usize,
+    r: usize,
+    n: usize,
+    z: &[f64],
+    zs: &[f64],
+    h: &[f64],
+    t: &[f64],
+    rr: &[f64],
+    q: &[f64],
+    c: &[f64],
+    d: &[f64],
+    a1: &[f64],
+    p_star: &[f64],
+    flags: &[u8],
+    y: &[f64],
+    pred_mean: &[f64],
+    pred_cov: &[f64],
+    pred_inf: &[f64],
+    filt_mean: &[f64],
+    filt_cov: &[f64],
+    kinds: &[u8],
+    v: &[f64],
+    f_star: &[f64],
+    f_inf: &[f64],
+    m_star: &[f64],
+    m_inf: &[f64],
+) -> u8
+    ensures { λ k. ⌜ Checked (modelOf p m r n (now (z .entry)) (now (zs .entry)) (now (h .entry)) (now (t .entry)) (now (rr .entry)) (now (q .entry)) (now («p_star» .entry)) (now (flags .entry)))
+        (offsetsOf (now (c .entry)) (now (d .entry)) (now (a1 .entry))) (now (y .entry))
+        (covParts (now («pred_cov» .entry)) (now («pred_inf» .entry)) (now («filt_cov» .entry)) (now (kinds .entry)) (now («f_star» .entry)) (now («f_inf» .entry)) (now («m_star» .entry)) (now («m_inf» .entry)))
+        (meanParts (now («pred_mean» .entry)) (now («filt_mean» .entry)) (now (v .entry))) k ⌝ }
+{
+    let room = model::lengths::room(
+        p,
+        m,
+        r,
+        n,
+        pred_mean.len(),
+        pred_cov.len(),
+        pred_inf.len(),
+        filt_mean.len(),
+        filt_cov.len(),
+        kinds.len(),
+        v.len(),
+        f_star.len(),
+        f_inf.len(),
+        m_star.len(),
+        m_inf.len(),
+    );
+    model::refusal(
+        p,
+        m,
+        r,
+        n,
+        z,
+        zs,
+        h,
+        t,
+        rr,
+        q,
+        c,
+        d,
+        a1,
+        p_star,
+        flags,
+        y,
+        room,
+    )
 }
 
 // The filter's call. It ends with an answer whatever it is handed: refused with its number, or answered.
@@ -55,24 +129,7 @@ pub fn filter_univariate<'a>(
         (covParts (now («pred_cov» .exit)) (now («pred_inf» .exit)) (now («filt_cov» .exit)) (now (kinds .exit)) (now («f_star» .exit)) (now («f_inf» .exit)) (now («m_star» .exit)) (now («m_inf» .exit)))
         (meanParts (now («pred_mean» .exit)) (now («filt_mean» .exit)) (now (v .exit))) ⌝ }
 {
-    let room = model::lengths::room(
-        p,
-        m,
-        r,
-        n,
-        pred_mean.len(),
-        pred_cov.len(),
-        pred_inf.len(),
-        filt_mean.len(),
-        filt_cov.len(),
-        kinds.len(),
-        v.len(),
-        f_star.len(),
-        f_inf.len(),
-        m_star.len(),
-        m_inf.len(),
-    );
-    let k = model::refusal(
+    let k = refusal(
         p,
         m,
         r,
@@ -89,7 +146,17 @@ pub fn filter_univariate<'a>(
         p_star,
         flags,
         y,
-        room,
+        pred_mean,
+        pred_cov,
+        pred_inf,
+        filt_mean,
+        filt_cov,
+        kinds,
+        v,
+        f_star,
+        f_inf,
+        m_star,
+        m_inf,
     );
     if 0 < k {
         return Outcome::Refused(k);
@@ -124,9 +191,22 @@ pub fn filter_univariate<'a>(
         m_inf,
     );
     if is_silent(a.heard, a.news) {
-        blank::means(pred_mean, filt_mean, v, p, m, n);
-        blank::covs(pred_cov, pred_inf, filt_cov, p, m, n);
-        blank::records(kinds, f_star, f_inf, m_star, m_inf, p, m, n);
+        blank::filtered(
+            pred_mean,
+            pred_cov,
+            pred_inf,
+            filt_mean,
+            filt_cov,
+            kinds,
+            v,
+            f_star,
+            f_inf,
+            m_star,
+            m_inf,
+            p,
+            m,
+            n,
+        );
         return Outcome::Refused(12);
     }
     Outcome::Answered(a)

@@ -30,7 +30,13 @@ first false b c e = e
 -- ---- past refusals 1 to 11
 
 -- w and w′ are the filter's parts as they were lent, sm and sc the smoothed ones
-module _ {x : Model} {o : Offsets} {y : ℕ} (w : CovParts) (w′ : MeanParts) (sm sc : List Float) (f : Accepted x o y (roomySmoothed x w w′ sc sm)) where
+pub record Past (x : Model) (o : Offsets) (y : ℕ) (w : CovParts) (w′ : MeanParts) (sm sc : List Float) : Type 0 where
+  pub accepted : Accepted x o y (roomySmoothed x w w′ sc sm)
+
+module _ {x : Model} {o : Offsets} {y : ℕ} {w : CovParts} {w′ : MeanParts} {sm sc : List Float} (past : Past x o y w w′ sm sc) where
+  abbrev f : Accepted x o y (roomySmoothed x w w′ sc sm)
+  f = past .accepted
+
   room : RoomySmoothed x w w′ (length sc) (length sm)
   room = room-smoothed x w w′ sc sm (f .roomy)
 
@@ -74,7 +80,7 @@ pub record Smoothed (x : Model) (o : Offsets) (y : List Float) (sm₀ sm sc₀ s
   pub mean : Laid (smoothedMeanNeed x) (join (smoothMean (frameOf x) (covOf x (map kindOf y) .0) (meanOf x o (covOf x (map kindOf y) .0) y .0))) sm₀ sm
   pub cov : Laid (smoothedCovNeed x) (join (smoothCov (frameOf x) (covOf x (map kindOf y) .0))) sc₀ sc
 
-module _ (x : Model) (o : Offsets) (y : List Float) {a : Answer} {w b : CovParts} {w′ b′ : MeanParts} (star : length (x .pStar) ≡ x .m * x .m) (start : length (o .a1) ≡ x .m) (readings : length y ≡ x .n * x .p) (r : Ran x o y a w b w′ b′) where
+module _ {x : Model} {o : Offsets} {y : List Float} {a : Answer} {w b : CovParts} {w′ b′ : MeanParts} (star : length (x .pStar) ≡ x .m * x .m) (start : length (o .a1) ≡ x .m) (readings : length y ≡ x .n * x .p) (r : Ran x o y a w b w′ b′) where
   diffuse-is : a .«d_diffuse» ≡ count (λ c. c .diffuse) (covOf x (map kindOf y) .0)
   unfolding countsOf
   diffuse-is = ap (λ (q : Answer). q .«d_diffuse») (r .answer)
