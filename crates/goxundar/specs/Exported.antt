@@ -2,9 +2,11 @@
 -- and the four as they were.
 use mathlib.Core.Path.{_≡_}
 use Prim.Native.Nat.{ℕ}
+use mathlib.Core.List.{List}
 use lib.Ieee.{Float}
-use Rattle.definition.specs.Outcome.{CovParts, MeanParts, CovOutcome, MeanOutcome}
+use Rattle.definition.specs.Outcome.{CovParts, MeanParts, CovOutcome, MeanOutcome, SmoothedCov, SmoothedMean}
 use Rattle.filter.specs.Promise.{Promise}
+use Rattle.smoother.specs.Promise.{PromiseSmooth}
 use Rattle.filter.specs.declared.Outcome.{Outcome}
 use Rattle.filter.specs.declared.Outcome.the-variants.{Refused, Answered}
 
@@ -34,4 +36,9 @@ pub record Told (o : Outcome) (k : ℕ) (old new : Places) : Type 0 where
 pub record Exported (u : CovOutcome × MeanOutcome) (k : ℕ) (old new : Places) (b : CovParts) (b′ : MeanParts) : Type 0 where
   pub outcome : Outcome
   pub promise : Promise u outcome b b′
+  pub told : Told outcome k old new
+
+pub record ExportedSmooth (u : SmoothedCov × SmoothedMean) (k : ℕ) (old new : Places) (b : CovParts) (b′ : MeanParts) (sm sc : List Float) : Type 0 where
+  pub outcome : Outcome
+  pub promise : PromiseSmooth u outcome b b′ sm sc
   pub told : Told outcome k old new

@@ -1,13 +1,13 @@
--- `exports::tell` meets its contract. Assumes nothing.
+-- `goxundar::tell` meets its contract. Assumes nothing.
 use Prim.Native.Nat.{ℕ}
 use mathlib.Core.Path.{_≡_, refl, sym, subst}
 use Rattle.mean.specs.declared.Answer.{Answer}
 use Rattle.filter.specs.declared.Outcome.{Outcome}
 use Rattle.filter.specs.declared.Outcome.the-variants.{Refused, Answered}
-use Rattle.exports.specs.Exported.{Places, places, Told}
+use Rattle.goxundar.specs.Exported.{Places, places, Told}
 use borrow.Author.Needs.{needs}
-use Rattle.exports.proofs.tell.Statement.{statement}
-use Rattle.exports.proofs.tell.Tie as tie
+use Rattle.goxundar.proofs.tell.Statement.{statement}
+use Rattle.goxundar.proofs.tell.Tie as tie
 
 told-refused : (o : Outcome) (k : ℕ) (old : Places) → o ≡ Refused k → Told o k old old
 told-refused o k old e = subst (λ (x : Outcome). Told x k old old) (sym e) (record { number = refl; answer = refl })
