@@ -31,6 +31,10 @@ pub const F_STAR: usize = 36;
 
 pub const F_INF: usize = 40;
 
+pub const SM_MEAN: usize = 44;
+
+pub const SM_COV: usize = 48;
+
 // The first k places, or all.
 fn first<'a>(s: &'a [f64], k: usize) -> &'a [f64] {
     if k > s.len() {
@@ -138,5 +142,60 @@ pub fn run(
     keep(&mut out, &v, V);
     keep(&mut out, &f_star, F_STAR);
     keep(&mut out, &f_inf, F_INF);
+    out
+}
+
+// T = H = 1, flagged, P* = 0, through the smoother's call: the answer and the smoothed outputs.
+pub fn smoothed(y: &[f64]) -> [u64; 64] {
+    let none = [0.0; 0];
+    let nan = 0.0 / 0.0;
+    let mut pred_mean = [nan; 4];
+    let mut pred_cov = [nan; 4];
+    let mut pred_inf = [nan; 4];
+    let mut filt_mean = [nan; 4];
+    let mut filt_cov = [nan; 4];
+    let mut kinds = [9u8; 4];
+    let mut v = [nan; 4];
+    let mut f_star = [nan; 4];
+    let mut f_inf = [nan; 4];
+    let mut m_star = [nan; 4];
+    let mut m_inf = [nan; 4];
+    let mut sm_mean = [nan; 4];
+    let mut sm_cov = [nan; 4];
+    let o = smoother::smooth_univariate(
+        1,
+        1,
+        1,
+        y.len(),
+        &[1.0],
+        &none,
+        &[1.0],
+        &[1.0],
+        &[1.0],
+        &[2.0],
+        &[0.0],
+        &[0.0],
+        &[0.0],
+        &[0.0],
+        &[1],
+        y,
+        &mut pred_mean,
+        &mut pred_cov,
+        &mut pred_inf,
+        &mut filt_mean,
+        &mut filt_cov,
+        &mut kinds,
+        &mut v,
+        &mut f_star,
+        &mut f_inf,
+        &mut m_star,
+        &mut m_inf,
+        &mut sm_mean,
+        &mut sm_cov,
+    );
+    let mut out = [0u64; 64];
+    keep_answer(&mut out, o);
+    keep(&mut out, &sm_mean, SM_MEAN);
+    keep(&mut out, &sm_cov, SM_COV);
     out
 }

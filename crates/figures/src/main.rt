@@ -7,7 +7,7 @@ mod small;
 fn main() {
     small::a();
     small::b();
-    // C, smoothing B, comes here with the smoother's call.
+    small::c();
     small::d();
     small::e();
     small::f();

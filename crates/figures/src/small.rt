@@ -1,4 +1,4 @@
-// The figures A to L, but C, which is the smoother's.
+// The figures A to L.
 use crate::call::D_DIFFUSE;
 use crate::call::F_INF;
 use crate::call::F_STAR;
@@ -12,8 +12,11 @@ use crate::call::PRED_COV;
 use crate::call::PRED_INF;
 use crate::call::PRED_MEAN;
 use crate::call::REFUSAL;
+use crate::call::SM_COV;
+use crate::call::SM_MEAN;
 use crate::call::V;
 use crate::call::run;
+use crate::call::smoothed;
 use crate::say::say;
 
 // The doubles that 01 names, by their bits.
@@ -72,6 +75,19 @@ pub fn b() {
         b"B next covariance 2.75",
         r[PRED_COV + 2],
         TWO_AND_THREE_QUARTERS,
+    );
+}
+
+// B smoothed.
+pub fn c() {
+    let r = smoothed(&[2.0, 6.0]);
+    say(b"C smoothed mean 3", r[SM_MEAN], THREE);
+    say(b"C second smoothed mean 5", r[SM_MEAN + 1], FIVE);
+    say(b"C smoothed covariance 0.75", r[SM_COV], THREE_QUARTERS);
+    say(
+        b"C second smoothed covariance 0.75",
+        r[SM_COV + 1],
+        THREE_QUARTERS,
     );
 }
 
