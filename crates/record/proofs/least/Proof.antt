@@ -1,0 +1,16 @@
+-- By the test.
+use borrow.Author.Tests.{lt-ltb, le-ltb}
+use Rattle.record.specs.Records.{least}
+use Rattle.record.proofs.least.Statement.{statement}
+use Rattle.record.proofs.least.Tie as tie
+
+returns : tie.Need-returns
+unfolding least
+returns c = simp (lt-ltb _ _ (c .if1 .taken))
+
+returns-2 : tie.Need-returns-2
+unfolding least
+returns-2 c = simp (le-ltb _ _ (c .if1 .left))
+
+pub least-spec : {M : Type 1} → statement M
+least-spec = tie.close (tie.spec returns returns-2)
