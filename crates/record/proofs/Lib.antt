@@ -1,2 +1,3 @@
 pub mod ByKind
+pub mod Laying
 pub mod Walking

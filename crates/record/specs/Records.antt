@@ -1,9 +1,7 @@
 -- The record of an element, and its flat form. Document 01, "Sizes and lent parts": skipped; usual (v, F*); diffuse (v, F*, F∞). Flat: kind 0, 1 or 2
 -- in this order, the unused numbers +0.0.
-use Prim.Native.Nat.{ℕ, zero, suc}
-use mathlib.Core.Bool.{cond}
+use Prim.Native.Nat.{ℕ, zero, suc, min}
 use mathlib.Core.List.{List}
-use lib.Dec.{ltb}
 use lib.Ieee.{Float}
 use lib.ListN.{getD, length}
 use Rattle.definition.specs.Num.{0ᶠ, at, tabulate}
@@ -44,9 +42,6 @@ recordAt kinds vs fs f∞s k = recordFrom (record { kind = getD kinds k 0; v = a
 unfoldable pub recordsOf : ℕ → List ℕ → List Float → List Float → List Float → List Record
 recordsOf n kinds vs fs f∞s = tabulate n (recordAt kinds vs fs f∞s)
 
-unfoldable pub least : ℕ → ℕ → ℕ
-least a b = cond (ltb a b) a b
-
 -- a lent list afterwards: its first k places hold the records, or all where it has fewer; the rest stays
 unfoldable pub filled : ℕ → List ℕ → List Float → List Float → List Float → List Record → List Record
-filled k kinds vs fs f∞s old = lay (recordsOf (least k (length old)) kinds vs fs f∞s) old
+filled k kinds vs fs f∞s old = lay (recordsOf (min k (length old)) kinds vs fs f∞s) old

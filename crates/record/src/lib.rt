@@ -1,9 +1,10 @@
 // The element record as a struct that holds an enum: to its flat form and back, into and out of a lent list of records, and a run's flat records
 // laid out as such a list.
 ghost use mathlib.Core.Path.{_≡_};
-ghost use lib.ListN.{length, set, getD};
+ghost use Prim.Native.Nat.{min};
+ghost use lib.ListN.{set, getD};
 ghost use Rattle.definition.specs.Num.{at};
-ghost use Rattle.record.specs.Records.{silent, flatOf, recordFrom, recordAt, least, filled};
+ghost use Rattle.record.specs.Records.{silent, flatOf, recordFrom, recordAt, filled};
 
 // What became of an element: nothing; v and F*; v, F* and F∞.
 pub enum Kind {
@@ -123,7 +124,7 @@ pub fn record_at<'a>(
 }
 
 fn least(a: usize, b: usize) -> usize
-    ensures { λ r. ⌜ r ≡ least a b ⌝ }
+    ensures { λ r. ⌜ r ≡ min a b ⌝ }
 {
     if a < b { a } else { b }
 }
