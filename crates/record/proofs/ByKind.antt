@@ -1,8 +1,11 @@
--- A record from its flat form, by the kind as a test finds it.
-use mathlib.Core.Path.{_≡_, refl, sym, ap}
+-- A record from its flat form: by the kind as a test finds it, and by four reads of the flat parts.
+use mathlib.Core.Path.{_≡_, refl, ap}
 use Prim.Native.Nat.{ℕ, zero, suc}
+use mathlib.Core.List.{List}
 use lib.Ieee.{Float}
-use Rattle.record.specs.Records.{silent, kindFrom, recordFrom}
+use lib.ListN.{getD}
+use Rattle.definition.specs.Num.{at}
+use Rattle.record.specs.Records.{skippedRecord, kindFrom, recordFrom, recordAt}
 use Rattle.record.specs.declared.Kind.{Kind}
 use Rattle.record.specs.declared.Kind.the-variants.{Skipped, Usual, Diffuse}
 use Rattle.record.specs.declared.Record.{Record}
@@ -17,7 +20,7 @@ other zero v f f∞ h l = absurd (h refl)
 other (suc zero) v f f∞ h l = absurd (l refl)
 other (suc (suc k)) v f f∞ h l = refl
 
-pub from-skipped : (x : FlatRecord) → x .kind ≡ 0 → silent ≡ recordFrom x
+pub from-skipped : (x : FlatRecord) → x .kind ≡ 0 → skippedRecord ≡ recordFrom x
 unfolding kindFrom
 from-skipped x e = rw e refl
 
@@ -27,3 +30,8 @@ from-usual x e = rw e refl
 
 pub from-diffuse : (x : FlatRecord) → (x .kind ≡ 0 → ⊥) → (x .kind ≡ 1 → ⊥) → of (Diffuse (x .v) (x .«f_star») (x .«f_inf»)) ≡ recordFrom x
 from-diffuse x h l = ap of (other (x .kind) (x .v) (x .«f_star») (x .«f_inf») h l)
+
+pub from-reads : (kinds : List ℕ) (vs fs f∞s : List Float) (k : ℕ) {n : ℕ} {v f f∞ : Float} {r : Record} → n ≡ getD kinds k 0 → v ≡ at vs k → f ≡ at fs k → f∞ ≡ at f∞s k
+    → r ≡ recordFrom (record { kind = n; v = v; «f_star» = f; «f_inf» = f∞ }) → r ≡ recordAt kinds vs fs f∞s k
+unfolding recordAt
+from-reads kinds vs fs f∞s k a b c d e = cc

@@ -1,11 +1,9 @@
--- What the walks share: a record's machine values, the types of the locals, and that places fit. A record takes 32 bytes.
+-- What the walks share: a record's machine values, and that places fit. A record takes 32 bytes.
 use Prim.Native.Nat.{ℕ, _*_, _<_, _^_}
 use native.Mathlib.Omega.{arith}
 use mathlib.Core.List.{List}
-use mir.Syntax.{Ty, Mutability, named, mut, imm, w64, tyInt, tyRef}
+use mir.Syntax.{Ty, w64, tyInt}
 use mir.Val.{Val}
-use denote.Memory.{pointee}
-use denote.Slice.{sliceTy}
 use denote.Struct.Laws as LL
 use Rattle.record.specs.declared.Record.{Record}
 use Rattle.record.proofs.Record as T

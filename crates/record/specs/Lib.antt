@@ -1,3 +1,3 @@
 pub mod Records
 pub mod RoundTrip
-pub mod Filled
+pub mod Written

@@ -6,13 +6,20 @@ use lib.Ieee.{Float}
 use lib.ListN.{getD, length}
 use Rattle.definition.specs.Num.{0ᶠ, at, tabulate}
 use Rattle.definition.specs.Run.{lay}
+use Rattle.definition.specs.Cov.{Decision, skipped, usual, diffuse}
 use Rattle.record.specs.declared.Kind.{Kind}
 use Rattle.record.specs.declared.Kind.the-variants.{Skipped, Usual, Diffuse}
 use Rattle.record.specs.declared.Record.{Record}
 use Rattle.record.specs.declared.FlatRecord.{FlatRecord}
 
-abbrev pub silent : Record
-silent = record { kind = Skipped }
+abbrev pub skippedRecord : Record
+skippedRecord = record { kind = Skipped }
+
+-- by what the covariance track decides and the mean track's v
+unfoldable pub recordOf : Decision → Float → Record
+recordOf skipped v = skippedRecord
+recordOf (usual f m*) v = record { kind = Usual v f }
+recordOf (diffuse f f∞ m* m∞) v = record { kind = Diffuse v f f∞ }
 
 -- ---- a record as numbers
 

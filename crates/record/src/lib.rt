@@ -4,7 +4,7 @@ ghost use mathlib.Core.Path.{_≡_};
 ghost use Prim.Native.Nat.{min};
 ghost use lib.ListN.{set, getD};
 ghost use Rattle.definition.specs.Num.{at};
-ghost use Rattle.record.specs.Records.{silent, flatOf, recordFrom, recordAt, filled};
+ghost use Rattle.record.specs.Records.{skippedRecord, flatOf, recordFrom, recordAt, filled};
 
 // What became of an element: nothing; v and F*; v, F* and F∞.
 pub enum Kind {
@@ -79,7 +79,7 @@ pub fn put(records: &mut [Record], k: usize, r: Record)
 
 // The record at place k of a lent list. Past its end it is a skipped one.
 pub fn get(records: &[Record], k: usize) -> Record
-    ensures { λ r. ⌜ r ≡ getD (now (records .entry)) k silent ⌝ }
+    ensures { λ r. ⌜ r ≡ getD (now (records .entry)) k skippedRecord ⌝ }
 {
     if k < records.len() {
         return records[k];

@@ -53,7 +53,7 @@ use denote.Triple.Clauses.{ensured, lasts}
 use denote.Exit.{yes}
 use Rattle.definition.specs.Num.{tabulate}
 use Rattle.definition.specs.Run.{lay}
-use Rattle.record.specs.Records.{silent, recordAt, recordsOf, filled}
+use Rattle.record.specs.Records.{skippedRecord, recordAt, recordsOf, filled}
 use Rattle.record.specs.declared.Record.{Record}
 use Rattle.record.proofs.Laying as laying
 use Rattle.record.proofs.Walking.{machines, word, scaled}
@@ -74,8 +74,19 @@ use Rattle.record.proofs.fill.Code as code
 use Rattle.record.proofs.fill.Code.Mir as m
 
 abbrev stayed : Stays (f.ended .signature .params) (f.ended .kept)
-stayed = (stay-none-slice (0 ∷ []) tt (plain (λ _. u8)) yes, (stay-none-slice (0 ∷ []) tt (plain (λ _. f64)) yes, (stay-none-slice (0 ∷ []) tt (plain (λ _. f64)) yes, (stay-none-slice (0 ∷ []) tt (plain (λ _. f64)) yes,
-    (stay-none (λ _. usize) yes, (stay-slice (1 ∷ []) tt (plain (λ _. T.the-row)), tt))))))
+stayed = (
+  stay-none-slice (0 ∷ []) tt (plain (λ _. u8)) yes,
+  (
+    stay-none-slice (0 ∷ []) tt (plain (λ _. f64)) yes,
+    (
+      stay-none-slice (0 ∷ []) tt (plain (λ _. f64)) yes,
+      (
+        stay-none-slice (0 ∷ []) tt (plain (λ _. f64)) yes,
+        (stay-none (λ _. usize) yes, (stay-slice (1 ∷ []) tt (plain (λ _. T.the-row)), tt)),
+      ),
+    ),
+  ),
+)
 
 -- what follows the loop
 abbrev rest : Body
@@ -281,7 +292,7 @@ module _ {M : Type 1} (𝓤 : URA M) (H : Heap 𝓤) (A : Atoms 𝓤) (W : Given
         assigns ! (bin ! (load ! (from ! (stop !)) (look ! 4 refl)) (lit ! tt) (record { fits = sc })) (from ! (stop !)) (init ! 7 refl (tt, record { fits = sc })) $
         assigns ! (bin ! (load ! (from ! (fld ! refl (stop !))) (look-in ! 9 (sub ! 0 refl (whole !)))) (load ! (from ! (stop !)) (look ! 7 refl)) tt) (from ! (stop !)) (init ! 8 refl (tt, tt)) $
         rewrite ! 8 (λ (p : ℕ). ‵ (fat fullShare tyPtr l₁₃ 0 (vptr b p))) (sym (place-is 32 o i)) refl $
-        move ! (3 ∷ []) $ elem-out ! T.the-row (Is T.the-row) (shows 𝓤 H A T.the-row) machines (LL.tells T.the-type T′.the-laws) fullShare (ws i) i silent b o within (λ _.
+        move ! (3 ∷ []) $ elem-out ! T.the-row (Is T.the-row) (shows 𝓤 H A T.the-row) machines (LL.tells T.the-type T′.the-laws) fullShare (ws i) i skippedRecord b o within (λ _.
         -- [records[i]; what it owns; the others; what r owns; the token; the parts; _8; _9; _11; _12; _13; _6; …]
         assigns ! (of-opd ! (load ! (from ! (stop !)) (look ! 7 refl))) (from ! (hop ! (look ! 10 refl) (stop !))) (store-raw ! 0 refl wt) $
         move ! (1 ∷ []) $ drop ! $ move ! (0 ∷ 2 ∷ 1 ∷ []) $ elem-put ! T.the-row fullShare (ws i) i r (u ∷ []) b o within $
@@ -366,9 +377,19 @@ module _ {M : Type 1} (𝓤 : URA M) (H : Heap 𝓤) (A : Atoms 𝓤) (W : Given
 fill-meets : {M : Type 1} (𝓤 : URA M) (H : Heap 𝓤) (A : Atoms 𝓤) (W : Given 𝓤 H A) (mem : Memory → SProp 𝓤) (run : Routine → Fun 𝓤) (𝓣 : Tables 𝓤 H) → Triple 𝓤 (𝓣 .C #record·least) (Least 𝓤 H A mem run)
     → Triple 𝓤 (𝓣 .C #record·record-at) (RecAt 𝓤 H A mem run) → Meets 𝓤 H A f.signature (WpFn 𝓤 H (𝓣 .C) (𝓣 .Λ) code.function) (f.spec 𝓤 H A mem run)
 fill-meets 𝓤 H A W mem run 𝓣 known-least known =
-    walk-meets 𝓤 H A f.ended stayed W
-    (goes-none-slice 𝓤 H A W 2 (0 ∷ []) tt (plain (λ _. u8)) yes, (goes-none-slice 𝓤 H A W 2 (0 ∷ []) tt (plain (λ _. f64)) yes, (goes-none-slice 𝓤 H A W 2 (0 ∷ []) tt (plain (λ _. f64)) yes, (goes-none-slice 𝓤 H A W 2 (0 ∷ []) tt (plain (λ _. f64)) yes,
-    (goes-none 𝓤 H A W 2 (λ _. usize) yes (λ κs x f. refl), (goes-slice 𝓤 H A W 2 1 tt (plain (λ _. T.the-row)), tt)))))) (f.clauses 𝓤 H A mem run)
+    walk-meets 𝓤 H A f.ended stayed W (
+      goes-none-slice 𝓤 H A W 2 (0 ∷ []) tt (plain (λ _. u8)) yes,
+      (
+        goes-none-slice 𝓤 H A W 2 (0 ∷ []) tt (plain (λ _. f64)) yes,
+        (
+          goes-none-slice 𝓤 H A W 2 (0 ∷ []) tt (plain (λ _. f64)) yes,
+          (
+            goes-none-slice 𝓤 H A W 2 (0 ∷ []) tt (plain (λ _. f64)) yes,
+            (goes-none 𝓤 H A W 2 (λ _. usize) yes (λ κs x f. refl), (goes-slice 𝓤 H A W 2 1 tt (plain (λ _. T.the-row)), tt)),
+          ),
+        ),
+      ),
+    ) (f.clauses 𝓤 H A mem run)
     (WpFn 𝓤 H (𝓣 .C) (𝓣 .Λ) code.function) (WpFn-mono 𝓤 H (W .laws) 𝓣 code.function) (fill-walks 𝓤 H A W mem run 𝓣 known-least known)
 
 pub fill-spec : {M : Type 1} → stated.statement M

@@ -38,7 +38,7 @@ use denote.Triple.Spec.{Meets, tripleOf}
 use denote.Triple.Table.{entered}
 use denote.Triple.Walked.{says, Stays, stay-none-slice, stay-none, walkOf, goes-none-slice, goes-none, Walks, ends-at, walked, walk-meets}
 use denote.Exit.{yes}
-use Rattle.record.specs.Records.{silent}
+use Rattle.record.specs.Records.{skippedRecord}
 use Rattle.record.specs.declared.Kind.the-variants.{Skipped}
 use Rattle.record.specs.declared.Record.{Record}
 use Rattle.record.proofs.Walking.{machine, machines, word, scaled}
@@ -66,8 +66,8 @@ listTy = sliceTy (tyRef (named 0) imm (pointee (T.the-row .written)))
 made-kind : Is K.the-row Skipped (KL.vals K.the-type K′.the-laws Skipped)
 made-kind = KL.owes K.the-type K′.the-laws Skipped tt
 
-made : Is T.the-row silent (machines silent)
-made = LL.owes T.the-type T′.the-laws silent (made-kind, tt)
+made : Is T.the-row skippedRecord (machines skippedRecord)
+made = LL.owes T.the-type T′.the-laws skippedRecord (made-kind, tt)
 
 module _ {M : Type 1} (𝓤 : URA M) (H : Heap 𝓤) (A : Atoms 𝓤) (W : Given 𝓤 H A) (mem : Memory → SProp 𝓤) (run : Routine → Fun 𝓤) (κ : Lft) (q : Share) (b o : ℕ) (γ : GName) (ys : List Record) (i : ℕ) where
   abbrev Arg : Type 0
@@ -77,7 +77,7 @@ module _ {M : Type 1} (𝓤 : URA M) (H : Heap 𝓤) (A : Atoms 𝓤) (W : Given
   x = (record { ptr = (b, o); name = γ; now = ys }, (i, tt))
 
   abbrev elem : Record
-  elem = getD ys i silent
+  elem = getD ys i skippedRecord
 
   abbrev at : List Val × (List Val × Unit {0})
   at = (sliceVal (b, o) (length ys) ∷ [], (vint w64 i ∷ [], tt))
@@ -110,22 +110,22 @@ module _ {M : Type 1} (𝓤 : URA M) (H : Heap 𝓤) (A : Atoms 𝓤) (W : Given
         rewrite ! 4 (λ (p : ℕ). ‵ (fat fullShare tyPtr l₆ 0 (vptr b p))) (sym (place-is 32 o i)) refl $
         move ! (19 ∷ []) $ fsplit ! $ fsplit ! $ move ! (1 ∷ []) $ fsplit ! $ move ! (22 ∷ []) $ split ! $ move ! (3 ∷ 0 ∷ []) $
         looks-slice ! tt T.the-row (Is T.the-row) (shows 𝓤 H A T.the-row) machines (LL.tells T.the-type T′.the-laws) (LL.copy T.the-type T′.the-copy 𝓤 H A W) ys b o (λ q′.
-        elem-out ! T.the-row (Is T.the-row) (shows 𝓤 H A T.the-row) machines (LL.tells T.the-type T′.the-laws) q′ ys i silent b o l (λ g.
+        elem-out ! T.the-row (Is T.the-row) (shows 𝓤 H A T.the-row) machines (LL.tells T.the-type T′.the-laws) q′ ys i skippedRecord b o l (λ g.
         -- [records[k]; what it owns; the others; what shuts; the fractured borrow; true; the rest of the token; the list's fact; k's; _8; …; _7; …; _6; …; _5; …; _4; …; _3; …; _2; …; _1; …; _0; …]
         let wt = LL.lawful T.the-type T′.the-laws 𝓤 H A W .typed elem (machines elem) g .0 in
         assigns ! (of-opd ! (load ! (from ! (hop ! (look ! 13 refl) (stop !))) (look-raw ! 0 refl))) (from ! (stop !)) (init ! 11 refl wt) $
         assigns ! (of-opd ! (load ! (from ! (stop !)) (look ! 11 refl))) (from ! (stop !)) (init ! 25 refl wt) $
-        elem-back ! T.the-row q′ ys i silent (machines elem) b o l $ shuts-slice ! tt T.the-row q′ ys b o $
+        elem-back ! T.the-row q′ ys i skippedRecord (machines elem) b o l $ shuts-slice ! tt T.the-row q′ ys b o $
         returns-within ! Post refl (look ! 22 refl) $ forget ! 8 refl $ forget ! 10 refl $ forget ! 12 refl $ forget ! 14 refl $ forget ! 16 refl $ forget ! 18 refl $ forget ! 20 refl $ forget ! 22 refl $
         move ! (22 ∷ 23 ∷ []) $ free1 ! $ move ! (20 ∷ 21 ∷ []) $ free1 ! $ move ! (18 ∷ 19 ∷ []) $ free1 ! $ move ! (16 ∷ 17 ∷ []) $ free1 ! $ move ! (14 ∷ 15 ∷ []) $ free1 ! $ move ! (12 ∷ 13 ∷ []) $ free1 ! $ move ! (10 ∷ 11 ∷ []) $ free1 ! $ move ! (8 ∷ 9 ∷ []) $ free1 ! $ move ! (6 ∷ 7 ∷ []) $ free1 ! $ free0 ! $
         move ! (3 ∷ 1 ∷ []) $ fjoin ! $ move ! (3 ∷ 0 ∷ []) $ fjoin ! $ move ! (3 ∷ []) $ fsplit ! $ keep ! (3 ∷ 2 ∷ 0 ∷ []) $ by ! (exits elem refl g))))
-        (λ t. let e : silent ≡ elem = sym (List·getD-eq-default ys silent (nltb→le i (length ys) t)) in
+        (λ t. let e : skippedRecord ≡ elem = sym (List·getD-eq-default ys skippedRecord (nltb→le i (length ys) t)) in
         skips ! $ exec ! C Λ En rest (atRet En Post) $
         assigns ! (agg ! (and-then ! (lit ! tt) (no-more !))) (from ! (stop !)) (init ! 0 refl (KL.lawful K.the-type K′.the-laws 𝓤 H A W tt .typed Skipped (KL.vals K.the-type K′.the-laws Skipped) made-kind .0)) $
-        assigns ! (agg ! (and-then ! (load ! (from ! (stop !)) (look ! 0 refl)) (no-more !))) (from ! (stop !)) (init ! 16 refl (LL.lawful T.the-type T′.the-laws 𝓤 H A W .typed silent (machines silent) made .0)) $
+        assigns ! (agg ! (and-then ! (load ! (from ! (stop !)) (look ! 0 refl)) (no-more !))) (from ! (stop !)) (init ! 16 refl (LL.lawful T.the-type T′.the-laws 𝓤 H A W .typed skippedRecord (machines skippedRecord) made .0)) $
         returns ! (look ! 16 refl) $ forget ! 0 refl $ forget ! 8 refl $ forget ! 10 refl $ forget ! 12 refl $ forget ! 14 refl $ forget ! 16 refl $
         move ! (16 ∷ 17 ∷ []) $ free1 ! $ move ! (14 ∷ 15 ∷ []) $ free1 ! $ move ! (12 ∷ 13 ∷ []) $ free1 ! $ move ! (10 ∷ 11 ∷ []) $ free1 ! $ move ! (8 ∷ 9 ∷ []) $ free1 ! $ move ! (6 ∷ 7 ∷ []) $ free1 ! $ move ! (4 ∷ 5 ∷ []) $ free1 ! $ move ! (2 ∷ 3 ∷ []) $ free1 ! $ free1 ! $ free0 ! $
-        split ! $ move ! (2 ∷ []) $ fsplit ! $ move ! (1 ∷ []) $ fsplit ! $ keep ! (3 ∷ 2 ∷ 0 ∷ []) $ by ! (exits silent e made)))))))))))
+        split ! $ move ! (2 ∷ []) $ fsplit ! $ move ! (1 ∷ []) $ fsplit ! $ keep ! (3 ∷ 2 ∷ 0 ∷ []) $ by ! (exits skippedRecord e made)))))))))))
 
 module _ {M : Type 1} (𝓤 : URA M) (H : Heap 𝓤) (A : Atoms 𝓤) (W : Given 𝓤 H A) (mem : Memory → SProp 𝓤) (run : Routine → Fun 𝓤) where
   get-walks : (C : Calls 𝓤 H) (Λ : Loops 𝓤 H) → Walks 𝓤 H A f.ended stayed (WpFn 𝓤 H C Λ code.function) (f.clauses 𝓤 H A mem run)
