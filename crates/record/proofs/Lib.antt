@@ -1,0 +1,3 @@
+pub mod ByKind
+pub mod Laying
+pub mod Walking
