@@ -4,8 +4,8 @@ use std::process::exit;
 
 const HELP: &str = "\
 goxundar: GOXUNDAR_ARCHIVE must name the static library, or the folder that holds libgoxundar.a.
-goxundar: Make it at the top of the repository:   tools/archive libgoxundar.a
-goxundar: Then build with its path, from / on:    GOXUNDAR_ARCHIVE=$PWD/libgoxundar.a cargo build";
+goxundar: Make it at the top of the repository:   tools/archive target/libgoxundar.a
+goxundar: Then build with its path, from / on:    GOXUNDAR_ARCHIVE=$PWD/target/libgoxundar.a cargo build";
 
 fn give_up(why: &str) -> ! {
     eprintln!("goxundar: {why}\n{HELP}");
@@ -14,7 +14,7 @@ fn give_up(why: &str) -> ! {
 
 fn main() {
     println!("cargo:rerun-if-env-changed=GOXUNDAR_ARCHIVE");
-    let Some(named) = std::env::var_os("GOXUNDAR_ARCHIVE") else {
+    let Some(named) = std::env::var_os("GOXUNDAR_ARCHIVE").filter(|named| !named.is_empty()) else {
         give_up("GOXUNDAR_ARCHIVE is not set.");
     };
     let mut archive = PathBuf::from(named);

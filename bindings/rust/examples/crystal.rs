@@ -76,6 +76,12 @@ fn main() -> Result<(), Refusal> {
         let hindsight = estimate(answer.smoothed(t), OFFSET);
         println!("{t:6}  {first:<14} {second:<14}  {:<17}  {:<17}  {hindsight}", so_far(OFFSET), so_far(RATE));
     }
-    println!("heard {}, news {}, periods not settled at their start {}, log-likelihood {:.6}", run.heard(), run.news(), run.d_diffuse(), run.loglik());
+    println!(
+        "heard {}, news {}, periods not settled at their start {}, log-likelihood {:.6}",
+        run.heard(),
+        run.news(),
+        run.d_diffuse(),
+        run.loglik()
+    );
     Ok(())
 }

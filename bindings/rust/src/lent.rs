@@ -121,14 +121,7 @@ impl Lengths {
         if !(size.contains(&p) && size.contains(&m) && (1..=MAX_PERIODS).contains(&n)) {
             return Lengths::default();
         }
-        Lengths {
-            pred_mean: (n + 1) * m,
-            pred_cov: (n + 1) * m * m,
-            mean: n * m,
-            cov: n * m * m,
-            record: n * p,
-            gain: n * p * m,
-        }
+        Lengths { pred_mean: (n + 1) * m, pred_cov: (n + 1) * m * m, mean: n * m, cov: n * m * m, record: n * p, gain: n * p * m }
     }
 }
 

@@ -167,10 +167,7 @@ impl Run {
 
     /// The states after period t's readings. See [`Run::settled_after`] before taking its covariance for the whole one.
     pub fn filtered(&self, t: usize) -> Moments<'_> {
-        Moments {
-            mean: block(&self.parts.filt_mean, t, self.m),
-            cov: block(&self.parts.filt_cov, t, self.m * self.m),
-        }
+        Moments { mean: block(&self.parts.filt_mean, t, self.m), cov: block(&self.parts.filt_cov, t, self.m * self.m) }
     }
 
     /// What became of period t's reading i.
@@ -190,9 +187,10 @@ impl Run {
     /// Whether all states are settled after period t: no variance is left that has no bound. Until then a covariance is the bounded part alone,
     /// and can be 0 for a state of which nothing is known.
     pub fn settled_after(&self, t: usize) -> bool {
-        // The library's own test at a period's begin, which the place after the last period has not been through.
+        // The library's own test at a period's begin, which the place after the last period has not been through. A NaN counts as settled there.
         let sum: f64 = self.predicted(t + 1).diffuse_cov.iter().map(|x| x * x).sum();
-        !(sum > 1e-10)
+        let diffuse = sum > 1e-10;
+        !diffuse
     }
 }
 
@@ -212,10 +210,7 @@ impl Smoothed {
 
     /// The states in period t, from all readings. Where `run().settled_after(n - 1)` is false, the covariance is the bounded part alone.
     pub fn smoothed(&self, t: usize) -> Moments<'_> {
-        Moments {
-            mean: block(&self.sm_mean, t, self.run.m),
-            cov: block(&self.sm_cov, t, self.run.m * self.run.m),
-        }
+        Moments { mean: block(&self.sm_mean, t, self.run.m), cov: block(&self.sm_cov, t, self.run.m * self.run.m) }
     }
 }
 

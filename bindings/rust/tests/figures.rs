@@ -19,14 +19,7 @@ fn plain() -> Model {
 
 /// p = 2, both designs 1, H zero.
 fn two_inputs() -> Model {
-    Model {
-        design: Design::Constant(vec![1.0, 1.0]),
-        t: vec![1.0],
-        rr: vec![1.0],
-        q: vec![2.0],
-        diffuse: vec![true],
-        ..Model::zeros(2, 1, 1)
-    }
+    Model { design: Design::Constant(vec![1.0, 1.0]), t: vec![1.0], rr: vec![1.0], q: vec![2.0], diffuse: vec![true], ..Model::zeros(2, 1, 1) }
 }
 
 /// m states, T the identity.
@@ -205,12 +198,7 @@ fn l_nine_states() {
 fn dust_on_the_second_input() {
     for readings in [[2.0, 7.0], [0.0, -0.0], [-1e300, 5e-324], [3.0, 3.0]] {
         for (power, used) in [(-10, true), (-40, true), (-50, false)] {
-            let model = Model {
-                h: vec![2f64.powi(power), 0.0, 0.0, 0.0],
-                p_star: vec![1.0],
-                diffuse: vec![false],
-                ..two_inputs()
-            };
+            let model = Model { h: vec![2f64.powi(power), 0.0, 0.0, 0.0], p_star: vec![1.0], diffuse: vec![false], ..two_inputs() };
             let dust = run(&model, &readings);
             assert!(matches!(dust.record(0, 0), Record::Usual { .. }));
             assert_eq!(matches!(dust.record(0, 1), Record::Usual { .. }), used, "H = 2^{power}, {readings:?}");

@@ -1,8 +1,9 @@
 //! The Nile series with Durbin and Koopman's local level model, against figures from outside: statsmodels 0.13.5, exact diffuse start.
 //!
-//! Its log-likelihood and ours count the same terms. The first reading, which settles the level, counts −½·(ln 2π + ln F∞) in both, and here F∞ is
-//! 1. Programs that leave ln 2π out for such a reading give a figure higher by ½·ln 2π = 0.91894: −632.54563.
-//! The tolerance is of the size of the outside figures' own rounding, and not of ours: our bits are fixed.
+//! Its log-likelihood and ours count the same terms. The first reading, which settles the level, counts −½·(ln 2π + ln F∞) in both; F∞ = 1 here.
+//! Programs that leave ln 2π out for such a reading give a figure higher by ½·ln 2π = 0.91894: −632.54563.
+//!
+//! The tolerance allows for the outside program's own arithmetic. Our bits are fixed.
 
 use goxundar::{smooth, Design, Model, Record};
 
