@@ -1,7 +1,8 @@
-/* test.c: the two calls through goxundar.h, against document 01: its bench figures, the refusals and their order, lengths, tails, empty parts.
+/* test.c: the two calls through goxundar.h, against document 01: its bench figures, each part in its place, the refusals and their order, lengths, tails,
+ * empty parts.
  *
- * Every expected value is 01's, or follows from one of its rules as a comment says. None was taken from the program. Doubles are compared by their
- * bits, all NaNs as one. Each call is made twice, by goxundar_filter and by goxundar_smooth: the smoother answers and writes all that the filter does.
+ * Every expected value is 01's, or follows from one of its rules as a comment says. None was taken from the program. Doubles are compared by
+ * their bits, all NaNs as one. Each call is made twice, by goxundar_filter and by goxundar_smooth: the smoother answers and writes all that the filter does.
  * It is C99, and C++ too.
  */
 #include <math.h>
@@ -259,6 +260,13 @@ static void record(size_t at, uint8_t kind, double want_v, double want_f_star, d
     same(f_inf[at], want_f_inf, "the record's f_inf");
 }
 
+/* The gain vectors of one state: the covariances times the design, which is 1. */
+static void gain(size_t at, double want_m_star, double want_m_inf)
+{
+    same(m_star[at], want_m_star, "m_star");
+    same(m_inf[at], want_m_inf, "m_inf");
+}
+
 /* ---- the figures */
 
 /* 01's logarithm, for normal numbers above 0: operation by operation. */
@@ -302,6 +310,7 @@ static void a_and_k(int which)
     same(pred_cov[1], 3, "next predicted covariance");
     same(pred_inf[1], 0, "next diffuse covariance");
     count(answer.d_diffuse, 1, "d_diffuse");
+    gain(0, 0, 1); /* the start's P* is 0 and its diffuse part 1 */
     /* K: the logarithm of 1 is +0.0. It can't be called, but A's f_inf is 1, so its likelihood term is that of ln 2 pi alone. */
     figure = "K";
     same(ln(1), 0, "this file's logarithm of 1");
@@ -315,6 +324,7 @@ static void b_and_c(int which)
     two_readings(&k, 2, 6);
     ends(which, &k, GOXUNDAR_ANSWERED);
     record(1, GOXUNDAR_USUAL, 4, 4, 0);
+    gain(1, 3, 0); /* the predicted covariance is 3, as A has it; unused gain vectors are +0.0 */
     same(filt_mean[1], 5, "filtered mean");
     same(filt_cov[1], 0.75, "filtered covariance");
     same(pred_mean[2], 5, "next predicted mean");
@@ -337,6 +347,7 @@ static void d_to_g(int which)
     ends(which, &k, GOXUNDAR_ANSWERED);
     same(answer.loglik, 0, "log-likelihood");
     record(0, GOXUNDAR_SKIPPED, 0, 0, 0);
+    gain(0, 0, 0);
     same(filt_mean[0], 0, "filtered mean");
     same(filt_cov[0], 0, "filtered covariance");
     same(pred_cov[1], 2, "next predicted covariance");
@@ -445,6 +456,62 @@ static void sizes(int which)
     figure = "m = 8, n = 4097";
     sized(&k, 8, 4097);
     ends(which, &k, GOXUNDAR_DIMENSION);
+}
+
+/* ---- every part in its place, row by row */
+
+static void all_same(const double *got, const double *want, size_t n, const char *what)
+{
+    size_t i;
+    for (i = 0; i < n; i++) same(got[i], want[i], what);
+}
+
+static void fill(double *to, const double *from, size_t n)
+{
+    memcpy(to, from, n * sizeof *to);
+}
+
+/* Two states, two inputs, one disturbance, one period; no two inputs have the same numbers. What is wanted was worked out by hand, by 01's rules;
+ * each step is exact. Input 0 is a gap. Of input 1: v = (27 - 20) - 3, M* = P* z = (0, 4), F* = 4 + 4. So the gain is (0, 0.5), and P* loses
+ * 0.5 * 4 at (1, 1). Then the step: T a + c, and T P T' + R Q R'. Over one period the smoothed moments are the filtered ones. */
+static void places(int which)
+{
+    static const double z[] = {1, 2, 0, 1}, h[] = {1, 0, 0, 4}, t[] = {1, 1, 0, 1}, rr[] = {0, 1}, c[] = {100, 1000}, d[] = {10, 20};
+    static const double a1[] = {5, 3}, p_star[] = {1, 0, 0, 4}, y[] = {NAN, 27};
+    static const double want_pred_mean[] = {5, 3, 110, 1005}, want_pred_cov[] = {1, 0, 0, 4, 3, 2, 2, 4}, zeros[8] = {0};
+    static const double want_mean[] = {5, 5}, want_cov[] = {1, 0, 0, 2}, want_m_star[] = {0, 0, 0, 4};
+    static struct call k;
+    figure = "every part in its place";
+    memset(&k, 0, sizeof k);
+    k.p = k.m = 2;
+    k.r = k.n = 1;
+    exact(&k);
+    fill(k.z, z, 4);
+    fill(k.h, h, 4);
+    fill(k.t, t, 4);
+    fill(k.rr, rr, 2);
+    k.q[0] = 2;
+    fill(k.c, c, 2);
+    fill(k.d, d, 2);
+    fill(k.a1, a1, 2);
+    fill(k.p_star, p_star, 4);
+    fill(k.y, y, 2);
+    ends(which, &k, GOXUNDAR_ANSWERED);
+    record(0, GOXUNDAR_SKIPPED, 0, 0, 0);
+    record(1, GOXUNDAR_USUAL, 4, 8, 0);
+    all_same(pred_mean, want_pred_mean, 4, "pred_mean");
+    all_same(pred_cov, want_pred_cov, 8, "pred_cov");
+    all_same(pred_inf, zeros, 8, "pred_inf");
+    all_same(filt_mean, want_mean, 2, "filt_mean");
+    all_same(filt_cov, want_cov, 4, "filt_cov");
+    all_same(m_star, want_m_star, 4, "m_star");
+    all_same(m_inf, zeros, 4, "m_inf");
+    count(answer.d_diffuse, 0, "d_diffuse");
+    count(answer.heard, 1, "heard");
+    count(answer.news, 1, "news");
+    if (which == FILTER) return;
+    all_same(sm_mean, want_mean, 2, "sm_mean");
+    all_same(sm_cov, want_cov, 4, "sm_cov");
 }
 
 /* ---- the refusals, by 01's table */
@@ -645,6 +712,7 @@ int main(void)
         h_to_l(which);
         dust(which);
         sizes(which);
+        places(which);
         order(which);
         dimensions(which);
         lengths(which);
