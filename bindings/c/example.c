@@ -120,6 +120,7 @@ int main(void)
             printf("  %-17s  %-16s", "not known yet", "not known yet");
         printf("     %8.2f +- %5.2f\n", sm_mean[t * M], sqrt(sm_cov[t * M * M]));
     }
-    printf("heard %u, news %u, periods not settled at their start %u, log-likelihood %.6f\n", (unsigned)heard, (unsigned)news, (unsigned)d_diffuse, loglik);
+    printf("heard %u, news %u, periods not settled at their start %u, log-likelihood %.6f\n",
+           (unsigned)heard, (unsigned)news, (unsigned)d_diffuse, loglik);
     return 0;
 }

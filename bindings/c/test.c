@@ -1,9 +1,8 @@
-/* test.c: the two calls through goxundar.h, against document 01: its bench figures, each part in its place, the refusals and their order, lengths, tails,
- * empty parts.
+/* test.c: the two calls through goxundar.h, against document 01: its bench figures, each part in its place, the refusals, lengths, empty parts.
  *
  * Every expected value is 01's, or follows from one of its rules as a comment says. None was taken from the program. Doubles are compared by
- * their bits, all NaNs as one. Each call is made twice, by goxundar_filter and by goxundar_smooth: the smoother answers and writes all that the filter does.
- * It is C99, and C++ too.
+ * their bits, all NaNs as one. Each call is made twice, by goxundar_filter and by goxundar_smooth: the smoother answers and writes all that the
+ * filter does. What lies beyond the needed count of an output must stay as it was, in every call. It is C99, and C++ too.
  */
 #include <math.h>
 #include <stdio.h>
