@@ -1,0 +1,202 @@
+/* goxundar.h: the Kalman filter and smoother of libgoxundar.a, for C and C++.
+ *
+ * WHAT IT DOES
+ *
+ * Something can't be read directly: a crystal's offset and rate, say. These hidden numbers are the STATES. From time to time there are READINGS
+ * that depend on them, noisy, late, missing or doubled. The filter goes through the periods in order. For each it tells the best estimate of the
+ * states from the readings so far, and how far off that may be, as a covariance. The smoother then goes back, and tells for each period the best
+ * estimate from all readings, earlier and later.
+ *
+ * Every call ends with an answer or with one of twelve numbered refusals, whatever is passed for sizes and numbers. You need not check first.
+ *
+ * THE MODEL
+ *
+ *     reading[t] = d + Z[t] * state[t] + noise,          the noise of element i has variance H[i][i]
+ *     state[t+1] = c + T * state[t] + R * disturbance,   disturbance k has variance Q[k][k]
+ *
+ * Readings are in the units that you choose, states too. The library only sees numbers. A variance is in the square of its unit.
+ *
+ *     p   elements: how many readings a period has room for     1 to 8
+ *     m   states                                                1 to 8
+ *     r   disturbances                                          1 to 8
+ *     n   periods                                               1 to 4096
+ *
+ * A missing reading is a NaN, any NaN. Each place of y is one or the other: a number, or a gap. An infinite reading is refused.
+ *
+ * THE START
+ *
+ * For each state, say by its flag what is known of it before the first reading. Flag 0: it is known, with mean a1 and covariance p_star. Flag 1:
+ * nothing is known, and the filter works as if its variance had no bound (the exact diffuse start). Then a1 there, and the state's row and column
+ * of p_star, are 0. At power-up, flag 1 is the honest choice.
+ *
+ * INPUT PARTS. A part is a pointer and its count of elements. Matrices are row by row: entry (i, j) of a matrix with k columns is at i * k + j.
+ * The counts are exact.
+ *
+ *     z        p * m       the design Z, if it is the same in all periods; else empty (count 0)
+ *     zs       k * p * m   k designs one after the other, k from 1 to 4096; else empty. Period t takes the t-th, or the last once they have run
+ *                          out. Exactly one of z and zs is empty
+ *     h        p * p       H, the readings' noise: diagonal, its entries 0 or more. 0 is a reading without noise
+ *     t        m * m       T, how the states move from one period to the next
+ *     rr       m * r       R, which disturbance moves which state
+ *     q        r * r       Q, the disturbances' variances: diagonal, its entries 0 or more
+ *     c        m           added to the states in each step; zeros if there is nothing to add
+ *     d        p           added to the readings; zeros likewise
+ *     a1       m           the start's mean
+ *     p_star   m * m       the start's covariance, mirrored
+ *     flags    m           the start's flags, a byte per state, 0 or 1
+ *     y        n * p       the readings: element i of period t is at t * p + i
+ *
+ * OUTPUT PARTS. The count is at least what stands here. What is lent beyond that stays as it was.
+ *
+ *     pred_mean  (n+1) * m      the states' mean predicted for period t, before its readings. Place n is the forecast after the last period
+ *     pred_cov   (n+1) * m * m  its covariance, the bounded part
+ *     pred_inf   (n+1) * m * m  its diffuse covariance, the unbounded part: all 0 once the readings have settled all states
+ *     filt_mean  n * m          the states' mean after period t's readings
+ *     filt_cov   n * m * m      its covariance, the bounded part
+ *     kinds      n * p          what became of each reading: see goxundar_kind
+ *     v          n * p          the reading less what was expected of it; +0.0 where it was skipped
+ *     f_star     n * p          the variance of that, the bounded part; +0.0 where it was skipped
+ *     f_inf      n * p          the unbounded part; +0.0 but where the kind is GOXUNDAR_DIFFUSE
+ *     m_star     n * p * m      the covariance of the states with that, the bounded part; +0.0 where it was skipped
+ *     m_inf      n * p * m      the unbounded part; +0.0 but where the kind is GOXUNDAR_DIFFUSE
+ *     sm_mean    n * m          (smoother) the states' mean in period t, from all readings
+ *     sm_cov     n * m * m      (smoother) its covariance
+ *
+ * A standard deviation is the square root of a covariance's diagonal entry, (i, i). BEWARE while a state is not settled: filt_cov has the bounded
+ * part alone, so it can be 0 for a state of which nothing is known. The states are settled after period t when the entries of pred_inf's place
+ * t + 1 are 0; of place n, the last, when the sum of their squares is at most 1e-10. Where the last place is not settled, that also holds of sm_cov.
+ *
+ * THE ANSWER, written where a call returns 0
+ *
+ *     loglik     the log-likelihood: how well the model fits the readings. Higher is better, for the same readings
+ *     d_diffuse  how many periods began with some state not settled; they are the first ones
+ *     heard      how many readings are not gaps
+ *     news       how many readings were used (their kind is not GOXUNDAR_SKIPPED)
+ *
+ * A reading can be heard and be no news: it tells only what is known already, as when one radio check arrives on two inputs. It moves nothing.
+ *
+ * The values of readings reach no covariance, kind, variance or count. Only which of them are gaps does. So accuracy tables can be drawn up before
+ * there is any reading, with 0 for each reading that will come and NaN for each gap.
+ *
+ * POINTERS
+ *
+ *  - Where a part's count is 0, its pointer is not followed, and may be null. Otherwise it points to that many elements, aligned for their type.
+ *    No check can tell if that is so: it is the one thing that you must see to.
+ *  - No output part, and none of the last four places, overlaps any other part or place. Inputs may overlap inputs: one array of zeros can be c
+ *    and a1 at once.
+ *  - The last four are not null. On a refusal they stay as they were.
+ *  - The library allocates nothing, keeps nothing between calls, and uses only what is lent. Calls on different outputs may run at the same time.
+ *
+ * Floating point is to be as C programs start: rounding to nearest, subnormal numbers kept (no -ffast-math in the program that links this).
+ */
+#ifndef GOXUNDAR_H
+#define GOXUNDAR_H
+
+#include <stddef.h>
+#include <stdint.h>
+
+#ifdef __cplusplus
+extern "C" {
+#endif
+
+/* The largest p, m and r; the largest n, and count of listed designs. */
+#define GOXUNDAR_MAX_SIZE 8
+#define GOXUNDAR_MAX_PERIODS 4096
+
+/* The needed counts of the output parts, for sizes in their ranges. The smoothed parts need what the filtered ones do. */
+#define GOXUNDAR_PRED_MEAN_LEN(m, n) (((size_t)(n) + 1) * (size_t)(m))
+#define GOXUNDAR_PRED_COV_LEN(m, n) (((size_t)(n) + 1) * (size_t)(m) * (size_t)(m)) /* pred_cov, pred_inf */
+#define GOXUNDAR_MEAN_LEN(m, n) ((size_t)(n) * (size_t)(m))                         /* filt_mean, sm_mean */
+#define GOXUNDAR_COV_LEN(m, n) ((size_t)(n) * (size_t)(m) * (size_t)(m))            /* filt_cov, sm_cov */
+#define GOXUNDAR_RECORD_LEN(p, n) ((size_t)(n) * (size_t)(p))                       /* kinds, v, f_star, f_inf */
+#define GOXUNDAR_GAIN_LEN(p, m, n) ((size_t)(n) * (size_t)(p) * (size_t)(m))        /* m_star, m_inf */
+
+/* What a call returns: 0, or the first refusal that applies, in this order.
+ * 1 to 11 write nothing. 12 sets the needed stretch of every output to 0 (+0.0, and kind 0), and leaves what is beyond it. */
+enum goxundar_refusal {
+    GOXUNDAR_ANSWERED = 0,
+    GOXUNDAR_DIMENSION = 1,         /* p, m or r is not 1 to 8, or n is not 1 to 4096 */
+    GOXUNDAR_LENGTH = 2,            /* an input has not its exact count, an output is too short, or not exactly one of z and zs is given */
+    GOXUNDAR_NON_FINITE_SYSTEM = 3, /* z, zs (each listed design, used or not), h, t, rr or q has a NaN or an infinity */
+    GOXUNDAR_NOT_PSD = 4,           /* a diagonal entry of h or q is below 0: a variance can't be */
+    GOXUNDAR_Q_NOT_DIAGONAL = 5,    /* an entry of q off its diagonal is not 0 */
+    GOXUNDAR_NON_FINITE_START = 6,  /* c, d, a1 or p_star has a NaN or an infinity */
+    GOXUNDAR_START_SHAPE = 7,       /* a flag is above 1; p_star is not mirrored, or has a diagonal entry below 0; or a flagged state has a1, or an
+                                       entry in its row or column of p_star, that is not 0 */
+    GOXUNDAR_NON_DIAGONAL_H = 8,    /* an entry of h off its diagonal is not 0 */
+    GOXUNDAR_INFINITE_READING = 9,  /* a reading is infinite (a NaN is a gap, and fine) */
+    GOXUNDAR_MIXED_DRIVEN = 10,     /* t leads from a flagged state into an unflagged one: its entry (unflagged, flagged) is not 0 */
+    GOXUNDAR_NON_FINITE_NOISE = 11, /* R * Q * R', symmetrised, has an entry that is not finite: it overflows */
+    GOXUNDAR_NO_INFORMATION = 12    /* there are readings, and none of them is news */
+};
+
+/* What became of a reading. */
+enum goxundar_kind {
+    GOXUNDAR_SKIPPED = 0, /* a gap, or no news: nothing moved */
+    GOXUNDAR_USUAL = 1,   /* used; v and f_star are its numbers */
+    GOXUNDAR_DIFFUSE = 2  /* used, and it settled something of which nothing was known; v, f_star and f_inf are its numbers */
+};
+
+/* The filter. */
+uint32_t goxundar_filter(
+    size_t p, size_t m, size_t r, size_t n,
+    const double *z, size_t z_len,
+    const double *zs, size_t zs_len,
+    const double *h, size_t h_len,
+    const double *t, size_t t_len,
+    const double *rr, size_t rr_len,
+    const double *q, size_t q_len,
+    const double *c, size_t c_len,
+    const double *d, size_t d_len,
+    const double *a1, size_t a1_len,
+    const double *p_star, size_t p_star_len,
+    const uint8_t *flags, size_t flags_len,
+    const double *y, size_t y_len,
+    double *pred_mean, size_t pred_mean_len,
+    double *pred_cov, size_t pred_cov_len,
+    double *pred_inf, size_t pred_inf_len,
+    double *filt_mean, size_t filt_mean_len,
+    double *filt_cov, size_t filt_cov_len,
+    uint8_t *kinds, size_t kinds_len,
+    double *v, size_t v_len,
+    double *f_star, size_t f_star_len,
+    double *f_inf, size_t f_inf_len,
+    double *m_star, size_t m_star_len,
+    double *m_inf, size_t m_inf_len,
+    double *loglik, size_t *d_diffuse, size_t *heard, size_t *news);
+
+/* The filter, and then the smoother: all that goxundar_filter writes, and the two smoothed parts. */
+uint32_t goxundar_smooth(
+    size_t p, size_t m, size_t r, size_t n,
+    const double *z, size_t z_len,
+    const double *zs, size_t zs_len,
+    const double *h, size_t h_len,
+    const double *t, size_t t_len,
+    const double *rr, size_t rr_len,
+    const double *q, size_t q_len,
+    const double *c, size_t c_len,
+    const double *d, size_t d_len,
+    const double *a1, size_t a1_len,
+    const double *p_star, size_t p_star_len,
+    const uint8_t *flags, size_t flags_len,
+    const double *y, size_t y_len,
+    double *pred_mean, size_t pred_mean_len,
+    double *pred_cov, size_t pred_cov_len,
+    double *pred_inf, size_t pred_inf_len,
+    double *filt_mean, size_t filt_mean_len,
+    double *filt_cov, size_t filt_cov_len,
+    uint8_t *kinds, size_t kinds_len,
+    double *v, size_t v_len,
+    double *f_star, size_t f_star_len,
+    double *f_inf, size_t f_inf_len,
+    double *m_star, size_t m_star_len,
+    double *m_inf, size_t m_inf_len,
+    double *sm_mean, size_t sm_mean_len,
+    double *sm_cov, size_t sm_cov_len,
+    double *loglik, size_t *d_diffuse, size_t *heard, size_t *news);
+
+#ifdef __cplusplus
+}
+#endif
+
+#endif

@@ -1,0 +1,52 @@
+//! A proved Kalman filter and smoother with exact diffuse start, for readings that are sparse, missing or doubled.
+//!
+//! Some numbers can't be read directly, a crystal's offset and rate, say: the *states*. Now and then there are *readings* that depend on them, with
+//! noise. [`filter`] goes through the periods in order, and estimates the states from the readings so far. [`smooth`] goes back too, and estimates
+//! them from all readings. Each estimate is a mean with its covariance. A missing reading is a NaN.
+//!
+//! Every call ends with an answer or one of twelve [`Refusal`]s, whatever is passed. No caller checks first.
+//!
+//! ```
+//! use goxundar::{smooth, Design, Model, Record};
+//!
+//! // A level that wanders with variance 2 a period, read on two inputs without noise. At the start nothing is known of it.
+//! let level = Model {
+//!     design: Design::Constant(vec![1.0, 1.0]),
+//!     t: vec![1.0],
+//!     rr: vec![1.0],
+//!     q: vec![2.0],
+//!     diffuse: vec![true],
+//!     ..Model::zeros(2, 1, 1)
+//! };
+//! let gap = f64::NAN;
+//! let s = smooth(&level, 3, &[gap, gap, 2.0, 2.0, gap, 5.0])?;
+//! assert!(!s.run().settled_after(0));
+//! assert!(s.run().settled_after(1));
+//! // One check on both inputs: the second is no news.
+//! assert_eq!(s.run().record(1, 1), Record::Skipped);
+//! assert_eq!((s.run().heard(), s.run().news()), (3, 2));
+//! assert_eq!(s.smoothed(2).mean, [5.0]);
+//! # Ok::<(), goxundar::Refusal>(())
+//! ```
+//!
+//! The values of readings reach no covariance, variance or count, nor which readings are used. So accuracy tables can be drawn up before there is
+//! any reading.
+//!
+//! [`Model`], [`Run`] and [`Smoothed`] own what they hold. [`lent`] has the same two calls on slices, and allocates nothing; [`raw`] has the
+//! library's functions as C has them.
+//!
+//! To link it, name the library when building: `GOXUNDAR_ARCHIVE`, a file or the folder of libgoxundar.a.
+
+#![warn(missing_docs)]
+
+pub mod lent;
+#[allow(missing_docs)]
+pub mod raw;
+
+mod model;
+mod refusal;
+mod run;
+
+pub use model::{Design, Model};
+pub use refusal::Refusal;
+pub use run::{filter, smooth, Moments, Predicted, Record, Run, Smoothed};

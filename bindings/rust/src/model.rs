@@ -1,0 +1,119 @@
+//! The model: all that a call takes but the readings.
+
+use crate::lent::{Inputs, MAX_SIZE};
+
+/// Z, from the states to the readings. Matrices are row by row.
+#[derive(Debug, Clone, PartialEq)]
+pub enum Design {
+    /// p·m: the same in all periods.
+    Constant(Vec<f64>),
+    /// k·p·m: k designs one after the other, 1 to 4096 of them. Period t takes the t-th, or the last once they have run out.
+    Listed(Vec<f64>),
+}
+
+/// A model of p elements, m states and r disturbances, each 1 to 8:
+///
+/// - reading = d + Z·state + noise, where the noise of element i has variance H(i, i);
+/// - next state = c + T·state + R·disturbance, where disturbance k has variance Q(k, k).
+///
+/// Matrices are row by row: entry (i, j) of one with k columns is at i·k + j. Nothing is checked here: what does not fit, the call refuses.
+///
+/// ```
+/// use goxundar::{Design, Model};
+/// // A level that wanders, read with noise. Nothing is known of it at the start.
+/// let level = Model {
+///     design: Design::Constant(vec![1.0]),
+///     h: vec![1.0],
+///     t: vec![1.0],
+///     rr: vec![1.0],
+///     q: vec![2.0],
+///     diffuse: vec![true],
+///     ..Model::zeros(1, 1, 1)
+/// };
+/// assert_eq!(level.c, [0.0]);
+/// ```
+#[derive(Debug, Clone, PartialEq)]
+pub struct Model {
+    /// Elements: readings that a period has room for.
+    pub p: usize,
+    /// States.
+    pub m: usize,
+    /// Disturbances.
+    pub r: usize,
+    /// Z.
+    pub design: Design,
+    /// p·p: H, the readings' noise. Diagonal; an entry of 0 is a reading without noise.
+    pub h: Vec<f64>,
+    /// m·m: T, how the states move.
+    pub t: Vec<f64>,
+    /// m·r: R, which disturbance moves which state.
+    pub rr: Vec<f64>,
+    /// r·r: Q, the disturbances' variances. Diagonal.
+    pub q: Vec<f64>,
+    /// m: added to the states in each step.
+    pub c: Vec<f64>,
+    /// p: added to the readings.
+    pub d: Vec<f64>,
+    /// m: the start's mean. 0 at a diffuse state.
+    pub a1: Vec<f64>,
+    /// m·m: P*, the start's covariance, mirrored. 0 in the row and column of a diffuse state.
+    pub p_star: Vec<f64>,
+    /// m: true where nothing is known of the state at the start, so that its variance has no bound.
+    pub diffuse: Vec<bool>,
+}
+
+impl Model {
+    /// Every part 0 and as long as the sizes ask for, a constant design, no state diffuse. To fill in the rest from.
+    ///
+    /// Where a size is out of its range all parts are empty: the call refuses the size anyway.
+    pub fn zeros(p: usize, m: usize, r: usize) -> Model {
+        let fit = [p, m, r].iter().all(|size| (1..=MAX_SIZE).contains(size));
+        let zeros = |rows: usize, columns: usize| if fit { vec![0.0; rows * columns] } else { Vec::new() };
+        Model {
+            p,
+            m,
+            r,
+            design: Design::Constant(zeros(p, m)),
+            h: zeros(p, p),
+            t: zeros(m, m),
+            rr: zeros(m, r),
+            q: zeros(r, r),
+            c: zeros(m, 1),
+            d: zeros(p, 1),
+            a1: zeros(m, 1),
+            p_star: zeros(m, m),
+            diffuse: vec![false; if fit { m } else { 0 }],
+        }
+    }
+
+    /// The flags as the library takes them, a byte per state.
+    pub(crate) fn flags(&self) -> Vec<u8> {
+        self.diffuse.iter().map(|&flag| u8::from(flag)).collect()
+    }
+
+    /// The call's inputs, for n periods. What the parts' lengths are doesn't matter here.
+    pub(crate) fn inputs<'a>(&'a self, n: usize, flags: &'a [u8], readings: &'a [f64]) -> Inputs<'a> {
+        let (z, zs): (&[f64], &[f64]) = match &self.design {
+            Design::Constant(z) => (z, &[]),
+            Design::Listed(zs) => (&[], zs),
+        };
+        Inputs {
+            p: self.p,
+            m: self.m,
+            r: self.r,
+            n,
+            z,
+            zs,
+            h: &self.h,
+            t: &self.t,
+            rr: &self.rr,
+            q: &self.q,
+            c: &self.c,
+            d: &self.d,
+            a1: &self.a1,
+            p_star: &self.p_star,
+            flags,
+            y: readings,
+        }
+    }
+}

@@ -1,0 +1,92 @@
+//! The twelve refusals.
+
+use std::error::Error;
+use std::fmt;
+
+/// Why a call was refused: the first that applies, in this order. The numbers are the library's.
+///
+/// ```
+/// use goxundar::Refusal;
+/// assert_eq!(Refusal::InfiniteReading.number(), 9);
+/// assert_eq!(Refusal::from_number(9), Some(Refusal::InfiniteReading));
+/// assert_eq!(Refusal::from_number(13), None);
+/// assert_eq!(Refusal::InfiniteReading.to_string(), "a reading is infinite");
+/// ```
+#[derive(Debug, Clone, Copy, PartialEq, Eq, PartialOrd, Ord, Hash)]
+#[repr(u32)]
+pub enum Refusal {
+    /// p, m or r is not 1 to 8, or n not 1 to 4096.
+    Dimension = 1,
+    /// An input has not its exact length, an output is too short, or not exactly one of the constant design and the list of designs is given.
+    Length = 2,
+    /// Z (each listed one, used or not), H, T, R or Q has a NaN or an infinity.
+    NonFiniteSystem = 3,
+    /// A diagonal entry of H or Q is below 0.
+    NotPsd = 4,
+    /// An off-diagonal entry of Q is not 0.
+    QNotDiagonal = 5,
+    /// c, d, a1 or P* has a NaN or an infinity.
+    NonFiniteStart = 6,
+    /// A flag is above 1; P* is not mirrored, or has a negative diagonal entry; or a flagged state has an a1, or an entry in its row or column of
+    /// P*, that is not 0.
+    StartShape = 7,
+    /// An off-diagonal entry of H is not 0.
+    NonDiagonalH = 8,
+    /// A reading is infinite. A NaN is a gap, and fine.
+    InfiniteReading = 9,
+    /// T leads from a flagged state into an unflagged one.
+    MixedDriven = 10,
+    /// R·Q·R', symmetrised, has an entry that is not finite.
+    NonFiniteNoise = 11,
+    /// There are readings, and none of them is news.
+    NoInformation = 12,
+}
+
+impl Refusal {
+    /// All of them, in order.
+    pub const ALL: [Refusal; 12] = [
+        Refusal::Dimension,
+        Refusal::Length,
+        Refusal::NonFiniteSystem,
+        Refusal::NotPsd,
+        Refusal::QNotDiagonal,
+        Refusal::NonFiniteStart,
+        Refusal::StartShape,
+        Refusal::NonDiagonalH,
+        Refusal::InfiniteReading,
+        Refusal::MixedDriven,
+        Refusal::NonFiniteNoise,
+        Refusal::NoInformation,
+    ];
+
+    /// Its number, 1 to 12.
+    pub fn number(self) -> u32 {
+        self as u32
+    }
+
+    /// The refusal of that number. None for 0, an answer, and above 12.
+    pub fn from_number(number: u32) -> Option<Refusal> {
+        Refusal::ALL.into_iter().find(|k| k.number() == number)
+    }
+}
+
+impl fmt::Display for Refusal {
+    fn fmt(&self, f: &mut fmt::Formatter<'_>) -> fmt::Result {
+        f.write_str(match self {
+            Refusal::Dimension => "p, m or r is not 1 to 8, or n not 1 to 4096",
+            Refusal::Length => "a part has not the length that the sizes ask for, or there is no design",
+            Refusal::NonFiniteSystem => "Z, H, T, R or Q has a NaN or an infinity",
+            Refusal::NotPsd => "a diagonal entry of H or Q is below 0",
+            Refusal::QNotDiagonal => "an off-diagonal entry of Q is not 0",
+            Refusal::NonFiniteStart => "c, d, a1 or P* has a NaN or an infinity",
+            Refusal::StartShape => "the start has a wrong flag, is not mirrored, has a negative variance, or is not 0 for a flagged state",
+            Refusal::NonDiagonalH => "an off-diagonal entry of H is not 0",
+            Refusal::InfiniteReading => "a reading is infinite",
+            Refusal::MixedDriven => "T leads from a flagged state into an unflagged one",
+            Refusal::NonFiniteNoise => "R·Q·R' has an entry that is not finite",
+            Refusal::NoInformation => "there are readings, and none of them is news",
+        })
+    }
+}
+
+impl Error for Refusal {}

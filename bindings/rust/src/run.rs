@@ -1,0 +1,273 @@
+//! The calls, and what they answer and write: owned, with a view for each period.
+
+use crate::lent::{self, Answer, Lengths, Outputs, SmoothedOutputs};
+use crate::{Model, Refusal};
+
+/// A mean and its covariance, of m states.
+#[derive(Debug, Clone, Copy, PartialEq)]
+pub struct Moments<'a> {
+    /// m numbers.
+    pub mean: &'a [f64],
+    /// m·m numbers, row by row. While the states are not settled it is the bounded part alone.
+    pub cov: &'a [f64],
+}
+
+/// What is predicted for a period, before its readings.
+#[derive(Debug, Clone, Copy, PartialEq)]
+pub struct Predicted<'a> {
+    /// m numbers.
+    pub mean: &'a [f64],
+    /// m·m numbers, row by row: the covariance's bounded part.
+    pub cov: &'a [f64],
+    /// m·m numbers, row by row: the unbounded part. All 0 once the readings have settled all states.
+    pub diffuse_cov: &'a [f64],
+}
+
+/// What became of one reading.
+#[derive(Debug, Clone, Copy, PartialEq)]
+pub enum Record<'a> {
+    /// A gap, or no news: nothing moved.
+    Skipped,
+    /// It was used.
+    Usual {
+        /// The reading less what was expected of it.
+        v: f64,
+        /// The variance of v.
+        f_star: f64,
+        /// m numbers: the covariance of the states with v.
+        m_star: &'a [f64],
+    },
+    /// It was used, and settled something of which nothing was known.
+    Diffuse {
+        /// The reading less what was expected of it.
+        v: f64,
+        /// The variance of v, the bounded part.
+        f_star: f64,
+        /// The unbounded part.
+        f_inf: f64,
+        /// m numbers: the covariance of the states with v, the bounded part.
+        m_star: &'a [f64],
+        /// The unbounded part.
+        m_inf: &'a [f64],
+    },
+}
+
+/// The outputs of a filter's call.
+#[derive(Debug, Clone, Default)]
+struct Parts {
+    pred_mean: Vec<f64>,
+    pred_cov: Vec<f64>,
+    pred_inf: Vec<f64>,
+    filt_mean: Vec<f64>,
+    filt_cov: Vec<f64>,
+    kinds: Vec<u8>,
+    v: Vec<f64>,
+    f_star: Vec<f64>,
+    f_inf: Vec<f64>,
+    m_star: Vec<f64>,
+    m_inf: Vec<f64>,
+}
+
+impl Parts {
+    fn new(need: Lengths) -> Parts {
+        Parts {
+            pred_mean: vec![0.0; need.pred_mean],
+            pred_cov: vec![0.0; need.pred_cov],
+            pred_inf: vec![0.0; need.pred_cov],
+            filt_mean: vec![0.0; need.mean],
+            filt_cov: vec![0.0; need.cov],
+            kinds: vec![0; need.record],
+            v: vec![0.0; need.record],
+            f_star: vec![0.0; need.record],
+            f_inf: vec![0.0; need.record],
+            m_star: vec![0.0; need.gain],
+            m_inf: vec![0.0; need.gain],
+        }
+    }
+
+    fn lend(&mut self) -> Outputs<'_> {
+        Outputs {
+            pred_mean: &mut self.pred_mean,
+            pred_cov: &mut self.pred_cov,
+            pred_inf: &mut self.pred_inf,
+            filt_mean: &mut self.filt_mean,
+            filt_cov: &mut self.filt_cov,
+            kinds: &mut self.kinds,
+            v: &mut self.v,
+            f_star: &mut self.f_star,
+            f_inf: &mut self.f_inf,
+            m_star: &mut self.m_star,
+            m_inf: &mut self.m_inf,
+        }
+    }
+}
+
+/// The k-th block of that many numbers.
+fn block(part: &[f64], k: usize, long: usize) -> &[f64] {
+    &part[k * long..(k + 1) * long]
+}
+
+/// What a filter's call answered and wrote.
+///
+/// Its views are by period, from 0, and panic as an index does where there is no such period.
+#[derive(Debug, Clone)]
+pub struct Run {
+    p: usize,
+    m: usize,
+    n: usize,
+    answer: Answer,
+    parts: Parts,
+}
+
+impl Run {
+    /// How many periods it went over: n.
+    pub fn periods(&self) -> usize {
+        self.n
+    }
+
+    /// How many elements a period has: p.
+    pub fn elements(&self) -> usize {
+        self.p
+    }
+
+    /// How many states there are: m.
+    pub fn states(&self) -> usize {
+        self.m
+    }
+
+    /// The log-likelihood of the readings that were used. It counts ln 2π for each, and for one that is [`Record::Diffuse`] ln f_inf in place of
+    /// ln f_star + v²/f_star.
+    pub fn loglik(&self) -> f64 {
+        self.answer.loglik
+    }
+
+    /// How many periods began with some state not settled. They are the first ones.
+    pub fn d_diffuse(&self) -> usize {
+        self.answer.d_diffuse
+    }
+
+    /// How many readings are not gaps.
+    pub fn heard(&self) -> usize {
+        self.answer.heard
+    }
+
+    /// How many readings were used: records that are not skipped.
+    pub fn news(&self) -> usize {
+        self.answer.news
+    }
+
+    /// What is predicted for period t, 0 to n: `predicted(n)` is the forecast after the last one.
+    pub fn predicted(&self, t: usize) -> Predicted<'_> {
+        Predicted {
+            mean: block(&self.parts.pred_mean, t, self.m),
+            cov: block(&self.parts.pred_cov, t, self.m * self.m),
+            diffuse_cov: block(&self.parts.pred_inf, t, self.m * self.m),
+        }
+    }
+
+    /// The states after period t's readings. See [`Run::settled_after`] before taking its covariance for the whole one.
+    pub fn filtered(&self, t: usize) -> Moments<'_> {
+        Moments { mean: block(&self.parts.filt_mean, t, self.m), cov: block(&self.parts.filt_cov, t, self.m * self.m) }
+    }
+
+    /// What became of period t's reading i.
+    pub fn record(&self, t: usize, i: usize) -> Record<'_> {
+        assert!(i < self.p, "a period has {} elements, and no element {i}", self.p);
+        let at = t * self.p + i;
+        let (v, f_star, f_inf) = (self.parts.v[at], self.parts.f_star[at], self.parts.f_inf[at]);
+        let (m_star, m_inf) = (block(&self.parts.m_star, at, self.m), block(&self.parts.m_inf, at, self.m));
+        match self.parts.kinds[at] {
+            2 => Record::Diffuse { v, f_star, f_inf, m_star, m_inf },
+            1 => Record::Usual { v, f_star, m_star },
+            // The library writes 0, 1 or 2.
+            _ => Record::Skipped,
+        }
+    }
+
+    /// Whether all states are settled after period t: no variance is left that has no bound. Until then a covariance is the bounded part alone,
+    /// and can be 0 for a state of which nothing is known.
+    pub fn settled_after(&self, t: usize) -> bool {
+        // The library's own test at a period's begin, which the place after the last period has not been through. A NaN counts as settled there.
+        let sum: f64 = self.predicted(t + 1).diffuse_cov.iter().map(|x| x * x).sum();
+        let diffuse = sum > 1e-10;
+        !diffuse
+    }
+}
+
+/// What a smoother's call answered and wrote.
+#[derive(Debug, Clone)]
+pub struct Smoothed {
+    run: Run,
+    sm_mean: Vec<f64>,
+    sm_cov: Vec<f64>,
+}
+
+impl Smoothed {
+    /// All that the filter's call gives.
+    pub fn run(&self) -> &Run {
+        &self.run
+    }
+
+    /// The states in period t, from all readings. Where `run().settled_after(n - 1)` is false, the covariance is the bounded part alone.
+    pub fn smoothed(&self, t: usize) -> Moments<'_> {
+        Moments { mean: block(&self.sm_mean, t, self.run.m), cov: block(&self.sm_cov, t, self.run.m * self.run.m) }
+    }
+}
+
+/// Runs the filter over n periods. `readings` has n·p places: element i of period t is at t·p + i, and a NaN is a gap.
+///
+/// ```
+/// use goxundar::{filter, Design, Model, Record, Refusal};
+/// let level = Model {
+///     design: Design::Constant(vec![1.0]),
+///     h: vec![1.0],
+///     t: vec![1.0],
+///     rr: vec![1.0],
+///     q: vec![2.0],
+///     diffuse: vec![true],
+///     ..Model::zeros(1, 1, 1)
+/// };
+/// let run = filter(&level, 2, &[2.0, 6.0])?;
+/// assert!(matches!(run.record(1, 0), Record::Usual { v, f_star, .. } if v == 4.0 && f_star == 4.0));
+/// assert_eq!(run.filtered(1).mean, [5.0]);
+/// assert_eq!(run.filtered(1).cov, [0.75]);
+/// assert_eq!(run.predicted(2).cov, [2.75]);
+///
+/// // What does not fit is refused, never a panic.
+/// assert_eq!(filter(&level, 3, &[2.0, 6.0]).unwrap_err(), Refusal::Length);
+/// assert_eq!(filter(&level, usize::MAX, &[]).unwrap_err(), Refusal::Dimension);
+/// # Ok::<(), Refusal>(())
+/// ```
+pub fn filter(model: &Model, n: usize, readings: &[f64]) -> Result<Run, Refusal> {
+    let mut parts = Parts::new(Lengths::needed(model.p, model.m, n));
+    let answer = lent::filter(&model.inputs(n, &model.flags(), readings), &mut parts.lend())?;
+    Ok(Run { p: model.p, m: model.m, n, answer, parts })
+}
+
+/// Runs the filter over n periods, and then the smoother back. `readings` is as in [`filter`].
+///
+/// ```
+/// use goxundar::{smooth, Design, Model, Refusal};
+/// let level = Model {
+///     design: Design::Constant(vec![1.0]),
+///     h: vec![1.0],
+///     t: vec![1.0],
+///     rr: vec![1.0],
+///     q: vec![2.0],
+///     diffuse: vec![true],
+///     ..Model::zeros(1, 1, 1)
+/// };
+/// let smoothed = smooth(&level, 2, &[2.0, 6.0])?;
+/// assert_eq!(smoothed.smoothed(0).mean, [3.0]);
+/// assert_eq!(smoothed.smoothed(0).cov, [0.75]);
+/// assert_eq!(smoothed.run().filtered(0).mean, [2.0]);
+/// # Ok::<(), Refusal>(())
+/// ```
+pub fn smooth(model: &Model, n: usize, readings: &[f64]) -> Result<Smoothed, Refusal> {
+    let need = Lengths::needed(model.p, model.m, n);
+    let mut parts = Parts::new(need);
+    let (mut sm_mean, mut sm_cov) = (vec![0.0; need.mean], vec![0.0; need.cov]);
+    let mut back = SmoothedOutputs { sm_mean: &mut sm_mean, sm_cov: &mut sm_cov };
+    let answer = lent::smooth(&model.inputs(n, &model.flags(), readings), &mut parts.lend(), &mut back)?;
+    Ok(Smoothed { run: Run { p: model.p, m: model.m, n, answer, parts }, sm_mean, sm_cov })
+}
