@@ -1,8 +1,8 @@
-// Links the static library of crates/exports, from the folder that EXPORTS names.
+// Links the library, from the folder that GOXUNDAR names.
 fn main() {
-    let folder = std::env::var("EXPORTS").expect("EXPORTS: the folder with libexports.a (see benches/filter/run)");
+    let folder = std::env::var("GOXUNDAR").expect("GOXUNDAR: the folder with libgoxundar.a (see benches/calls/run)");
     println!("cargo:rustc-link-search=native={folder}");
-    println!("cargo:rustc-link-lib=static=exports");
-    println!("cargo:rerun-if-env-changed=EXPORTS");
-    println!("cargo:rerun-if-changed={folder}/libexports.a");
+    println!("cargo:rustc-link-lib=static=goxundar");
+    println!("cargo:rerun-if-env-changed=GOXUNDAR");
+    println!("cargo:rerun-if-changed={folder}/libgoxundar.a");
 }
