@@ -4,11 +4,15 @@
 use oracle::case::Case;
 use oracle::gen::Cases;
 use oracle::rng::Rng;
+use oracle::time;
 
 use crate::lent::Lent;
 use crate::library::{Call, CALLS};
 use crate::tally::Tally;
 use crate::{values, watch, wild};
+
+/// The generator's cases have 20 periods at most. After one in so many comes a long run.
+const LONG_EVERY: u64 = 997;
 
 /// How the library's call ended on a case, and the first difference from the oracle's.
 pub fn against_oracle(which: Call, case: &Case, fill: u64) -> (u32, Option<String>) {
@@ -19,6 +23,26 @@ pub fn against_oracle(which: Call, case: &Case, fill: u64) -> (u32, Option<Strin
         return (want, Some(format!("outcome {outcome}, wanted {want} (0: answered, else the refusal)")));
     }
     (want, found.difference(&wanted, which, want, &[]))
+}
+
+/// A run of up to 4096 periods: the timed model with gaps, elements without noise, and often a list of designs.
+fn long_case(rng: &mut Rng) -> Case {
+    let (m, p, n) = (rng.within(1, 8), rng.within(1, 8), rng.within(21, 4096));
+    let mut case = time::case(m, p, n);
+    for y in &mut case.y {
+        if rng.chance(1, 3) {
+            *y = rng.gap();
+        }
+    }
+    for i in (0..p).filter(|_| rng.chance(1, 3)) {
+        case.h[i * p + i] = 0.0;
+    }
+    if rng.chance(1, 2) {
+        case.z.clear();
+        case.zs = (0..rng.within(1, n) * p * m).map(|_| 0.5 + rng.unit()).collect();
+    }
+    case.lent = case.lent.map(|len| len + rng.below(3));
+    case
 }
 
 fn one_case(cases: &Cases, seed: u64, k: u64, tally: &mut Tally) {
@@ -35,6 +59,13 @@ fn one_case(cases: &Cases, seed: u64, k: u64, tally: &mut Tally) {
     }
     values::try_case(&mut rng, &case, &name, tally);
     wild::try_case(&mut rng, case, &name, tally);
+    if k % LONG_EVERY == 0 {
+        let case = long_case(&mut rng);
+        for which in CALLS {
+            let difference = against_oracle(which, &case, fill).1;
+            tally.long.count(&format!("long run after {name}, {}", which.name()), difference);
+        }
+    }
 }
 
 /// Every `threads`th case below `count`, from the one with the thread's number.

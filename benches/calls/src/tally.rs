@@ -40,6 +40,7 @@ pub struct Tally {
     pub wild_nulls: u64,
     pub filter: Line,
     pub smooth: Line,
+    pub long: Line,
     pub other_values: Line,
     pub other_number: Line,
     pub gap: Line,
@@ -51,10 +52,11 @@ pub struct Tally {
 }
 
 impl Tally {
-    fn lines(&mut self) -> [(&'static str, &mut Line); 10] {
+    fn lines(&mut self) -> [(&'static str, &mut Line); 11] {
         [
             ("filter against the oracle", &mut self.filter),
             ("smoother against the oracle", &mut self.smooth),
+            ("long runs, up to 4096 periods, against the oracle", &mut self.long),
             ("demand 3: other values of finite readings", &mut self.other_values),
             ("demand 3: another number for a reading that is no news", &mut self.other_number),
             ("demand 3: a gap for a reading that is no news", &mut self.gap),
