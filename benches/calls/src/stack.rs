@@ -34,7 +34,7 @@ unsafe fn call_on(top: *mut u8, which: &Call, args: &Args) {
     );
 }
 
-/// Bytes of stack that the call on a case takes, with its parameters and the return address.
+/// Bytes of stack that the call on a case takes, with its parameters and the frames that hand them over, here some 600 bytes.
 #[cfg(target_arch = "x86_64")]
 fn depth(which: Call, case: &Case, room: &mut [u128]) -> usize {
     let bytes = room.as_mut_ptr().cast::<u8>();
@@ -52,7 +52,7 @@ fn depth(which: Call, case: &Case, room: &mut [u128]) -> usize {
 #[cfg(target_arch = "x86_64")]
 pub fn print() {
     let mut room = vec![0u128; SIZE / 16];
-    println!("Deepest stack of a call of the library, in bytes, its parameters included");
+    println!("Deepest stack of a call of the library, in bytes, with its parameters and the frame that hands them over");
     println!("{:>10} {:>12} {:>28}", "", "m = p = 8", "1,000 calls, every branch");
     for which in CALLS {
         let largest = depth(which, &time::case(8, 8, 16), &mut room);

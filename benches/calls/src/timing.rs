@@ -58,7 +58,7 @@ pub fn check() -> bool {
 
 pub fn print() {
     println!("m states, p elements in each of n periods, no gaps. Library: the proved calls. Oracle: the Rust, its checks and outputs included.");
-    println!("Both on the same inputs, in turns, by the thread's processor time; the least of many calls counts. A ratio below 1: the library is faster.");
+    println!("Both on the same inputs, in turns, by the thread's processor time; the least of many calls counts. Ratio: library over oracle; below 1 the library is faster.");
     println!();
     println!("Nanoseconds a period, n = {}", time::PERIODS);
     println!("       {:^29}   {:^29}", "filter", "smoother");
