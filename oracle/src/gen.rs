@@ -140,6 +140,14 @@ impl Cases {
             deck: deck(),
         }
     }
+
+    /// Case k, whatever was asked before.
+    pub fn at(&self, k: u64) -> (Scene, Case) {
+        let scene = self.deck[(k % self.deck.len() as u64) as usize];
+        let mut seed = Rng::new(self.seed);
+        let mut rng = Rng::new(seed.word() ^ k.wrapping_mul(0xD134_2543_DE82_EF95));
+        (scene, make(&mut rng, Room::Usual, scene))
+    }
 }
 
 impl Iterator for Cases {
@@ -147,10 +155,7 @@ impl Iterator for Cases {
     fn next(&mut self) -> Option<(Scene, Case)> {
         let k = self.next;
         self.next += 1;
-        let scene = self.deck[(k % self.deck.len() as u64) as usize];
-        let mut seed = Rng::new(self.seed);
-        let mut rng = Rng::new(seed.word() ^ k.wrapping_mul(0xD134_2543_DE82_EF95));
-        Some((scene, make(&mut rng, Room::Usual, scene)))
+        Some(self.at(k))
     }
 }
 

@@ -1,4 +1,4 @@
--- The definition's root and logarithm at the edges: bench/roots/edges.py made the rows, by exact fractions. antt computes them all at once. Assumes nothing.
+-- The definition's root and logarithm at the edges: benches/roots/edges.py made the rows, by exact fractions. antt computes them all at once. Assumes nothing.
 use mathlib.Core.Bool.{Bool, true, _&&_}
 use mathlib.Core.List.{List, [], _∷_}
 use Prim.Native.Nat.{ℕ}

@@ -81,7 +81,7 @@ def ln(b):
 
 
 rows = [int(e, 16) for e in EDGES]
-print("-- The definition's root and logarithm at the edges: bench/roots/edges.py made the rows, by exact fractions. antt computes them all at once. Assumes nothing.")
+print("-- The definition's root and logarithm at the edges: benches/roots/edges.py made the rows, by exact fractions. antt computes them all at once. Assumes nothing.")
 print("""use mathlib.Core.Bool.{Bool, true, _&&_}
 use mathlib.Core.List.{List, [], _∷_}
 use Prim.Native.Nat.{ℕ}

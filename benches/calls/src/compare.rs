@@ -1,0 +1,103 @@
+//! The comparison at scale: fresh cases of the oracle's generator through both calls of the library and of the oracle, demand 3 by pairs of calls,
+//! wild calls. Case k of a seed is the same in every run, whatever the count and the threads.
+
+use oracle::case::Case;
+use oracle::gen::Cases;
+use oracle::rng::Rng;
+use oracle::time;
+
+use crate::lent::Lent;
+use crate::library::{Call, CALLS};
+use crate::tally::Tally;
+use crate::{values, watch, wild};
+
+/// The generator's cases have 20 periods at most. After one in so many comes a long run.
+const LONG_EVERY: u64 = 997;
+
+/// How the library's call ended on a case, and the first difference from the oracle's.
+pub fn against_oracle(which: Call, case: &Case, fill: u64) -> (u32, Option<String>) {
+    let mut found = Lent::of(case, fill);
+    let mut wanted = found.clone();
+    let (outcome, want) = (found.library(which), wanted.oracle(which));
+    if outcome != want {
+        return (want, Some(format!("outcome {outcome}, wanted {want} (0: answered, else the refusal)")));
+    }
+    (want, found.difference(&wanted, which, want, &[]))
+}
+
+/// A run of up to 4096 periods: the timed model with gaps, elements without noise, and often a list of designs.
+fn long_case(rng: &mut Rng) -> Case {
+    let (m, p, n) = (rng.within(1, 8), rng.within(1, 8), rng.within(21, 4096));
+    let mut case = time::case(m, p, n);
+    for y in &mut case.y {
+        if rng.chance(1, 3) {
+            *y = rng.gap();
+        }
+    }
+    for i in (0..p).filter(|_| rng.chance(1, 3)) {
+        case.h[i * p + i] = 0.0;
+    }
+    if rng.chance(1, 2) {
+        case.z.clear();
+        case.zs = (0..rng.within(1, n) * p * m).map(|_| 0.5 + rng.unit()).collect();
+    }
+    case.lent = case.lent.map(|len| len + rng.below(3));
+    case
+}
+
+fn one_case(cases: &Cases, seed: u64, k: u64, tally: &mut Tally) {
+    tally.start(k);
+    let (_, case) = cases.at(k);
+    let name = format!("case {k} of seed {seed}");
+    let mut rng = Rng::new(seed.wrapping_mul(0x9E37_79B9).wrapping_add(k));
+    // Of its own, so that the wild call does not go by what demand 3 found in the library's answers.
+    let mut wild_rng = Rng::new(rng.word());
+    let fill = rng.word();
+    for which in CALLS {
+        let (outcome, difference) = against_oracle(which, &case, fill);
+        tally.ended[outcome as usize] += 1;
+        let line = if which == Call::Filter { &mut tally.filter } else { &mut tally.smooth };
+        line.count(&format!("{name}, {}", which.name()), difference);
+    }
+    values::try_case(&mut rng, &case, &name, tally);
+    wild::try_case(&mut wild_rng, case, &name, tally);
+    if k % LONG_EVERY == 0 {
+        let case = long_case(&mut wild_rng);
+        for which in CALLS {
+            let difference = against_oracle(which, &case, fill).1;
+            tally.long.count(&format!("long run after {name}, {}", which.name()), difference);
+        }
+    }
+}
+
+/// Every `threads`th case below `count`, from the one with the thread's number.
+fn some_cases(seed: u64, count: u64, thread: usize, threads: usize) -> Tally {
+    let cases = Cases::new(seed);
+    let mut tally = Tally::default();
+    let tenth = (count / 10).max(100_000);
+    for k in (thread as u64..count).step_by(threads) {
+        watch::start(thread, k);
+        one_case(&cases, seed, k, &mut tally);
+        if k % tenth == 0 && k > 0 {
+            eprintln!("{k} of {count} cases");
+        }
+    }
+    watch::end(thread);
+    tally
+}
+
+/// Compares, and prints what was compared. Whether nothing differs.
+pub fn compare(seed: u64, count: u64, threads: usize) -> bool {
+    watch::begin();
+    let mut tally = std::thread::scope(|scope| {
+        let started: Vec<_> = (0..threads).map(|thread| scope.spawn(move || some_cases(seed, count, thread, threads))).collect();
+        started.into_iter().fold(Tally::default(), |mut all, one| {
+            all.add(one.join().expect("a thread of the comparison ended early"));
+            all
+        })
+    });
+    let cases = tally.cases;
+    let (compared, differ) = tally.print();
+    println!("seed {seed}: {cases} cases, {compared} comparisons, {differ} differ");
+    differ == 0
+}

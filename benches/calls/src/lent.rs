@@ -1,0 +1,234 @@
+//! All that one call is lent, in one stretch of memory: the inputs, the outputs and the answer's places, each between two guard zones. Two such
+//! stretches after two calls are compared word by word, so that nothing can change unseen: no tail, no guard, no input, no place of a refused answer.
+
+use oracle::case::{one_nan, Case, INPUT_NAMES, OUTPUT_NAMES};
+use oracle::{filter_call, smooth_call, Inputs, Outputs, Smoothed};
+
+use crate::library::{self, Call};
+
+/// Words of a guard zone.
+const GUARD: usize = 4;
+const INPUTS: usize = 12;
+const OUTPUTS: usize = 13;
+const PARTS: usize = INPUTS + OUTPUTS + 4;
+const ANSWER_NAMES: [&str; 4] = ["the log-likelihood", "d_diffuse", "heard", "news"];
+
+/// Numbers of parts, the inputs first, then the outputs, then the answer's places.
+pub const FLAGS: usize = 10;
+pub const Y: usize = 11;
+pub const PRED_MEAN: usize = 12;
+pub const FILT_MEAN: usize = 15;
+pub const KINDS: usize = 17;
+pub const V: usize = 18;
+pub const SM_MEAN: usize = 23;
+pub const LOGLIK: usize = 25;
+pub const HEARD: usize = 27;
+pub const NEWS: usize = 28;
+
+/// Where a part starts, in words, and how many places it has.
+#[derive(Debug, Clone, Copy, Default)]
+struct Part {
+    at: usize,
+    len: usize,
+}
+
+/// What a call is handed: each part as pointer and length.
+#[derive(Debug, Clone, Copy)]
+pub struct Args {
+    pub sizes: [usize; 4],
+    pub inputs: [(*mut u64, usize); INPUTS],
+    pub outputs: [(*mut u64, usize); OUTPUTS],
+    pub answer: [*mut u64; 4],
+}
+
+#[derive(Debug, Clone)]
+pub struct Lent {
+    sizes: [usize; 4],
+    parts: [Part; PARTS],
+    words: Vec<u64>,
+}
+
+fn is_bytes(part: usize) -> bool {
+    part == FLAGS || part == KINDS
+}
+
+fn words_of(part: usize, len: usize) -> usize {
+    if is_bytes(part) {
+        len.div_ceil(8)
+    } else {
+        len
+    }
+}
+
+/// What stands in word `k` before a call: all different, so that a shifted copy shows, and by `fill`, so that what was there before can't matter
+/// unseen.
+fn filling(fill: u64, k: usize) -> u64 {
+    let z = (fill ^ k as u64).wrapping_mul(0x9E37_79B9_7F4A_7C15);
+    (z ^ (z >> 29)).wrapping_mul(0xBF58_476D_1CE4_E5B9)
+}
+
+impl Lent {
+    /// A case's inputs, and outputs of the lengths that it lends.
+    pub fn of(case: &Case, fill: u64) -> Self {
+        let floats: [&[f64]; INPUTS] = [
+            &case.z, &case.zs, &case.h, &case.t, &case.rr, &case.q, &case.c, &case.d, &case.a1, &case.p_star, &[], &case.y,
+        ];
+        let mut parts = [Part::default(); PARTS];
+        let mut at = GUARD;
+        for (k, part) in parts.iter_mut().enumerate() {
+            let len = match k {
+                FLAGS => case.flags.len(),
+                _ if k < INPUTS => floats[k].len(),
+                _ if k < INPUTS + OUTPUTS => case.lent[k - INPUTS],
+                _ => 1,
+            };
+            *part = Part { at, len };
+            at += words_of(k, len) + GUARD;
+        }
+        let mut words: Vec<u64> = (0..at).map(|k| filling(fill, k)).collect();
+        for (k, x) in floats.iter().enumerate() {
+            for (place, v) in x.iter().enumerate() {
+                words[parts[k].at + place] = v.to_bits();
+            }
+        }
+        let mut lent = Lent { sizes: [case.p, case.m, case.r, case.n], parts, words };
+        lent.bytes_mut(FLAGS).copy_from_slice(&case.flags);
+        lent
+    }
+
+    fn pointer(&mut self, part: usize) -> *mut u64 {
+        unsafe { self.words.as_mut_ptr().add(self.parts[part].at) }
+    }
+
+    fn bytes_mut(&mut self, part: usize) -> &mut [u8] {
+        let len = self.parts[part].len;
+        unsafe { std::slice::from_raw_parts_mut(self.pointer(part).cast(), len) }
+    }
+
+    pub fn args(&mut self) -> Args {
+        Args {
+            sizes: self.sizes,
+            inputs: std::array::from_fn(|k| (self.pointer(k), self.parts[k].len)),
+            outputs: std::array::from_fn(|k| (self.pointer(INPUTS + k), self.parts[INPUTS + k].len)),
+            answer: std::array::from_fn(|k| self.pointer(INPUTS + OUTPUTS + k)),
+        }
+    }
+
+    /// The library's call: 0, or the refusal's number.
+    pub fn library(&mut self, which: Call) -> u32 {
+        let args = self.args();
+        unsafe { library::call(which, &args) }
+    }
+
+    /// The oracle's call on the same parts, its answer in the same places.
+    pub fn oracle(&mut self, which: Call) -> u32 {
+        let [p, m, r, n] = self.sizes;
+        let a = self.args();
+        // The parts do not overlap, and nothing else looks at them meanwhile.
+        let x = |k: usize| unsafe { std::slice::from_raw_parts(a.inputs[k].0.cast::<f64>(), a.inputs[k].1) };
+        let flags = unsafe { std::slice::from_raw_parts(a.inputs[FLAGS].0.cast::<u8>(), a.inputs[FLAGS].1) };
+        let o = |k: usize| unsafe { std::slice::from_raw_parts_mut(a.outputs[k].0.cast::<f64>(), a.outputs[k].1) };
+        let kinds = unsafe { std::slice::from_raw_parts_mut(a.outputs[5].0.cast::<u8>(), a.outputs[5].1) };
+        #[rustfmt::skip]
+        let i = Inputs {
+            p, m, r, n, z: x(0), zs: x(1), h: x(2), t: x(3), rr: x(4), q: x(5), c: x(6), d: x(7), a1: x(8), p_star: x(9), flags, y: x(Y),
+        };
+        #[rustfmt::skip]
+        let mut outputs = Outputs {
+            pred_mean: o(0), pred_cov: o(1), pred_inf: o(2), filt_mean: o(3), filt_cov: o(4), kinds, v: o(6), f_star: o(7), f_inf: o(8),
+            m_star: o(9), m_inf: o(10),
+        };
+        let outcome = match which {
+            Call::Filter => filter_call(&i, &mut outputs),
+            Call::Smooth => smooth_call(&i, &mut outputs, &mut Smoothed { sm_mean: o(11), sm_cov: o(12) }),
+        };
+        match outcome {
+            Ok(answer) => {
+                let told = [answer.loglik.to_bits(), answer.d_diffuse as u64, answer.heard as u64, answer.news as u64];
+                for (place, word) in a.answer.into_iter().zip(told) {
+                    unsafe { place.write(word) };
+                }
+                0
+            }
+            Err(refusal) => refusal,
+        }
+    }
+
+    /// Place `k` of a part.
+    pub fn word(&self, part: usize, k: usize) -> u64 {
+        let at = self.parts[part].at;
+        if is_bytes(part) {
+            u64::from(self.words[at + k / 8].to_ne_bytes()[k % 8])
+        } else {
+            self.words[at + k]
+        }
+    }
+
+    /// How many places of a part a call with this outcome writes.
+    fn written(&self, which: Call, refusal: u32, part: usize) -> usize {
+        let answer = INPUTS + OUTPUTS;
+        match part {
+            _ if part < INPUTS => 0,
+            _ if part >= answer => usize::from(refusal == 0),
+            _ if part - INPUTS >= which.outputs() || (refusal != 0 && refusal != 12) => 0,
+            _ => oracle::needed(self.sizes[0], self.sizes[1], self.sizes[3])[part - INPUTS],
+        }
+    }
+
+    /// The part of word `k` and the place in it; or the part before whose end guard it lies.
+    fn find(&self, k: usize) -> Result<(usize, usize), usize> {
+        let part = self.parts.iter().rposition(|p| p.at <= k).ok_or(0usize)?;
+        let place = k - self.parts[part].at;
+        if place < words_of(part, self.parts[part].len) {
+            Ok((part, place))
+        } else {
+            Err(part)
+        }
+    }
+
+    fn name(part: usize) -> &'static str {
+        match part {
+            _ if part < INPUTS => INPUT_NAMES[part],
+            _ if part < INPUTS + OUTPUTS => OUTPUT_NAMES[part - INPUTS],
+            _ => ANSWER_NAMES[part - INPUTS - OUTPUTS],
+        }
+    }
+
+    /// The first place where this differs from `wanted` after two calls with the same outcome. Where a call writes, all NaNs are one; all else is
+    /// compared bit for bit. What a call writes to the parts `free` is not compared, nor an input among them.
+    pub fn difference(&self, wanted: &Lent, which: Call, refusal: u32, free: &[usize]) -> Option<String> {
+        assert_eq!(self.words.len(), wanted.words.len());
+        (0..self.words.len()).filter(|&k| self.words[k] != wanted.words[k]).find_map(|k| {
+            let (part, word) = match self.find(k) {
+                Ok(found) => found,
+                Err(part) => return Some(format!("the guard zone beside {} was written to", Self::name(part))),
+            };
+            let name = Self::name(part);
+            let len = self.parts[part].len;
+            let written = self.written(which, refusal, part);
+            let places = if is_bytes(part) { word * 8..len.min(word * 8 + 8) } else { word..word + 1 };
+            let mut seen = 0;
+            for place in places {
+                let (found, want) = (self.word(part, place), wanted.word(part, place));
+                if found == want {
+                    continue;
+                }
+                seen += 1;
+                let passes = if free.contains(&part) {
+                    part < INPUTS || place < written
+                } else {
+                    place < written && (part <= LOGLIK && !is_bytes(part)) && one_nan(found) == one_nan(want)
+                };
+                if !passes {
+                    let where_ = match () {
+                        _ if part < INPUTS => "input ",
+                        _ if place >= written => "untouched place ",
+                        _ => "",
+                    };
+                    return Some(format!("{where_}{name}[{place}] is {found:016x}, wanted {want:016x}"));
+                }
+            }
+            (seen == 0).then(|| format!("the guard zone beside {name} was written to"))
+        })
+    }
+}

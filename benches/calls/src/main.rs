@@ -1,0 +1,54 @@
+//! The library's two calls beside the oracle's: compared, timed, and the stack that they take.
+//!
+//! usage: calls-bench [time | stack | check SEED COUNT]
+mod clock;
+mod compare;
+mod lent;
+mod library;
+mod stack;
+mod tally;
+mod timing;
+mod values;
+mod watch;
+mod wild;
+
+use std::process::exit;
+
+fn number(word: Option<&String>) -> u64 {
+    word.and_then(|w| w.parse().ok()).unwrap_or_else(|| {
+        eprintln!("usage: calls-bench [time | stack | check SEED COUNT]");
+        exit(2)
+    })
+}
+
+/// How many threads the comparison may use: COMPARE_THREADS, or one.
+fn threads() -> usize {
+    let asked = std::env::var("COMPARE_THREADS").ok();
+    asked.map_or(1, |word| number(Some(&word)) as usize).clamp(1, watch::MOST_THREADS)
+}
+
+/// The timed calls are compared first: nothing is timed where one differs.
+fn time() {
+    if !timing::check() {
+        exit(1);
+    }
+    timing::print();
+}
+
+fn main() {
+    let words: Vec<String> = std::env::args().skip(1).collect();
+    match words.first().map(String::as_str) {
+        Some("time") => time(),
+        Some("stack") => stack::print(),
+        Some("check") => {
+            let agrees = compare::compare(number(words.get(1)), number(words.get(2)), threads());
+            exit(i32::from(!agrees));
+        }
+        None => {
+            time();
+            println!();
+            stack::print();
+        }
+        Some(_) => drop(number(None)),
+    }
+}

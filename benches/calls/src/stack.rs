@@ -1,0 +1,67 @@
+//! The stack that a call of the library takes: it runs on a painted stack of its own, and the deepest byte that lost its paint tells.
+
+use oracle::case::Case;
+use oracle::gen::Cases;
+use oracle::time;
+
+use crate::lent::{Args, Lent};
+use crate::library::{self, Call, CALLS};
+
+const SIZE: usize = 1 << 20;
+const PAINT: u8 = 0xA5;
+/// Fresh cases, which between them take every branch.
+const CASES: usize = 1000;
+
+/// One call, on whatever stack it is made.
+extern "C" fn call(which: &Call, args: &Args) {
+    unsafe { library::call(*which, args) };
+}
+
+/// Runs `call` with the stack pointer at `top`.
+#[cfg(target_arch = "x86_64")]
+unsafe fn call_on(top: *mut u8, which: &Call, args: &Args) {
+    std::arch::asm!(
+        "mov r12, rsp",
+        "mov rsp, {top}",
+        "call {f}",
+        "mov rsp, r12",
+        top = in(reg) top,
+        f = sym call,
+        in("rdi") which,
+        in("rsi") args,
+        out("r12") _,
+        clobber_abi("C"),
+    );
+}
+
+/// Bytes of stack that the call on a case takes, with its parameters and the frames that hand them over, here some 600 bytes.
+#[cfg(target_arch = "x86_64")]
+fn depth(which: Call, case: &Case, room: &mut [u128]) -> usize {
+    let bytes = room.as_mut_ptr().cast::<u8>();
+    let mut lent = Lent::of(case, 0);
+    let args = lent.args();
+    unsafe {
+        bytes.write_bytes(PAINT, SIZE);
+        call_on(bytes.add(SIZE), &which, &args);
+        let kept = (0..SIZE).take_while(|&k| bytes.add(k).read() == PAINT).count();
+        SIZE - kept
+    }
+}
+
+/// The timed case of m = p = 8, and the deepest over fresh cases.
+#[cfg(target_arch = "x86_64")]
+pub fn print() {
+    let mut room = vec![0u128; SIZE / 16];
+    println!("Deepest stack of a call of the library, in bytes, with its parameters and the frame that hands them over");
+    println!("{:>10} {:>12} {:>28}", "", "m = p = 8", "1,000 calls, every branch");
+    for which in CALLS {
+        let largest = depth(which, &time::case(8, 8, 16), &mut room);
+        let all = Cases::new(1).take(CASES).map(|(_, case)| depth(which, &case, &mut room)).max();
+        println!("{:>10} {largest:>12} {:>28}", which.name(), all.unwrap_or(0));
+    }
+}
+
+#[cfg(not(target_arch = "x86_64"))]
+pub fn print() {
+    println!("Deepest stack of a call of the library: measured on x86-64 alone");
+}

@@ -1,0 +1,114 @@
+//! What was compared, how much of it differs, and the first difference.
+
+/// One kind of comparison.
+#[derive(Debug, Clone, Default)]
+pub struct Line {
+    pub compared: u64,
+    pub differ: u64,
+    /// Which case it was in, and what differs.
+    pub first: Option<(u64, String)>,
+    case: u64,
+}
+
+impl Line {
+    /// Counts a comparison, and the difference that it found. The first of its kind is told at once, since a later call may crash.
+    pub fn count(&mut self, name: &str, difference: Option<String>) {
+        self.compared += 1;
+        let Some(what) = difference else { return };
+        self.differ += 1;
+        if self.first.is_none() {
+            println!("differs: {name}: {what}");
+            self.first = Some((self.case, format!("{name}: {what}")));
+        }
+    }
+
+    fn add(&mut self, other: Line) {
+        self.compared += other.compared;
+        self.differ += other.differ;
+        let firsts = [self.first.take(), other.first];
+        self.first = firsts.into_iter().flatten().min_by_key(|(case, _)| *case);
+    }
+}
+
+#[derive(Debug, Clone, Default)]
+pub struct Tally {
+    pub cases: u64,
+    /// How the compared calls on made cases ended: answered, or refused with 1 to 12.
+    pub ended: [u64; 13],
+    pub wild_ended: [u64; 13],
+    /// Wild calls whose empty parts were null.
+    pub wild_nulls: u64,
+    pub filter: Line,
+    pub smooth: Line,
+    pub long: Line,
+    pub other_values: Line,
+    pub other_number: Line,
+    pub gap: Line,
+    pub wild_sizes: Line,
+    pub wild_lengths: Line,
+    pub wild_claims: Line,
+    pub wild_bits: Line,
+    pub wild_numbers: Line,
+}
+
+impl Tally {
+    fn lines(&mut self) -> [(&'static str, &mut Line); 11] {
+        [
+            ("filter against the oracle", &mut self.filter),
+            ("smoother against the oracle", &mut self.smooth),
+            ("long runs, up to 4096 periods, against the oracle", &mut self.long),
+            ("demand 3: other values of finite readings", &mut self.other_values),
+            ("demand 3: another number for a reading that is no news", &mut self.other_number),
+            ("demand 3: a gap for a reading that is no news", &mut self.gap),
+            ("wild calls: sizes", &mut self.wild_sizes),
+            ("wild calls: lengths", &mut self.wild_lengths),
+            ("wild calls: lengths claimed that nothing has", &mut self.wild_claims),
+            ("wild calls: random bits in the inputs", &mut self.wild_bits),
+            ("wild calls: random bits that are not refused at once", &mut self.wild_numbers),
+        ]
+    }
+
+    /// What is counted from here on is of this case.
+    pub fn start(&mut self, case: u64) {
+        self.cases += 1;
+        for (_, line) in self.lines() {
+            line.case = case;
+        }
+    }
+
+    pub fn add(&mut self, mut other: Tally) {
+        self.cases += other.cases;
+        self.wild_nulls += other.wild_nulls;
+        for k in 0..13 {
+            self.ended[k] += other.ended[k];
+            self.wild_ended[k] += other.wild_ended[k];
+        }
+        for ((_, a), (_, b)) in self.lines().into_iter().zip(other.lines()) {
+            a.add(std::mem::take(b));
+        }
+    }
+
+    /// Prints the table. How many comparisons were made, and how many differ.
+    pub fn print(&mut self) -> (u64, u64) {
+        let ended = |e: &[u64; 13]| {
+            let refused: Vec<String> = (1..13).map(|k| format!("{k}: {}", e[k])).collect();
+            format!("{} answered; refused {}", e[0], refused.join(", "))
+        };
+        println!("calls on made cases: {}", ended(&self.ended));
+        println!("wild calls: {}; empty parts null in {}", ended(&self.wild_ended), self.wild_nulls);
+        println!("{:<56} {:>10} {:>8}", "", "compared", "differ");
+        let (mut compared, mut differ) = (0, 0);
+        let mut first: Option<(u64, String)> = None;
+        for (name, line) in self.lines() {
+            println!("{name:<56} {:>10} {:>8}", line.compared, line.differ);
+            compared += line.compared;
+            differ += line.differ;
+            let firsts = [first.take(), line.first.clone()];
+            first = firsts.into_iter().flatten().min_by_key(|(case, _)| *case);
+        }
+        if let Some((_, what)) = first {
+            println!("first difference: {what}");
+        }
+        (compared, differ)
+    }
+}
