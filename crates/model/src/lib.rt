@@ -144,8 +144,10 @@ pub fn noise(rr: &[f64], q: &[f64], m: usize, r: usize) -> [f64; 64]
 {
     let a = dense::load64(rr);
     let b = dense::load64(q);
-    let rq = products::product(&a, &b, m, r, r);
-    let mut out = products::product_t(&rq, &a, m, r, m);
+    let mut rq = [0.0; 64];
+    products::product_into(&mut rq, &a, &b, m, r, r);
+    let mut out = [0.0; 64];
+    products::product_t_into(&mut out, &rq, &a, m, r, m);
     dense::symmetrize_in_place(&mut out, m);
     out
 }
