@@ -76,8 +76,8 @@ fn keep_answer(out: &mut [u64; 64], o: filter::Outcome) {
     }
 }
 
-// m is 1, but in the figure that is refused for it.
-pub fn run(
+// The filter's call on lent outputs. m is 1, but in the figure that is refused for it.
+fn filtered(
     p: usize,
     m: usize,
     n: usize,
@@ -86,23 +86,22 @@ pub fn run(
     p_star: f64,
     flag: u8,
     y: &[f64],
-) -> [u64; 64] {
+    pred_mean: &mut [f64],
+    pred_cov: &mut [f64],
+    pred_inf: &mut [f64],
+    filt_mean: &mut [f64],
+    filt_cov: &mut [f64],
+    kinds: &mut [u8],
+    v: &mut [f64],
+    f_star: &mut [f64],
+    f_inf: &mut [f64],
+    m_star: &mut [f64],
+    m_inf: &mut [f64],
+) -> filter::Outcome {
     let ones = [1.0; 2];
     let zeros = [0.0; 2];
     let none = [0.0; 0];
-    let nan = 0.0 / 0.0;
-    let mut pred_mean = [nan; 4];
-    let mut pred_cov = [nan; 4];
-    let mut pred_inf = [nan; 4];
-    let mut filt_mean = [nan; 4];
-    let mut filt_cov = [nan; 4];
-    let mut kinds = [9u8; 4];
-    let mut v = [nan; 4];
-    let mut f_star = [nan; 4];
-    let mut f_inf = [nan; 4];
-    let mut m_star = [nan; 4];
-    let mut m_inf = [nan; 4];
-    let o = filter::filter_univariate(
+    filter::filter_univariate(
         p,
         m,
         1,
@@ -119,35 +118,57 @@ pub fn run(
         &[p_star],
         &[flag],
         y,
-        &mut pred_mean,
-        &mut pred_cov,
-        &mut pred_inf,
-        &mut filt_mean,
-        &mut filt_cov,
-        &mut kinds,
-        &mut v,
-        &mut f_star,
-        &mut f_inf,
-        &mut m_star,
-        &mut m_inf,
-    );
+        pred_mean,
+        pred_cov,
+        pred_inf,
+        filt_mean,
+        filt_cov,
+        kinds,
+        v,
+        f_star,
+        f_inf,
+        m_star,
+        m_inf,
+    )
+}
+
+// All that the filter's figures ask for.
+fn kept(
+    o: filter::Outcome,
+    pred_mean: &[f64; 4],
+    pred_cov: &[f64; 4],
+    pred_inf: &[f64; 4],
+    filt_mean: &[f64; 4],
+    filt_cov: &[f64; 4],
+    kinds: &[u8; 4],
+    v: &[f64; 4],
+    f_star: &[f64; 4],
+    f_inf: &[f64; 4],
+) -> [u64; 64] {
     let mut out = [0u64; 64];
     keep_answer(&mut out, o);
-    keep(&mut out, &pred_mean, PRED_MEAN);
-    keep(&mut out, &pred_cov, PRED_COV);
-    keep(&mut out, &pred_inf, PRED_INF);
-    keep(&mut out, &filt_mean, FILT_MEAN);
-    keep(&mut out, &filt_cov, FILT_COV);
-    keep_kinds(&mut out, &kinds);
-    keep(&mut out, &v, V);
-    keep(&mut out, &f_star, F_STAR);
-    keep(&mut out, &f_inf, F_INF);
+    keep(&mut out, pred_mean, PRED_MEAN);
+    keep(&mut out, pred_cov, PRED_COV);
+    keep(&mut out, pred_inf, PRED_INF);
+    keep(&mut out, filt_mean, FILT_MEAN);
+    keep(&mut out, filt_cov, FILT_COV);
+    keep_kinds(&mut out, kinds);
+    keep(&mut out, v, V);
+    keep(&mut out, f_star, F_STAR);
+    keep(&mut out, f_inf, F_INF);
     out
 }
 
-// T = H = 1, flagged, P* = 0, through the smoother's call: the answer and the smoothed outputs.
-pub fn smoothed(y: &[f64]) -> [u64; 64] {
-    let none = [0.0; 0];
+pub fn run(
+    p: usize,
+    m: usize,
+    n: usize,
+    h: &[f64],
+    t: f64,
+    p_star: f64,
+    flag: u8,
+    y: &[f64],
+) -> [u64; 64] {
     let nan = 0.0 / 0.0;
     let mut pred_mean = [nan; 4];
     let mut pred_cov = [nan; 4];
@@ -160,9 +181,60 @@ pub fn smoothed(y: &[f64]) -> [u64; 64] {
     let mut f_inf = [nan; 4];
     let mut m_star = [nan; 4];
     let mut m_inf = [nan; 4];
-    let mut sm_mean = [nan; 4];
-    let mut sm_cov = [nan; 4];
-    let o = smoother::smooth_univariate(
+    let o = filtered(
+        p,
+        m,
+        n,
+        h,
+        t,
+        p_star,
+        flag,
+        y,
+        &mut pred_mean,
+        &mut pred_cov,
+        &mut pred_inf,
+        &mut filt_mean,
+        &mut filt_cov,
+        &mut kinds,
+        &mut v,
+        &mut f_star,
+        &mut f_inf,
+        &mut m_star,
+        &mut m_inf,
+    );
+    kept(
+        o,
+        &pred_mean,
+        &pred_cov,
+        &pred_inf,
+        &filt_mean,
+        &filt_cov,
+        &kinds,
+        &v,
+        &f_star,
+        &f_inf,
+    )
+}
+
+// The smoother's call on lent outputs: T = H = 1, flagged, P* = 0.
+fn smoothed_into(
+    y: &[f64],
+    pred_mean: &mut [f64],
+    pred_cov: &mut [f64],
+    pred_inf: &mut [f64],
+    filt_mean: &mut [f64],
+    filt_cov: &mut [f64],
+    kinds: &mut [u8],
+    v: &mut [f64],
+    f_star: &mut [f64],
+    f_inf: &mut [f64],
+    m_star: &mut [f64],
+    m_inf: &mut [f64],
+    sm_mean: &mut [f64],
+    sm_cov: &mut [f64],
+) -> filter::Outcome {
+    let none = [0.0; 0];
+    smoother::smooth_univariate(
         1,
         1,
         1,
@@ -178,6 +250,40 @@ pub fn smoothed(y: &[f64]) -> [u64; 64] {
         &[0.0],
         &[0.0],
         &[1],
+        y,
+        pred_mean,
+        pred_cov,
+        pred_inf,
+        filt_mean,
+        filt_cov,
+        kinds,
+        v,
+        f_star,
+        f_inf,
+        m_star,
+        m_inf,
+        sm_mean,
+        sm_cov,
+    )
+}
+
+// The answer and the smoothed outputs.
+pub fn smoothed(y: &[f64]) -> [u64; 64] {
+    let nan = 0.0 / 0.0;
+    let mut pred_mean = [nan; 4];
+    let mut pred_cov = [nan; 4];
+    let mut pred_inf = [nan; 4];
+    let mut filt_mean = [nan; 4];
+    let mut filt_cov = [nan; 4];
+    let mut kinds = [9u8; 4];
+    let mut v = [nan; 4];
+    let mut f_star = [nan; 4];
+    let mut f_inf = [nan; 4];
+    let mut m_star = [nan; 4];
+    let mut m_inf = [nan; 4];
+    let mut sm_mean = [nan; 4];
+    let mut sm_cov = [nan; 4];
+    let o = smoothed_into(
         y,
         &mut pred_mean,
         &mut pred_cov,
