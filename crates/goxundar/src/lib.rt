@@ -1,9 +1,153 @@
-// The calls by the C calling convention: numbers as themselves, a slice as pointer and length. 0 says that the answer stands in the last four
-// places; 1 to 12 is the refusal's number, and these stay as they were.
+// The public library: the filter's call and the smoother's, from Rattle and by the C calling convention. None asks anything of its caller.
 ghost use Rattle.definition.specs.Outcome.{outcome, smoothOutcome};
 ghost use Rattle.model.specs.Given.{modelOf, offsetsOf};
 ghost use Rattle.passes.specs.View.{covParts, meanParts};
+ghost use Rattle.filter.specs.Promise.{Promise};
+ghost use Rattle.smoother.specs.Promise.{PromiseSmooth};
 ghost use Rattle.goxundar.specs.Exported.{places, Told, Exported, ExportedSmooth};
+
+// The filter's call: refused with its number, or answered.
+pub fn filter<'a>(
+    p: usize,
+    m: usize,
+    r: usize,
+    n: usize,
+    z: &'a [f64],
+    zs: &'a [f64],
+    h: &[f64],
+    t: &[f64],
+    rr: &[f64],
+    q: &[f64],
+    c: &[f64],
+    d: &[f64],
+    a1: &[f64],
+    p_star: &[f64],
+    flags: &[u8],
+    y: &[f64],
+    pred_mean: &mut [f64],
+    pred_cov: &mut [f64],
+    pred_inf: &mut [f64],
+    filt_mean: &mut [f64],
+    filt_cov: &mut [f64],
+    kinds: &mut [u8],
+    v: &mut [f64],
+    f_star: &mut [f64],
+    f_inf: &mut [f64],
+    m_star: &mut [f64],
+    m_inf: &mut [f64],
+) -> filter::Outcome
+    ensures { λ o. ⌜ Promise (outcome (modelOf p m r n (now (z .entry)) (now (zs .entry)) (now (h .entry)) (now (t .entry)) (now (rr .entry)) (now (q .entry)) (now («p_star» .entry)) (now (flags .entry)))
+        (offsetsOf (now (c .entry)) (now (d .entry)) (now (a1 .entry))) (now (y .entry))
+        (covParts (now («pred_cov» .entry)) (now («pred_inf» .entry)) (now («filt_cov» .entry)) (now (kinds .entry)) (now («f_star» .entry)) (now («f_inf» .entry)) (now («m_star» .entry)) (now («m_inf» .entry)))
+        (meanParts (now («pred_mean» .entry)) (now («filt_mean» .entry)) (now (v .entry)))) o
+        (covParts (now («pred_cov» .exit)) (now («pred_inf» .exit)) (now («filt_cov» .exit)) (now (kinds .exit)) (now («f_star» .exit)) (now («f_inf» .exit)) (now («m_star» .exit)) (now («m_inf» .exit)))
+        (meanParts (now («pred_mean» .exit)) (now («filt_mean» .exit)) (now (v .exit))) ⌝ }
+{
+    filter::filter_univariate(
+        p,
+        m,
+        r,
+        n,
+        z,
+        zs,
+        h,
+        t,
+        rr,
+        q,
+        c,
+        d,
+        a1,
+        p_star,
+        flags,
+        y,
+        pred_mean,
+        pred_cov,
+        pred_inf,
+        filt_mean,
+        filt_cov,
+        kinds,
+        v,
+        f_star,
+        f_inf,
+        m_star,
+        m_inf,
+    )
+}
+
+// The smoother's call: the filter's with two outputs more.
+pub fn smooth<'a>(
+    p: usize,
+    m: usize,
+    r: usize,
+    n: usize,
+    z: &'a [f64],
+    zs: &'a [f64],
+    h: &[f64],
+    t: &[f64],
+    rr: &[f64],
+    q: &[f64],
+    c: &[f64],
+    d: &[f64],
+    a1: &[f64],
+    p_star: &[f64],
+    flags: &[u8],
+    y: &[f64],
+    pred_mean: &mut [f64],
+    pred_cov: &mut [f64],
+    pred_inf: &mut [f64],
+    filt_mean: &mut [f64],
+    filt_cov: &mut [f64],
+    kinds: &mut [u8],
+    v: &mut [f64],
+    f_star: &mut [f64],
+    f_inf: &mut [f64],
+    m_star: &mut [f64],
+    m_inf: &mut [f64],
+    sm_mean: &mut [f64],
+    sm_cov: &mut [f64],
+) -> filter::Outcome
+    ensures { λ o. ⌜ PromiseSmooth (smoothOutcome (modelOf p m r n (now (z .entry)) (now (zs .entry)) (now (h .entry)) (now (t .entry)) (now (rr .entry)) (now (q .entry)) (now («p_star» .entry)) (now (flags .entry)))
+        (offsetsOf (now (c .entry)) (now (d .entry)) (now (a1 .entry))) (now (y .entry))
+        (covParts (now («pred_cov» .entry)) (now («pred_inf» .entry)) (now («filt_cov» .entry)) (now (kinds .entry)) (now («f_star» .entry)) (now («f_inf» .entry)) (now («m_star» .entry)) (now («m_inf» .entry)))
+        (meanParts (now («pred_mean» .entry)) (now («filt_mean» .entry)) (now (v .entry))) (now («sm_cov» .entry)) (now («sm_mean» .entry))) o
+        (covParts (now («pred_cov» .exit)) (now («pred_inf» .exit)) (now («filt_cov» .exit)) (now (kinds .exit)) (now («f_star» .exit)) (now («f_inf» .exit)) (now («m_star» .exit)) (now («m_inf» .exit)))
+        (meanParts (now («pred_mean» .exit)) (now («filt_mean» .exit)) (now (v .exit))) (now («sm_mean» .exit)) (now («sm_cov» .exit)) ⌝ }
+{
+    smoother::smooth_univariate(
+        p,
+        m,
+        r,
+        n,
+        z,
+        zs,
+        h,
+        t,
+        rr,
+        q,
+        c,
+        d,
+        a1,
+        p_star,
+        flags,
+        y,
+        pred_mean,
+        pred_cov,
+        pred_inf,
+        filt_mean,
+        filt_cov,
+        kinds,
+        v,
+        f_star,
+        f_inf,
+        m_star,
+        m_inf,
+        sm_mean,
+        sm_cov,
+    )
+}
+
+// ---- by the C calling convention: numbers as themselves, a slice as pointer and length. 0 says that the answer stands in the last four places; 1 to 12
+// is the refusal's number, and these stay as they were.
 
 // The outcome as a number, and the answer in its places.
 fn tell(
