@@ -2,3 +2,4 @@ pub mod Again
 pub mod Laws
 pub mod Locals
 pub mod Shared
+pub mod Told

@@ -45,7 +45,7 @@ use Rattle.model.specs.Given.{modelOf, offsetsOf}
 use Rattle.passes.specs.View.{covParts, meanParts}
 use Rattle.filter.specs.Promise.{Promise}
 use Rattle.listed.specs.Listed.{outcomeListed, toTell, capped, Listed}
-use Rattle.listed.proofs.Laws.{listed-so}
+use Rattle.listed.proofs.Told.{listed-so}
 use Rattle.record.specs.Records.{filled}
 use Rattle.record.specs.declared.Record.{Record}
 use Rattle.record.proofs.Record as T
@@ -239,7 +239,7 @@ module _ {M : Type 1} (𝓤 : URA M) (H : Heap 𝓤) (A : Atoms 𝓤) (W : Given
 
     -- ---- the end
 
-    exits : (r : Outcome) (w : Val) (is : Is Row r (w ∷ [])) (zo : List Record) → (Listed (n3 * n0) (outcomeListed (modelOf n0 n1 n2 n3 (s4 .now) (s5 .now) (s6 .now) (s7 .now) (s8 .now) (s9 .now) (s13 .now) (s14 .now)) (offsetsOf (s10 .now) (s11 .now) (s12 .now)) (s15 .now) (covParts (s17 .now) (s18 .now) (s20 .now) l0 l2 l3 (s25 .now) (s26 .now)) (meanParts (s16 .now) (s19 .now) l1) (length (out .now))) r (covParts (zs .1 .1 .1 .1 .1 .1 .1 .1 .1 .1 .1 .1 .1 .1 .1 .1 .1 .0) (zs .1 .1 .1 .1 .1 .1 .1 .1 .1 .1 .1 .1 .1 .1 .1 .1 .1 .1 .0) (zs .1 .1 .1 .1 .1 .1 .1 .1 .1 .1 .1 .1 .1 .1 .1 .1 .1 .1 .1 .1 .0) (zs .1 .1 .1 .1 .1 .1 .1 .1 .1 .1 .1 .1 .1 .1 .1 .1 .1 .1 .1 .1 .1 .0) (zs .1 .1 .1 .1 .1 .1 .1 .1 .1 .1 .1 .1 .1 .1 .1 .1 .1 .1 .1 .1 .1 .1 .1 .0) (zs .1 .1 .1 .1 .1 .1 .1 .1 .1 .1 .1 .1 .1 .1 .1 .1 .1 .1 .1 .1 .1 .1 .1 .1 .0) (zs .1 .1 .1 .1 .1 .1 .1 .1 .1 .1 .1 .1 .1 .1 .1 .1 .1 .1 .1 .1 .1 .1 .1 .1 .1 .0) (zs .1 .1 .1 .1 .1 .1 .1 .1 .1 .1 .1 .1 .1 .1 .1 .1 .1 .1 .1 .1 .1 .1 .1 .1 .1 .1 .0)) (meanParts (zs .1 .1 .1 .1 .1 .1 .1 .1 .1 .1 .1 .1 .1 .1 .1 .1 .0) (zs .1 .1 .1 .1 .1 .1 .1 .1 .1 .1 .1 .1 .1 .1 .1 .1 .1 .1 .1 .0) (zs .1 .1 .1 .1 .1 .1 .1 .1 .1 .1 .1 .1 .1 .1 .1 .1 .1 .1 .1 .1 .1 .1 .0)) (out .now) zo) → length zo ≡ length (out .now) → ent 𝓤 (⋆ 𝓤 H A (Last zo)) (Post w)
+    exits : (r : Outcome) (w : Val) (is : Is Row r (w ∷ [])) (zo : List Record) → (Listed (modelOf n0 n1 n2 n3 (s4 .now) (s5 .now) (s6 .now) (s7 .now) (s8 .now) (s9 .now) (s13 .now) (s14 .now)) (offsetsOf (s10 .now) (s11 .now) (s12 .now)) (s15 .now) (covParts (s17 .now) (s18 .now) (s20 .now) l0 l2 l3 (s25 .now) (s26 .now)) (meanParts (s16 .now) (s19 .now) l1) (out .now) r (covParts (zs .1 .1 .1 .1 .1 .1 .1 .1 .1 .1 .1 .1 .1 .1 .1 .1 .1 .0) (zs .1 .1 .1 .1 .1 .1 .1 .1 .1 .1 .1 .1 .1 .1 .1 .1 .1 .1 .0) (zs .1 .1 .1 .1 .1 .1 .1 .1 .1 .1 .1 .1 .1 .1 .1 .1 .1 .1 .1 .1 .0) (zs .1 .1 .1 .1 .1 .1 .1 .1 .1 .1 .1 .1 .1 .1 .1 .1 .1 .1 .1 .1 .1 .0) (zs .1 .1 .1 .1 .1 .1 .1 .1 .1 .1 .1 .1 .1 .1 .1 .1 .1 .1 .1 .1 .1 .1 .1 .0) (zs .1 .1 .1 .1 .1 .1 .1 .1 .1 .1 .1 .1 .1 .1 .1 .1 .1 .1 .1 .1 .1 .1 .1 .1 .0) (zs .1 .1 .1 .1 .1 .1 .1 .1 .1 .1 .1 .1 .1 .1 .1 .1 .1 .1 .1 .1 .1 .1 .1 .1 .1 .0) (zs .1 .1 .1 .1 .1 .1 .1 .1 .1 .1 .1 .1 .1 .1 .1 .1 .1 .1 .1 .1 .1 .1 .1 .1 .1 .1 .0)) (meanParts (zs .1 .1 .1 .1 .1 .1 .1 .1 .1 .1 .1 .1 .1 .1 .1 .1 .0) (zs .1 .1 .1 .1 .1 .1 .1 .1 .1 .1 .1 .1 .1 .1 .1 .1 .1 .1 .1 .0) (zs .1 .1 .1 .1 .1 .1 .1 .1 .1 .1 .1 .1 .1 .1 .1 .1 .1 .1 .1 .1 .1 .1 .0)) zo) → length zo ≡ length (out .now) → ent 𝓤 (⋆ 𝓤 H A (Last zo)) (Post w)
     exits r w is zo so lo =
         qed W (Last zo) ∵
         suffices ! _ (ends-at 𝓤 H A f.ended stayed (f.clauses 𝓤 H A mem run) W ((κs, qs, tt, x, at), tt) w r (tt, (tt, (tt, (tt, (tt, (tt, (tt, (tt, (tt, (tt, (tt, (tt, (tt, (tt, (tt, (tt, ((zs .1 .1 .1 .1 .1 .1 .1 .1 .1 .1 .1 .1 .1 .1 .1 .1 .0), ((zs .1 .1 .1 .1 .1 .1 .1 .1 .1 .1 .1 .1 .1 .1 .1 .1 .1 .0), ((zs .1 .1 .1 .1 .1 .1 .1 .1 .1 .1 .1 .1 .1 .1 .1 .1 .1 .1 .0), ((zs .1 .1 .1 .1 .1 .1 .1 .1 .1 .1 .1 .1 .1 .1 .1 .1 .1 .1 .1 .0), ((zs .1 .1 .1 .1 .1 .1 .1 .1 .1 .1 .1 .1 .1 .1 .1 .1 .1 .1 .1 .1 .0), ((zs .1 .1 .1 .1 .1 .1 .1 .1 .1 .1 .1 .1 .1 .1 .1 .1 .1 .1 .1 .1 .1 .0), ((zs .1 .1 .1 .1 .1 .1 .1 .1 .1 .1 .1 .1 .1 .1 .1 .1 .1 .1 .1 .1 .1 .1 .0), ((zs .1 .1 .1 .1 .1 .1 .1 .1 .1 .1 .1 .1 .1 .1 .1 .1 .1 .1 .1 .1 .1 .1 .1 .0), ((zs .1 .1 .1 .1 .1 .1 .1 .1 .1 .1 .1 .1 .1 .1 .1 .1 .1 .1 .1 .1 .1 .1 .1 .1 .0), ((zs .1 .1 .1 .1 .1 .1 .1 .1 .1 .1 .1 .1 .1 .1 .1 .1 .1 .1 .1 .1 .1 .1 .1 .1 .1 .0), ((zs .1 .1 .1 .1 .1 .1 .1 .1 .1 .1 .1 .1 .1 .1 .1 .1 .1 .1 .1 .1 .1 .1 .1 .1 .1 .1 .0), (zo, tt)))))))))))))))))))))))))))) (tt, (tt, (tt, (tt, (tt, (tt, (tt, (tt, (tt, (tt, (tt, (tt, (tt, (tt, (tt, (tt, ((g .0), ((g .1), ((g .2), ((g .3), ((g .4), ((g .5), ((g .6), ((g .7), ((g .8), ((g .9), ((g .10), (lo, tt))))))))))))))))))))))))))))) $ says ! so $
@@ -281,7 +281,7 @@ module _ {M : Type 1} (𝓤 : URA M) (H : Heap 𝓤) (A : Atoms 𝓤) (W : Given
         land ! (from ! (stop !)) (init ! 21 refl (subst (λ (v : Val). Holds (hasTy tyUnit v) × WT v) (sym (ap only (fo .0))) (tt, tt))) $ assigns ! (of-opd ! (load ! (from ! (stop !)) (look ! 69 refl))) (from ! (stop !)) (init ! 129 refl (EL.lawful O.the-type O′.the-laws 𝓤 H A W tt .typed r (w ∷ []) (so .0) .0)) $
         returns ! (look ! 129 refl) $
         dies ! 129 refl refl $ dies ! 127 refl refl $ dies ! 125 refl refl $ dies ! 123 refl refl $ dies ! 121 refl refl $ dies ! 119 refl refl $ dies ! 117 refl refl $ dies ! 115 refl refl $ dies ! 113 refl refl $ dies ! 111 refl refl $ dies ! 109 refl refl $ dies ! 107 refl refl $ dies ! 105 refl refl $ dies ! 103 refl refl $ dies ! 101 refl refl $ dies ! 99 refl refl $ dies ! 97 refl refl $ dies ! 95 refl refl $ dies ! 93 refl refl $ dies ! 91 refl refl $ dies ! 89 refl refl $ dies ! 87 refl refl $ dies ! 85 refl refl $ dies ! 83 refl refl $ dies ! 81 refl refl $ dies ! 79 refl refl $ dies ! 77 refl refl $ dies ! 75 refl refl $ dies ! 73 refl refl $ dies ! 71 refl refl $ dies ! 69 refl refl $ dies ! 67 refl refl $ dies ! 65 refl refl $ dies ! 63 refl refl $ dies ! 61 refl refl $ dies ! 59 refl refl $ dies ! 57 refl refl $ dies ! 55 refl refl $ dies ! 53 refl refl $ dies ! 51 refl refl $ dies ! 49 refl refl $ dies ! 47 refl refl $ dies ! 45 refl refl $ dies ! 43 refl refl $ dies ! 41 refl refl $ dies ! 39 refl refl $ dies ! 37 refl refl $ dies ! 35 refl refl $ dies ! 33 refl refl $ dies ! 31 refl refl $ dies ! 29 refl refl $ dies ! 27 refl refl $ dies ! 25 refl refl $ dies ! 23 refl refl $ dies ! 21 refl refl $ dies ! 19 refl refl $ dies ! 17 refl refl $ dies ! 15 refl refl $ dies ! 13 refl refl $ dies ! 11 refl refl $ dies ! 9 refl refl $ dies ! 7 refl refl $ dies ! 5 refl refl $ dies ! 3 refl refl $ dies ! 1 refl refl $ free0 ! $
-        by ! (exits zs (so .2) k (ks .1 .1) r w (so .0) zo (listed-so _ _ _ _ _ _ _ _ _ _ _ _ _ _ _ _ _ _ _ _ _ (so .1) (ks .0) (fo .1)) (fo .2)))))))))))))))))))))))))))))))))))))))))))))))))))))))))))))))))))))))))))))))
+        by ! (exits zs (so .2) k (ks .1 .1) r w (so .0) zo (listed-so _ _ _ _ _ _ _ _ _ _ _ _ _ _ _ _ _ _ _ _ (so .1) (ks .0) (fo .1)) (fo .2)))))))))))))))))))))))))))))))))))))))))))))))))))))))))))))))))))))))))))))))
 
 module _ {M : Type 1} (𝓤 : URA M) (H : Heap 𝓤) (A : Atoms 𝓤) (W : Given 𝓤 H A) (mem : Memory → SProp 𝓤) (run : Routine → Fun 𝓤) where
   walks : (C : Calls 𝓤 H) (Λ : Loops 𝓤 H) → FmC 𝓤 H (W .laws) C → Triple 𝓤 (C #flat) (Flat 𝓤 H A mem run) → Triple 𝓤 (C #tell) (Tell 𝓤 H A mem run) → Triple 𝓤 (C #fill) (Fill 𝓤 H A mem run) → Walks 𝓤 H A f.ended stayed (WpFn 𝓤 H C Λ code.function) (f.clauses 𝓤 H A mem run)
