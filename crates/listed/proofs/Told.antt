@@ -3,8 +3,8 @@ use mathlib.Core.Path.{_≡_, refl, sym, ap, ap₂, subst, _∙_}
 use Prim.Native.Nat.{ℕ, zero, suc, _*_, _≤_}
 use native.Mathlib.Omega.{arith}
 use mathlib.Core.Bool.{Bool, true, false, _&&_, cond}
-use mathlib.Core.List.{List, [], _∷_, _++_, map}
-use lib.ListN.{length, drop, replicate, length-map}
+use mathlib.Core.List.{List, [], _∷_, map}
+use lib.ListN.{length, replicate, length-map}
 use lib.Dec.{leb}
 use lib.Ieee.{Float}
 use borrow.Author.Tests.{leb-true, ne-eqb}
@@ -12,7 +12,7 @@ use Rattle.definition.specs.Num.{tabFrom}
 use Rattle.definition.specs.Run.{anyOf, lay, join}
 use Rattle.definition.specs.Cov.{Decision, CovPeriod}
 use Rattle.definition.specs.Mean.{MeanPeriod}
-use Rattle.definition.specs.Parts.{fStar, fInf, innovations, kindNo, fStarOf, fInfOf, kindBlock, covBlock, meanBlock}
+use Rattle.definition.specs.Parts.{fStar, fInf, innovations, fStarOf, fInfOf, covBlock, meanBlock}
 use Rattle.definition.specs.Inputs.{Model, Offsets, Kind, kindOf, isInfinity, systemOf, systemFrom, startOf}
 use Rattle.definition.specs.Refusals.{outside, refusal, tests, firstOf}
 use Rattle.definition.specs.Outcome.{CovParts, MeanParts, Fate, turned, silent, answered, fate, fateOf, numberOf, after, kindsNeed, kindsWritten, covWritten, meanWritten, decisionsOf, covOf, meanOf, countsOf, noInformation, covOutcome, meanOutcome, roomy, roomySmoothed}
@@ -21,11 +21,11 @@ use Rattle.laws.specs.ReadBack.{AllOf, Whole, map-map, map-join, kinds-join}
 use Rattle.laws.specs.Shapes.{run-whole, run-length}
 use Rattle.laws.specs.Backward.{LongP}
 use Rattle.laws.specs.Numbered.{refusal-le}
-use Rattle.laws.specs.Accepted.{Accepted, accepted, in-range}
+use Rattle.laws.specs.Accepted.{accepted, in-range}
 use Rattle.mean_back.specs.Looked.{mean-long, mean-sized}
 use Rattle.passes.specs.View.{covParts, meanParts}
 use Rattle.filter.specs.declared.Outcome.{Outcome}
-use Rattle.filter.specs.declared.Outcome.the-variants.{Refused, Answered}
+use Rattle.filter.specs.declared.Outcome.the-variants.{Refused}
 use Rattle.filter.specs.Promise.{Promise, answerBy}
 use Rattle.filter.specs.Ends as ends
 use Rattle.smoother.specs.Promise.{PromiseSmooth}
