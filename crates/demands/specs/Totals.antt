@@ -20,9 +20,9 @@ use Rattle.definition.specs.Outcome.{CovParts, MeanParts, CovOutcome, Counts, F
 use Rattle.definition.specs.Computed.{opened}
 use Rattle.definition.specs.Tracks.{heard-is}
 use Rattle.laws.specs.Lists.{length-join, length-chunks, place-lt}
-use Rattle.laws.specs.ReadBack.{AllOf, kinds-join, kinds-count}
+use Rattle.laws.specs.ReadBack.{AllOf, kinds-join, kinds-count, each-many}
 use Rattle.laws.specs.Shapes.{run-whole, run-length, first-ones, period-first}
-use Rattle.demands.specs.Unheard.{answered-by, readings-fit, each-many, noPeriod}
+use Rattle.demands.specs.Unheard.{answered-by, readings-fit, noPeriod}
 
 -- the periods of a call's run, as the covariance track leaves them: each says whether it is diffuse
 abbrev pub periodsOf : Model → List Float → List CovPeriod

@@ -19,7 +19,7 @@ use Rattle.definition.specs.Parts.{kindNo, kindBlock}
 use Rattle.definition.specs.Outcome.{answered, fateOf, fate, kindsWritten, covOf, meanOf, countsOf, decisionsOf, noInformation}
 use Rattle.definition.specs.Tracks.{finite-kind, skip-unheard}
 use Rattle.laws.specs.Lists.{scan-set, map-set, pairs-set, pairs-at, chunks-set, length-chunks, chunks-each, Each, join-at, length-join, each-at, place-lt, count-set, anyOf-set}
-use Rattle.laws.specs.ReadBack.{AllOf, Whole, getD-map-in, kinds-join}
+use Rattle.laws.specs.ReadBack.{getD-map-in, kinds-join, each-many}
 use Rattle.laws.specs.Shapes.{run-whole, run-length}
 use Rattle.laws.specs.Numbered.{none-refused}
 
@@ -140,10 +140,6 @@ skips : (d : Decision) → kindNo d ≡ 0 → d ≡ skipped
 skips skipped e = refl
 skips (usual f m*) e = absurd (omega arith)
 skips (diffuse f f∞ m* m∞) e = absurd (omega arith)
-
-pub each-many : (p m : ℕ) (cs : List CovPeriod) → AllOf (λ c. Whole p m (c .decisions)) cs → Each p (decisionsOf cs)
-each-many p m [] h = tt
-each-many p m (c ∷ cs) h = (h .0 .many, each-many p m cs (h .1))
 
 abbrev noDecision : Decision
 noDecision = usual 0ᶠ []

@@ -147,7 +147,7 @@ unfolding meanBlock
 each-mean p m [] h = tt
 each-mean p m (s ∷ ss) h = (h .0 .pred, each-mean p m ss (h .1))
 
-each-vs : (p m : ℕ) (ss : List MeanPeriod) → AllOf (LongP p m) ss → Each p (map (meanBlock innovations) ss)
+pub each-vs : (p m : ℕ) (ss : List MeanPeriod) → AllOf (LongP p m) ss → Each p (map (meanBlock innovations) ss)
 unfolding meanBlock
 each-vs p m [] h = tt
 each-vs p m (s ∷ ss) h = (h .0 .vs, each-vs p m ss (h .1))

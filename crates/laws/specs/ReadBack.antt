@@ -113,13 +113,22 @@ module _ (m : ℕ) (l : List Decision) (sh : AllOf (Shaped m) l) (tk : List ℕ)
       let s = all-at (Shaped m) l k skipped sh h in
       rw (number-back kindNo l tk k 0 h, number-back fStarOf l t1 k nan h, number-back fInfOf l t2 k nan h, vector-back m (mStarOf m) l t3 k (each-star m l sh) h (s .star), vector-back m (mInfOf m) l t4 k (each-inf m l sh) h (s .inf)) (again m d)
 
+-- something of each decision, period by period
+pub flat-of : {B : Type 0} (g : Decision → B) (cs : List CovPeriod) → join (map (λ c. map g (c .decisions)) cs) ≡ map g (join (map (λ c. c .decisions) cs))
+flat-of g cs = ap join (sym (map-map (map g) (λ c. c .decisions) cs)) ∙ map-join g (map (λ c. c .decisions) cs)
+
 -- the kinds of all periods, and how many of them are of a sort
 pub kinds-join : (cs : List CovPeriod) → join (map kindBlock cs) ≡ map kindNo (join (map (λ c. c .decisions) cs))
 unfolding kindBlock
-kinds-join cs = ap join (sym (map-map (map kindNo) (λ c. c .decisions) cs)) ∙ map-join kindNo (map (λ c. c .decisions) cs)
+kinds-join cs = flat-of kindNo cs
 
 pub kinds-count : (q : ℕ → Bool) (cs : List CovPeriod) → count q (join (map kindBlock cs)) ≡ count (λ (d : Decision). q (kindNo d)) (join (map (λ c. c .decisions) cs))
 kinds-count q cs = ap (count q) (kinds-join cs) ∙ count-map q kindNo (join (map (λ c. c .decisions) cs))
+
+-- p decisions in each period
+pub each-many : (p m : ℕ) (cs : List CovPeriod) → AllOf (λ c. Whole p m (c .decisions)) cs → Each p (map (λ c. c .decisions) cs)
+each-many p m [] h = tt
+each-many p m (c ∷ cs) h = (h .0 .many, each-many p m cs (h .1))
 
 -- the periods' decisions, from the parts that hold their blocks
 module _ (p m : ℕ) (cs : List CovPeriod) (wh : AllOf (λ c. Whole p m (c .decisions)) cs) where
@@ -136,11 +145,11 @@ module _ (p m : ℕ) (cs : List CovPeriod) (wh : AllOf (λ c. Whole p m (c .deci
 
   fs-flat : join (map (covBlock m fStar) cs) ≡ map fStarOf (join dss)
   unfolding covBlock dss
-  fs-flat = ap join (sym (map-map (map fStarOf) (λ c. c .decisions) cs)) ∙ map-join fStarOf (map (λ c. c .decisions) cs)
+  fs-flat = flat-of fStarOf cs
 
   fi-flat : join (map (covBlock m fInf) cs) ≡ map fInfOf (join dss)
   unfolding covBlock dss
-  fi-flat = ap join (sym (map-map (map fInfOf) (λ c. c .decisions) cs)) ∙ map-join fInfOf (map (λ c. c .decisions) cs)
+  fi-flat = flat-of fInfOf cs
 
   ms-flat : join (map (covBlock m mStar) cs) ≡ join (map (mStarOf m) (join dss))
   unfolding covBlock dss

@@ -3,7 +3,7 @@ use mathlib.Core.Path.{_≡_, refl, sym, ap, ap₂, subst, _∙_}
 use Prim.Native.Nat.{ℕ, zero, suc, _*_, _≤_}
 use native.Mathlib.Omega.{arith}
 use mathlib.Core.Bool.{Bool, true, false, _&&_, cond}
-use mathlib.Core.List.{List, [], _∷_, map}
+use mathlib.Core.List.{List, map}
 use lib.ListN.{length, replicate, length-map}
 use lib.Dec.{leb}
 use lib.Ieee.{Float}
@@ -11,15 +11,14 @@ use borrow.Author.Tests.{leb-true, ne-eqb}
 use Rattle.definition.specs.Num.{tabFrom}
 use Rattle.definition.specs.Run.{anyOf, lay, join}
 use Rattle.definition.specs.Cov.{Decision, CovPeriod}
-use Rattle.definition.specs.Mean.{MeanPeriod}
 use Rattle.definition.specs.Parts.{fStar, fInf, innovations, fStarOf, fInfOf, covBlock, meanBlock}
 use Rattle.definition.specs.Inputs.{Model, Offsets, Kind, kindOf, isInfinity, systemOf, systemFrom, startOf}
 use Rattle.definition.specs.Refusals.{outside, refusal, tests, firstOf}
 use Rattle.definition.specs.Outcome.{CovParts, MeanParts, Fate, turned, silent, answered, fate, fateOf, numberOf, after, kindsNeed, kindsWritten, covWritten, meanWritten, decisionsOf, covOf, meanOf, countsOf, noInformation, covOutcome, meanOutcome, roomy, roomySmoothed}
-use Rattle.laws.specs.Lists.{Each, length-join}
-use Rattle.laws.specs.ReadBack.{AllOf, Whole, map-map, map-join, kinds-join}
+use Rattle.laws.specs.Lists.{length-join}
+use Rattle.laws.specs.ReadBack.{flat-of, each-many, kinds-join}
 use Rattle.laws.specs.Shapes.{run-whole, run-length}
-use Rattle.laws.specs.Backward.{LongP}
+use Rattle.laws.specs.Backward.{each-vs}
 use Rattle.laws.specs.Numbered.{refusal-le}
 use Rattle.laws.specs.Accepted.{accepted, in-range}
 use Rattle.mean_back.specs.Looked.{mean-long, mean-sized}
@@ -36,19 +35,6 @@ use Rattle.listed.specs.Listed.{fateListed, outcomeListed, smoothOutcome
 use Rattle.listed.proofs.Laws.{all-of}
 
 -- ---- a run's numbers: n·p decisions, and as many v
-
-each-many : (p m : ℕ) (cs : List CovPeriod) → AllOf (λ c. Whole p m (c .decisions)) cs → Each p (decisionsOf cs)
-each-many p m [] h = tt
-each-many p m (c ∷ cs) h = (h .0 .many, each-many p m cs (h .1))
-
-each-vs : (p m : ℕ) (ss : List MeanPeriod) → AllOf (LongP p m) ss → Each p (map (meanBlock innovations) ss)
-unfolding meanBlock
-each-vs p m [] h = tt
-each-vs p m (s ∷ ss) h = (h .0 .vs, each-vs p m ss (h .1))
-
--- a number of each decision, block by block
-flat-of : {B : Type 0} (g : Decision → B) (cs : List CovPeriod) → join (map (λ c. map g (c .decisions)) cs) ≡ map g (join (decisionsOf cs))
-flat-of g cs = ap join (sym (map-map (map g) (λ c. c .decisions) cs)) ∙ map-join g (decisionsOf cs)
 
 module _ (x : Model) (o : Offsets) (y : List Float) where
   abbrev ks : List Kind

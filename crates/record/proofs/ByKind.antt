@@ -7,7 +7,7 @@ use lib.ListN.{getD}
 use Rattle.definition.specs.Num.{at}
 use Rattle.record.specs.Records.{skippedRecord, kindFrom, recordFrom, recordAt}
 use Rattle.record.specs.declared.Kind.{Kind}
-use Rattle.record.specs.declared.Kind.the-variants.{Skipped, Usual, Diffuse}
+use Rattle.record.specs.declared.Kind.the-variants.{Usual, Diffuse}
 use Rattle.record.specs.declared.Record.{Record}
 use Rattle.record.specs.declared.FlatRecord.{FlatRecord}
 
