@@ -34,6 +34,16 @@ fn local_level() {
     assert_eq!((nile.run().d_diffuse(), nile.run().heard(), nile.run().news()), (1, 100, 100));
     assert!(matches!(nile.run().record(0, 0), Record::Diffuse { f_inf: 1.0, .. }));
     near(nile.run().loglik(), -633.46456364888);
+    // The filtered level by hand: the first reading is all that is known of it; the second is weighed against a variance of 15099 + 1469.1.
+    let ahead = 15099.0 + 1469.1;
+    let by_hand = [(1120.0, 15099.0), (1120.0 + 40.0 * ahead / (ahead + 15099.0), 15099.0 * ahead / (ahead + 15099.0))];
+    for (t, (mean, variance)) in by_hand.into_iter().enumerate() {
+        near(nile.run().filtered(t).mean[0], mean);
+        near(nile.run().filtered(t).cov[0], variance);
+    }
+    // At the end its variance has settled: the positive root of x² = q·x + q·h is the predicted one.
+    let settled = (1469.1 + (1469.1f64 * 1469.1 + 4.0 * 1469.1 * 15099.0).sqrt()) / 2.0;
+    near(nile.run().filtered(99).cov[0], settled * 15099.0 / (settled + 15099.0));
     let outside = [(1111.66831913, 4032.15794181), (1110.85766462, 3242.93007322), (1105.26556731, 2818.94217005)];
     for (t, (mean, variance)) in outside.into_iter().enumerate() {
         near(nile.smoothed(t).mean[0], mean);
