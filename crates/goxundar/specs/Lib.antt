@@ -1,1 +1,2 @@
 pub mod Exported
+pub mod Fixed
