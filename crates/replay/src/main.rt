@@ -68,7 +68,8 @@ fn add(t: Tally, f: found::Found) -> Tally {
     t
 }
 
-fn print(t: Tally) {
+// `said`: how many cases the file says it has.
+fn print(t: Tally, said: usize) {
     io::print_decimal(1, t.cases);
     io::write_all(1, b" cases, ");
     io::print_decimal(1, t.differ);
@@ -76,6 +77,9 @@ fn print(t: Tally) {
     if t.differ > 0 {
         let f = t.first;
         found::print(t.at, f);
+    }
+    if t.cases != said as u64 {
+        io::write_all(1, b"the file ends before its last case\n");
     }
 }
 
@@ -103,5 +107,5 @@ fn main() {
         }
         t = add(t, both(&case));
     }
-    print(t);
+    print(t, n);
 }
