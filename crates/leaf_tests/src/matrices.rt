@@ -3,7 +3,6 @@ ghost use Prim.Native.Nat.{_≤_, _<_};
 ghost use lib.ListN.{length};
 ghost use Rattle.dense.specs.Places.{Sizes};
 use crate::words::apart64;
-use crate::words::double;
 use crate::words::doubles8;
 use crate::words::doubles64;
 use crate::words::size;
@@ -121,7 +120,7 @@ fn by_vectors(group: &[u8; 8616]) -> u64 {
     let a = doubles64(group, 8);
     let x = doubles8(group, 1032);
     let y = doubles8(group, 1096);
-    let s = double(word(group, 1160));
+    let s = bits::double(word(group, 1160));
     outer(&a, &x, &y, s, size(group, 3), group)
 }
 

@@ -3,7 +3,6 @@ ghost use Prim.Native.Nat.{_≤_, _<_};
 ghost use lib.ListN.{length};
 use crate::words::apart;
 use crate::words::apart8;
-use crate::words::double;
 use crate::words::doubles8;
 use crate::words::doubles64;
 use crate::words::size;
@@ -98,7 +97,7 @@ fn numbers(a: &[f64; 64], x: &[f64; 8], y: &[f64; 8], m: usize, group: &[u8; 861
 fn by_vectors(group: &[u8; 8616]) -> u64 {
     let x = doubles8(group, 1032);
     let y = doubles8(group, 1096);
-    let s = double(word(group, 1160));
+    let s = bits::double(word(group, 1160));
     let m = size(group, 3);
     wrapping_add_u64(scaling(&x, &y, s, m, group), moved(&x, m, group))
 }

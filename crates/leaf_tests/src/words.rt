@@ -1,7 +1,5 @@
 // A group's words: sizes, doubles by their bit patterns, and whether what a leaf answered has the bits that are wanted.
-ghost use mathlib.Core.Path.{_≡_};
 ghost use Prim.Native.Nat.{_≤_, _<_, _+_, _*_};
-ghost use lib.Ieee.{binary64, ofBits};
 
 // A size, at least 1 and at most 8.
 pub fn size(group: &[u8; 8616], at: usize) -> usize
@@ -37,22 +35,12 @@ pub fn word(group: &[u8; 8616], at: usize) -> u64
     half(group, at) | half(group, at + 4) << 32
 }
 
-// The double of a bit pattern, a NaN of every NaN's.
-pub fn double(w: u64) -> f64
-    ensures { λ r. ⌜ r ≡ ofBits binary64 w ⌝ }
-{
-    if w % 0x8000_0000_0000_0000 > 0x7FF0_0000_0000_0000 {
-        return 0.0 / 0.0;
-    }
-    f64::from_bits(w)
-}
-
 pub fn doubles64(group: &[u8; 8616], at: usize) -> [f64; 64]
     requires { ⌜ at + 512 ≤ 8616 ⌝ }
 {
     let mut out = [0.0; 64];
     for i in 0..64usize {
-        out[i] = double(word(group, at + 8 * i));
+        out[i] = bits::double(word(group, at + 8 * i));
     }
     out
 }
@@ -62,17 +50,14 @@ pub fn doubles8(group: &[u8; 8616], at: usize) -> [f64; 8]
 {
     let mut out = [0.0; 8];
     for i in 0..8usize {
-        out[i] = double(word(group, at + 8 * i));
+        out[i] = bits::double(word(group, at + 8 * i));
     }
     out
 }
 
 // 0 where x has the pattern w, or both are a NaN, and else 1.
 pub fn apart(x: f64, w: u64) -> u64 {
-    if float::is_nan(x) {
-        return (w != 0x7FF8_0000_0000_0000) as u64;
-    }
-    (f64::to_bits(x) != w) as u64
+    (bits::pattern(x) != w) as u64
 }
 
 // 0 where the first n places have the bits that the group has from `at` on, and else 1.
