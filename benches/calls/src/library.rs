@@ -1,6 +1,7 @@
-//! The library's two calls, by the C calling convention, as its header declares them.
+//! The library's two calls, by the C calling convention, as the Rust crate (bindings/rust) declares them.
 
 use crate::lent::Args;
+use goxundar::raw::{goxundar_filter, goxundar_smooth};
 
 /// Which of the two calls.
 #[derive(Debug, Clone, Copy, PartialEq, Eq)]
@@ -26,36 +27,6 @@ impl Call {
             Call::Smooth => 13,
         }
     }
-}
-
-type In = *const f64;
-type Out = *mut f64;
-
-#[rustfmt::skip]
-extern "C" {
-    fn goxundar_filter(
-        p: usize, m: usize, r: usize, n: usize,
-        z: In, z_len: usize, zs: In, zs_len: usize, h: In, h_len: usize, t: In, t_len: usize,
-        rr: In, rr_len: usize, q: In, q_len: usize, c: In, c_len: usize, d: In, d_len: usize,
-        a1: In, a1_len: usize, p_star: In, p_star_len: usize, flags: *const u8, flags_len: usize, y: In, y_len: usize,
-        pred_mean: Out, pred_mean_len: usize, pred_cov: Out, pred_cov_len: usize, pred_inf: Out, pred_inf_len: usize,
-        filt_mean: Out, filt_mean_len: usize, filt_cov: Out, filt_cov_len: usize,
-        kinds: *mut u8, kinds_len: usize, v: Out, v_len: usize, f_star: Out, f_star_len: usize, f_inf: Out, f_inf_len: usize,
-        m_star: Out, m_star_len: usize, m_inf: Out, m_inf_len: usize,
-        loglik: *mut f64, d_diffuse: *mut usize, heard: *mut usize, news: *mut usize,
-    ) -> u32;
-    fn goxundar_smooth(
-        p: usize, m: usize, r: usize, n: usize,
-        z: In, z_len: usize, zs: In, zs_len: usize, h: In, h_len: usize, t: In, t_len: usize,
-        rr: In, rr_len: usize, q: In, q_len: usize, c: In, c_len: usize, d: In, d_len: usize,
-        a1: In, a1_len: usize, p_star: In, p_star_len: usize, flags: *const u8, flags_len: usize, y: In, y_len: usize,
-        pred_mean: Out, pred_mean_len: usize, pred_cov: Out, pred_cov_len: usize, pred_inf: Out, pred_inf_len: usize,
-        filt_mean: Out, filt_mean_len: usize, filt_cov: Out, filt_cov_len: usize,
-        kinds: *mut u8, kinds_len: usize, v: Out, v_len: usize, f_star: Out, f_star_len: usize, f_inf: Out, f_inf_len: usize,
-        m_star: Out, m_star_len: usize, m_inf: Out, m_inf_len: usize,
-        sm_mean: Out, sm_mean_len: usize, sm_cov: Out, sm_cov_len: usize,
-        loglik: *mut f64, d_diffuse: *mut usize, heard: *mut usize, news: *mut usize,
-    ) -> u32;
 }
 
 /// The call with these arguments: 0, or the refusal's number. The filter's does not see the two smoothed parts.
