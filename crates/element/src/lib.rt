@@ -392,7 +392,7 @@ fn step(p: &mut [f64; 64], t: &[f64; 64], tp: &mut [f64; 64], m: usize)
     requires { ⌜ m ≤ 8 ⌝ }
     ensures { λ _. ⌜ mat m (now (p .exit)) ≡ sandwich m (mat m (now (t .entry))) (mat m (now (p .entry))) ⌝ }
 {
-    products::product_into(tp, t, p, m, m, m);
+    products::mul_into(tp, t, p, m);
     products::product_t_into(p, tp, t, m, m, m);
 }
 
@@ -432,7 +432,7 @@ pub fn go_on(
     step_star(star, t, rqr, &mut tp, m);
     step_inf(p_inf, t, &mut tp, m);
     if diffuse {
-        products::product_into(&mut tp, t, root, m, m, m);
+        products::mul_into(&mut tp, t, root, m);
         *root = tp;
         step(unres, t, &mut tp, m);
     }

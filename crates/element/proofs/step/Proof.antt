@@ -4,7 +4,7 @@ use borrow.Author.Needs.{needs}
 use Rattle.element.proofs.Whole as whole
 
 returns : tie.Need-returns
-returns c = whole.by-t _ _ _ (c .before .before .before .product-into .ensures) (c .product-t-into .ensures)
+returns c = whole.by-t _ _ _ (c .before .before .before .mul-into .ensures) (c .product-t-into .ensures)
 
 pub step-spec : {M : Type 1} → statement M
 step-spec = tie.close (tie.spec (λ c κs. search needs) (λ c κs. search needs) returns)
