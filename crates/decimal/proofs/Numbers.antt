@@ -1,16 +1,15 @@
 -- Laws of the reader: a loop's step, and the cases of the definitions by the list's length. Assumes nothing.
-use mathlib.Core.Path.{_≡_, refl, sym, ap, _∙_, subst}
+use mathlib.Core.Path.{_≡_, refl, sym, ap, _∙_}
 use mathlib.Core.Bool.{Bool, true, false, cond}
 use mathlib.Core.List.{List, [], _∷_}
 use Prim.Native.Nat.{ℕ, zero, suc, _+_, _-_, _*_, _^_, _≤_, _<_, min}
-use native.Mathlib.Nat.{le-refl, le-trans, le-of-eq, not-suc-le-zero, min-eq-left, min-eq-right, pow-suc, pow-le-pow-right, zero-lt-suc}
+use native.Mathlib.Nat.{le-of-eq, not-suc-le-zero, min-eq-left, min-eq-right, pow-suc, pow-le-pow-right, zero-lt-suc}
 use native.Mathlib.Numerals.{add-one}
 use native.Mathlib.Omega.{arith}
 use lib.Dec.{leb, eqb}
 use lib.ListN.{length, take, drop, getD, length-drop}
 use lib.Seq.{drop-cons, take-all}
 use borrow.Author.Tests.{leb-true, leb-false}
-use Rattle.decimal.specs.declared.answers.Read.{Read}
 use Rattle.decimal.specs.declared.answers.Read.the-variants.{Whole, Empty, TooLong, NotANumber}
 use Rattle.decimal.specs.Reading.{isDigit, allDigits, valueFrom, numberOf, readOf, stretch}
 

@@ -2,17 +2,16 @@
 use mathlib.Core.Path.{_≡_, refl, sym, ap, _∙_, subst}
 use mathlib.Core.Bool.{Bool, true, false, cond, true≢false}
 use Prim.Native.Nat.{ℕ, zero, suc, _+_, _-_, _*_, _/_, _%_, _^_, _≤_, _<_, min}
-use native.Mathlib.Nat.{le-trans, le-of-eq, le-of-lt, lt-of-le-of-lt, lt-of-lt-of-le, zero-lt-suc, mul-comm, mul-assoc, mul-left-comm, mul-right-comm, mul-mul-mul-comm, mul-add, add-mul, mul-pos, mul-le-mul, mul-le-mul-right, mul-div-mul-left, mul-add-div-right, div-div-eq-div-mul, div-eq-of-lt, div-le-self, pow-suc, min-eq-left, min-eq-right, one-mul, div-lt-iff-lt-mul, le-div-iff-mul-le}
+use native.Mathlib.Nat.{le-of-lt, zero-lt-suc, mul-comm, mul-assoc, mul-left-comm, mul-right-comm, mul-mul-mul-comm, mul-add, add-mul, mul-pos, mul-le-mul, mul-div-mul-left, mul-add-div-right, div-div-eq-div-mul, div-eq-of-lt, pow-suc, min-eq-left, min-eq-right, one-mul, div-lt-iff-lt-mul, le-div-iff-mul-le}
 use native.Mathlib.Omega.{arith}
-use lib.Dec.{T, ltb, leb, eqb, lit<, lit≤}
+use lib.Dec.{ltb, leb, eqb, lit<, lit≤}
 use lib.Pow.{pow-pos, pow-add, pow-mono, high, shl-exact}
 use lib.Ieee.{Float, nan, inf, fin, binary64, up, down, odd, ofFields, ofBits, isNan}
 use lib.Ieee.Fits.{down-pos}
 use lib.Ieee.Exact.{HasValue, odd-sign}
 use lib.Ieee.Nearest.{div-same}
-use borrow.Author.Tests.{ltb-true, ltb-false, lt-ltb, le-ltb, ne-eqb}
-use Rattle.decimal.specs.declared.answers.Units.{Units}
-use Rattle.decimal.specs.declared.answers.Units.the-variants.{Whole, NotANumber, Infinite, TooLarge}
+use borrow.Author.Tests.{ltb-true, ltb-false, le-ltb, ne-eqb}
+use Rattle.decimal.specs.declared.answers.Units.the-variants.{NotANumber, Infinite, TooLarge}
 use Rattle.decimal.specs.Scaled.{away, sizedOf, unitsOf}
 
 two-pos : (c : ℕ) → 0 < c → 0 < 2 * c

@@ -1,10 +1,8 @@
 -- What the definitions say of some texts and numbers: antt computes them. Assumes nothing.
 use mathlib.Core.Path.{_≡_, refl}
 use mathlib.Core.Bool.{true, false}
-use mathlib.Core.List.{List, [], _∷_}
-use Prim.Native.Nat.{ℕ}
-use lib.Ieee.{binary64, ofBits, ofFields, odd}
-use lib.Count.{trailingZeros}
+use mathlib.Core.List.{[], _∷_}
+use lib.Ieee.{binary64, ofBits}
 use Rattle.decimal.specs.declared.answers.Read.the-variants.{Whole, Empty, TooLong, NotANumber}
 use Rattle.decimal.specs.declared.answers.Units.the-variants as units
 use Rattle.decimal.specs.Reading.{isDigit, allDigits, valueFrom, numberOf, readOf, stretch}

@@ -1,5 +1,5 @@
 -- A double in a decimal unit: the whole number that is nearest to it times 10 ^ decimals, a tie away from zero.
-use mathlib.Core.Path.{_≡_, sym, ap, _∙_, subst}
+use mathlib.Core.Path.{sym, ap, _∙_, subst}
 use mathlib.Core.Bool.{Bool, false, cond}
 use Prim.Native.Nat.{ℕ, _+_, _*_, _/_, _^_, _≤_, _<_}
 use native.Mathlib.Nat.{add-mul, one-mul, div-mul-le-self, lt-div-mul-add}

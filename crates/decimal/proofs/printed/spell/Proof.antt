@@ -1,11 +1,10 @@
 -- From the last digit to the first: the digits to come go before what stands.
-use mathlib.Core.Path.{_≡_, refl, sym, ap, _∙_}
-use mathlib.Core.List.{List, _∷_}
-use Prim.Native.Nat.{ℕ, suc, _+_, _-_, _/_, _%_, _≤_}
+use mathlib.Core.Path.{_≡_, refl, ap, _∙_}
+use Prim.Native.Nat.{_+_, _-_, _/_, _≤_}
 use native.Mathlib.Omega.{arith}
 use borrow.Author.Needs.{needs}
-use lib.ListN.{length, take, drop, set, length-set}
-use Rattle.decimal.specs.Printed.{digitsOnto, Onto}
+use lib.ListN.{length, take, drop, length-set}
+use Rattle.decimal.specs.Printed.{digitsOnto}
 use Rattle.decimal.proofs.Printing.{digit-on, byte-on, at-last}
 use Rattle.decimal.proofs.printed.spell.Statement.{statement}
 use Rattle.decimal.proofs.printed.spell.Tie as tie

@@ -3,7 +3,7 @@ use mathlib.Core.Path.{_≡_, refl, sym, ap, _∙_}
 use Prim.Native.Nat.{ℕ, _+_, _*_, _^_, _≤_, _-_}
 use native.Mathlib.Omega.{arith}
 use borrow.Author.Needs.{needs}
-use lib.ListN.{length, drop, getD}
+use lib.ListN.{length, drop}
 use Rattle.decimal.specs.Reading.{valueFrom}
 use Rattle.decimal.proofs.Numbers.{value-step, value-grows, value-small, at-end}
 use Rattle.decimal.proofs.reading.value.Statement.{statement}

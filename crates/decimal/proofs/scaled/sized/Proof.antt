@@ -1,6 +1,5 @@
 -- By the tests.
-use borrow.Author.Tests.{lt-ltb, le-ltb, eq-eqb, ne-eqb}
-use mathlib.Core.Path.{sym, ap, _∙_}
+use borrow.Author.Tests.{lt-ltb, le-ltb, ne-eqb}
 use Rattle.decimal.specs.Scaled.{sizedOf}
 use Rattle.decimal.proofs.scaled.sized.Statement.{statement}
 use Rattle.decimal.proofs.scaled.sized.Tie as tie

@@ -2,7 +2,7 @@
 use mathlib.Core.Path.{sym, ap, _∙_}
 use mathlib.Core.Bool.{Bool, not, cond}
 use borrow.Author.Needs.{needs}
-use Rattle.decimal.specs.Words.{isBlank, keeps}
+use Rattle.decimal.specs.Words.{keeps}
 use Rattle.decimal.proofs.words.keeps.Statement.{statement}
 use Rattle.decimal.proofs.words.keeps.Tie as tie
 
