@@ -6,6 +6,7 @@ mod scaled;
 mod small;
 mod words;
 
+pub use printed::blanks;
 pub use printed::put;
 pub use reading::read;
 pub use scaled::units;

@@ -57,7 +57,7 @@ fn spell(out: &mut [u8], from: usize, k: usize, n: u64)
 }
 
 // k blanks, at `from`.
-fn blanks(out: &mut [u8], from: usize, k: usize)
+pub fn blanks(out: &mut [u8], from: usize, k: usize)
     requires { ⌜ from + k ≤ length (now out) ⌝ }
     ensures { λ _. ⌜ Onto from (replicate k 32 ++ drop (from + k) (now (out .entry))) (now (out .entry)) (now (out .exit)) ⌝ }
 {

@@ -1,0 +1,10 @@
+// The cells of a table's line: words and numbers, each in its field of a buffer of bytes.
+mod numbers;
+mod words;
+
+pub use numbers::count;
+pub use numbers::number;
+pub use numbers::thousandths;
+pub use words::clear;
+pub use words::word_left;
+pub use words::word_right;

@@ -1,0 +1,55 @@
+// A word in a field, with blanks around it.
+ghost use mathlib.Core.Path.{_≡_};
+ghost use Prim.Native.Nat.{_+_, _-_, _≤_};
+ghost use mathlib.Core.List.{_++_};
+ghost use lib.ListN.{length, replicate};
+ghost use Rattle.cells.specs.Cells.{rightOf, leftOf, fits, written};
+
+// Every byte of out a blank.
+pub fn clear(out: &mut [u8])
+    ensures { λ _. ⌜ now (out .exit) ≡ replicate (length (now (out .entry))) 32 ⌝ }
+{
+    let n = out.len();
+    decimal::blanks(out, 0, n);
+}
+
+// The field: `pad` blanks, the word, and blanks up to its end. The field's end is not added up before the test: the sum could wrap.
+fn word(out: &mut [u8], at: usize, width: usize, pad: usize, text: &[u8]) -> bool
+    requires { ⌜ pad + length (now text) ≤ width ⌝ }
+    ensures { λ r. ⌜ r ≡ fits (length (now (out .entry))) at width (length (now (text .entry))) ⌝ }
+    ensures { λ _. ⌜ now (out .exit) ≡ written (length (now (text .entry))) at width (replicate pad 32 ++ (now (text .entry) ++ replicate (width - (pad + length (now (text .entry)))) 32)) (now (out .entry)) ⌝ }
+{
+    if out.len() < at {
+        return false;
+    }
+    if out.len() - at < width {
+        return false;
+    }
+    decimal::blanks(out, at, width);
+    let from = at + pad;
+    let to = from + text.len();
+    bytes::copy(text, &mut out[from..to]);
+    true
+}
+
+// The word at the right of the field out[at..at + width], blanks before it. Where the field is not in out, or the word longer than the field, nothing is written and the answer is false.
+pub fn word_right(out: &mut [u8], at: usize, width: usize, text: &[u8]) -> bool
+    ensures { λ r. ⌜ r ≡ fits (length (now (out .entry))) at width (length (now (text .entry))) ⌝ }
+    ensures { λ _. ⌜ now (out .exit) ≡ written (length (now (text .entry))) at width (rightOf width (now (text .entry))) (now (out .entry)) ⌝ }
+{
+    if width < text.len() {
+        return false;
+    }
+    word(out, at, width, width - text.len(), text)
+}
+
+// The same at the left, blanks after it.
+pub fn word_left(out: &mut [u8], at: usize, width: usize, text: &[u8]) -> bool
+    ensures { λ r. ⌜ r ≡ fits (length (now (out .entry))) at width (length (now (text .entry))) ⌝ }
+    ensures { λ _. ⌜ now (out .exit) ≡ written (length (now (text .entry))) at width (leftOf width (now (text .entry))) (now (out .entry)) ⌝ }
+{
+    if width < text.len() {
+        return false;
+    }
+    word(out, at, width, 0, text)
+}
