@@ -1,6 +1,6 @@
--- Laws of the loops: what is left of a list, one byte on. Assumes nothing.
+-- Laws of the lines and the words: what is left of a list, one byte on; a word of a line, and what it is. Assumes nothing.
 use mathlib.Core.Path.{_≡_, refl, ap, ap₂, sym, _∙_, subst}
-use mathlib.Core.Bool.{Bool, true, false, cond}
+use mathlib.Core.Bool.{Bool, true, false, not, cond, true≢false}
 use mathlib.Core.List.{List, [], _∷_}
 use Prim.Native.Nat.{ℕ, suc, _+_, _-_, _≤_, _<_}
 use native.Mathlib.Nat.{zero-add}
@@ -68,11 +68,20 @@ word-at line k at i w e p q =
     let y : (w .from ≤ w .to) × (w .to ≤ length line) = subst (λ (x : Span). (x .from ≤ x .to) × (x .to ≤ length line)) (sym q) z in
     (q ∙ ap (wordAt line) (p ∙ ap (startNo line) e), y .0, y .1)
 
-pub token-by : (w : List ℕ) (r : Read) → r ≡ readOf (stretch w 0 (length w)) → tokenOf w ≡ tokenBy r w
+pub token-by : (w : List ℕ) (r : Read) {v : Read} → r ≡ readOf (stretch w 0 (length w)) → r ≡ v → tokenBy v w ≡ tokenOf w
 unfolding tokenOf stretch
-token-by w r e = ap (λ (x : Read). tokenBy x w) (sym (e ∙ ap readOf (take-all (length w - 0) w (omega arith))))
+token-by w r e q = ap (λ (x : Read). tokenBy x w) (sym q ∙ e ∙ ap readOf (take-all (length w - 0) w (omega arith)))
 
 -- ---- what counts of a line
 pub content-by : (l : List ℕ) (e : ℕ) → e ≡ 0 + runTo false (drop 0 l) → take e l ≡ contentOf l
 unfolding contentOf
 content-by l e p = ap (λ (n : ℕ). take n l) (p ∙ zero-add (runTo false l))
+
+-- ---- a test that is turned round
+pub not-true : (b : Bool) → not b ≡ true → b ≡ false
+not-true true e = absurd (true≢false (sym e))
+not-true false e = refl
+
+pub not-false : (b : Bool) → not b ≡ false → b ≡ true
+not-false true e = refl
+not-false false e = absurd (true≢false e)

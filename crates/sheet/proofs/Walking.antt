@@ -1,23 +1,23 @@
 -- Laws of the walk over the lines: a line cut off, its readings stored, and what is known between two lines. Assumes nothing.
 use mathlib.Core.Path.{_≡_, refl, sym, ap, _∙_, subst}
-use mathlib.Core.Bool.{Bool, true, false, not, cond, true≢false}
+use mathlib.Core.Bool.{Bool, true, false, cond}
 use mathlib.Core.List.{List, [], _∷_, _++_, append-assoc, append-nil}
-use Prim.Native.Nat.{ℕ, zero, suc, _+_, _-_, _*_, _≤_, _<_}
+use Prim.Native.Nat.{ℕ, suc, _+_, _-_, _*_, _≤_, _<_}
 use native.Mathlib.Nat.{not-suc-le-zero, add-zero}
 use native.Mathlib.Numerals.{add-one}
 use native.Mathlib.Omega.{arith}
-use lib.Dec.{ltb, eqb}
+use lib.Dec.{ltb}
 use lib.Ieee.{Float}
 use lib.ListN.{length, take, drop, set, length-set, length-drop, take-append-drop}
-use lib.Seq.{take-suc-set, drop-set-lt, drop-drop, take-all, length-take-le}
-use borrow.Author.Tests.{lt-ltb, le-ltb, ne-eqb, ltb-true, ltb-false}
+use lib.Seq.{take-suc-set, drop-set-lt, drop-drop, length-take-le}
+use borrow.Author.Tests.{lt-ltb, le-ltb, ltb-true, ltb-false}
 use Rattle.sheet.specs.declared.answers.Settings.{Settings}
-use Rattle.sheet.specs.declared.answers.Wanted.the-variants.{Line, PeriodSetting, NoiseSetting, FewerPeriods}
 use Rattle.sheet.specs.declared.parts.Tokens.{Tokens}
 use Rattle.sheet.specs.declared.parts.Fault.{Fault}
 use Rattle.sheet.specs.Lines.{isEnd, runTo, onto, linesOf}
 use Rattle.sheet.specs.Effects.{fresh, settled, readingOf, lineReadings, Laid}
-use Rattle.sheet.specs.Faults.{right, wrongAt, settingFault, pairFault, checksFault, faultOf}
+use Rattle.sheet.specs.Faults.{right, faultOf}
+use Rattle.sheet.specs.Good.{few-periods, counted-few, counted-length}
 use Rattle.sheet.specs.Sheets.{lineTokens, lineFault, counted, wrongLine, endOf, sheetFrom, readingsFrom, sheetOf, readingsOf}
 
 -- ---- the first line of what is left
@@ -68,43 +68,6 @@ pub store-two : (table : Bool) (t : Tokens) (p : ℕ) (y : List Float) (u v : Fl
 unfolding counted lineReadings
 store-two table t p y u v h k e f = (simp (le-ltb _ _ h), simp (le-ltb _ _ h, ← e, ← f) (laid-two (2 * p) y u v k))
 
--- ---- a period that is right is one of the first 4096
-checks-few : (table : Bool) (period inputs p : ℕ) (t : Tokens) → checksFault table period inputs p t .fine ≡ true → p < 4096
-unfolding checksFault
-checks-few table period inputs p t h = ltb-true p 4096 (go (eqb period 0) (eqb inputs 0) (ltb p 4096) h)
-  where
-    go : (a b c : Bool) → cond a (wrongAt PeriodSetting 0) (cond b (wrongAt NoiseSetting 0) (cond c (pairFault table inputs t) (wrongAt FewerPeriods 0))) .fine ≡ true → c ≡ true
-    go true b c h = absurd (true≢false (sym h))
-    go false true c h = absurd (true≢false (sym h))
-    go false false true h = refl
-    go false false false h = absurd (true≢false (sym h))
-
-pub few-periods : (table : Bool) (s : Settings) (p : ℕ) (t : Tokens) → faultOf table s p t .fine ≡ true → 8 ≤ t .first .kind → p < 4096
-unfolding faultOf
-few-periods table s p t h k = checks-few table (s .period) (s .inputs) p t (go (eqb (t .first .kind) 0) (ltb (t .first .kind) 8) (ltb (t .first .kind) 13) (ne-eqb (t .first .kind) 0 (λ (e : t .first .kind ≡ 0). omega arith)) (le-ltb _ _ k) h)
-  where
-    go : (a b c : Bool) → a ≡ false → b ≡ false → cond a right (cond b (settingFault s p t) (cond c (checksFault table (s .period) (s .inputs) p t) (wrongAt Line 0))) .fine ≡ true → checksFault table (s .period) (s .inputs) p t .fine ≡ true
-    go true b c e f h = absurd (true≢false e)
-    go false true c e f h = absurd (true≢false f)
-    go false false true e f h = h
-    go false false false e f h = absurd (true≢false (sym h))
-
-counted-few : (p : ℕ) (t : Tokens) → p ≤ 4096 → (8 ≤ t .first .kind → p < 4096) → counted p t ≤ 4096
-unfolding counted
-counted-few p t h k = go (ltb (t .first .kind) 8) refl
-  where
-    go : (b : Bool) → ltb (t .first .kind) 8 ≡ b → cond b p (p + 1) ≤ 4096
-    go true e = h
-    go false e = let m = k (ltb-false (t .first .kind) 8 e) in omega arith
-
-counted-length : (table : Bool) (p : ℕ) (t : Tokens) → 2 * p + length (lineReadings table t) ≡ 2 * counted p t
-unfolding counted lineReadings
-counted-length table p t = go (ltb (t .first .kind) 8)
-  where
-    go : (b : Bool) → 2 * p + length (cond b [] (readingOf table (t .first) ∷ readingOf table (t .second) ∷ [])) ≡ 2 * cond b p (p + 1)
-    go true = omega arith
-    go false = omega arith
-
 -- ---- what is known between two lines: the lines that are left give the answer, and their readings stand after those that are stored
 pub record Going (table : Bool) (text : List ℕ) (old : List Float) (ls : List (List ℕ)) (s : Settings) (p n at : ℕ) (y : List Float) : Type 0 where
   pub few : p ≤ 4096
@@ -144,11 +107,10 @@ module _ (table : Bool) (text : List ℕ) (old : List Float) (s : Settings) (p n
   unfolding sheetFrom readingsFrom
   stop l ls h g =
       let t = lineTokens l in
-      let f = lineFault table s p l in
-      (
+      let f = lineFault table s p l in (
         ap (λ (k : ℕ). wrongLine k at l f) (add-one n) ∙ sym (ap (λ (b : Bool). cond b (sheetFrom table (length text) (settled s t) (counted p t) (suc n) (suc (at + length l)) ls) (wrongLine (suc n) at l f)) h) ∙ g .sheet,
         filled p (readingsOf table text) old y (omega (arith, g .few, g .long))
-        (sym (ap (λ (b : Bool). take (2 * p) y ++ cond b (lineReadings table t ++ readingsFrom table (settled s t) (counted p t) ls) []) h) ∙ g .said) (g .rest),
+            (sym (ap (λ (b : Bool). take (2 * p) y ++ cond b (lineReadings table t ++ readingsFrom table (settled s t) (counted p t) ls) []) h) ∙ g .said) (g .rest),
       )
 
   -- a right line
@@ -234,11 +196,3 @@ module _ (table : Bool) (text : List ℕ) (old : List Float) (s : Settings) (p n
         let e : end ≡ length text = omega arith in
         let r = done table text old s₂ p₂ (n + 1) (end + 1) y₂ (passed [] (cut-last text at end start found h)) in
         (ap (endOf s₂ p₂ (n + 1)) e ∙ r .0, r .1)
-
-pub not-true : (b : Bool) → not b ≡ true → b ≡ false
-not-true true e = absurd (true≢false (sym e))
-not-true false e = refl
-
-pub not-false : (b : Bool) → not b ≡ false → b ≡ true
-not-false true e = refl
-not-false false e = absurd (true≢false e)

@@ -4,7 +4,7 @@ use mathlib.Core.Path.{_≡_}
 use mathlib.Core.List.{List, [], _∷_, _++_}
 use Prim.Native.Nat.{ℕ, _+_}
 use lib.Dec.{eqb, ltb}
-use lib.Ieee.{Float, nan, fin, neg, ofInt, binary64, ofBits}
+use lib.Ieee.{Float, nan, fin, neg, ofInt, binary64}
 use lib.IntN.{pos}
 use lib.ListN.{length, take, drop}
 use Rattle.sheet.specs.declared.answers.Spread.{Spread}
@@ -22,8 +22,15 @@ noStart given = record { given = given; known = false; minus = false; size = 0; 
 
 abbrev pub settings : ℕ → ℕ → Spread → Spread → Spread → Spread → Spread → Start → Start → Settings
 settings period inputs noise noise₂ radio wanderOffset wanderRate offset rate = record {
-  period = period; inputs = inputs; noise = noise; «noise_2» = noise₂; radio = radio;
-  «wander_offset» = wanderOffset; «wander_rate» = wanderRate; offset = offset; rate = rate;
+  period = period;
+  inputs = inputs;
+  noise = noise;
+  «noise_2» = noise₂;
+  radio = radio;
+  «wander_offset» = wanderOffset;
+  «wander_rate» = wanderRate;
+  offset = offset;
+  rate = rate;
 }
 
 -- nothing is given yet

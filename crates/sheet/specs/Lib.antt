@@ -3,3 +3,5 @@ pub mod Tokens
 pub mod Faults
 pub mod Effects
 pub mod Sheets
+pub mod Good
+pub mod Examples

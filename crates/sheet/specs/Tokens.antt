@@ -2,7 +2,7 @@
 use mathlib.Core.Bool.{Bool, true, false, cond}
 use mathlib.Core.List.{List, [], _∷_}
 use Prim.Native.Nat.{ℕ, zero, suc}
-use lib.Dec.{eqb, ltb}
+use lib.Dec.{eqb}
 use Rattle.decimal.specs.declared.answers.Read.{Read}
 use Rattle.decimal.specs.declared.answers.Read.the-variants.{Whole, Empty, TooLong, NotANumber}
 use Rattle.decimal.specs.declared.answers.Span.{Span}

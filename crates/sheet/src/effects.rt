@@ -15,7 +15,6 @@ use crate::kinds::WANDER_RATE;
 use crate::parts::Token;
 use crate::parts::Tokens;
 ghost use mathlib.Core.Path.{_≡_};
-
 ghost use Rattle.sheet.specs.Effects.{noSpread, noStart, fresh, spreadBy, startBy, withNoise, settled, readingOf};
 
 fn no_spread() -> Spread

@@ -93,24 +93,42 @@ fn other_word(w: &[u8]) -> Token
     ensures { λ r. ⌜ r ≡ otherWord (now (w .entry)) ⌝ }
 {
     if same(w, b"sd") {
-        return Token { kind: SPREAD, size: 1 };
+        return Token {
+            kind: SPREAD,
+            size: 1,
+        };
     }
     if same(w, b"variance") {
-        return Token { kind: SPREAD, size: 0 };
+        return Token {
+            kind: SPREAD,
+            size: 0,
+        };
     }
     if same(w, b"unknown") {
-        return Token { kind: UNKNOWN, size: 0 };
+        return Token {
+            kind: UNKNOWN,
+            size: 0,
+        };
     }
     if same(w, b"-") {
         return Token { kind: GAP, size: 0 };
     }
     if same(w, b"+") {
-        return Token { kind: PLANNED, size: 0 };
+        return Token {
+            kind: PLANNED,
+            size: 0,
+        };
     }
     if starts_check(w) {
-        return Token { kind: NO_CHECK, size: 0 };
+        return Token {
+            kind: NO_CHECK,
+            size: 0,
+        };
     }
-    Token { kind: OTHER, size: 0 }
+    Token {
+        kind: OTHER,
+        size: 0,
+    }
 }
 
 // A word that is no number.
@@ -130,12 +148,18 @@ fn token(w: &[u8]) -> Token
     match decimal::read(w, 0, w.len()) {
         Read::Whole(minus, size) => {
             if minus {
-                return Token { kind: NEGATIVE, size };
+                return Token {
+                    kind: NEGATIVE,
+                    size,
+                };
             }
             Token { kind: NUMBER, size }
         }
         Read::Empty => Token { kind: END, size: 0 },
-        Read::TooLong => Token { kind: NO_CHECK, size: 0 },
+        Read::TooLong => Token {
+            kind: NO_CHECK,
+            size: 0,
+        },
         Read::NotANumber => plain_word(w),
     }
 }

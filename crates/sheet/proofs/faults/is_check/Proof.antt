@@ -1,21 +1,17 @@
+-- By the tests.
 use borrow.Author.Tests.{eq-eqb, le-ltb, lt-ltb, ne-eqb}
 use Rattle.sheet.specs.Faults.{isCheck}
 use Rattle.sheet.proofs.faults.is_check.Statement.{statement}
 use Rattle.sheet.proofs.faults.is_check.Tie as tie
-use Rattle.sheet.proofs.faults.is_check.Reads as reads
-use Rattle.sheet.proofs.faults.is_check.Lts as lts
 
--- src/faults.rt:183:9
 returns : tie.Need-returns
 unfolding isCheck
 returns c = simp (lt-ltb _ _ (c .if1 .taken))
 
--- src/faults.rt:186:9
 returns-2 : tie.Need-returns-2
 unfolding isCheck
 returns-2 c = simp (eq-eqb _ _ (c .if2 .taken), le-ltb _ _ (c .before .before .if1 .left))
 
--- src/faults.rt:179:1
 returns-3 : tie.Need-returns-3
 unfolding isCheck
 returns-3 c = simp (ne-eqb _ _ (c .before .if2 .left), le-ltb _ _ (c .before .before .before .if1 .left))

@@ -1,45 +1,36 @@
+-- By the kind.
 use borrow.Author.Tests.{eq-eqb, ne-eqb}
 use Rattle.sheet.specs.Faults.{isGiven}
 use Rattle.sheet.proofs.faults.is_given.Statement.{statement}
 use Rattle.sheet.proofs.faults.is_given.Tie as tie
-use Rattle.sheet.proofs.faults.is_given.Reads as reads
-use Rattle.sheet.proofs.faults.is_given.Lts as lts
 
--- src/faults.rt:130:9
 returns : tie.Need-returns
 unfolding isGiven
 returns c = simp (eq-eqb _ _ (c .before .if1 .taken))
 
--- src/faults.rt:133:9
 returns-2 : tie.Need-returns-2
 unfolding isGiven
 returns-2 c = simp (eq-eqb _ _ (c .before .if2 .taken), ne-eqb _ _ (c .before .before .if1 .left))
 
--- src/faults.rt:136:9
 returns-3 : tie.Need-returns-3
 unfolding isGiven
 returns-3 c = simp (eq-eqb _ _ (c .if3 .taken), ne-eqb _ _ (c .before .if2 .left), ne-eqb _ _ (c .before .before .if1 .left))
 
--- src/faults.rt:139:9
 returns-4 : tie.Need-returns-4
 unfolding isGiven
 returns-4 c = simp (eq-eqb _ _ (c .if4 .taken), ne-eqb _ _ (c .before .if3 .left), ne-eqb _ _ (c .before .before .if2 .left), ne-eqb _ _ (c .before .before .before .if1 .left))
 
--- src/faults.rt:142:9
 returns-5 : tie.Need-returns-5
 unfolding isGiven
 returns-5 c = simp (eq-eqb _ _ (c .if5 .taken), ne-eqb _ _ (c .before .if4 .left), ne-eqb _ _ (c .before .before .if3 .left), ne-eqb _ _ (c .before .before .before .if2 .left), ne-eqb _ _ (c .before .before .before .before .if1 .left))
 
--- src/faults.rt:145:9
 returns-6 : tie.Need-returns-6
 unfolding isGiven
 returns-6 c = simp (eq-eqb _ _ (c .if6 .taken), ne-eqb _ _ (c .before .if5 .left), ne-eqb _ _ (c .before .before .if4 .left), ne-eqb _ _ (c .before .before .before .if3 .left), ne-eqb _ _ (c .before .before .before .before .if2 .left), ne-eqb _ _ (c .before .before .before .before .before .if1 .left))
 
--- src/faults.rt:126:1
 returns-7 : tie.Need-returns-7
 unfolding isGiven
 returns-7 c = simp (ne-eqb _ _ (c .if6 .left), ne-eqb _ _ (c .before .if5 .left), ne-eqb _ _ (c .before .before .if4 .left), ne-eqb _ _ (c .before .before .before .if3 .left), ne-eqb _ _ (c .before .before .before .before .if2 .left), ne-eqb _ _ (c .before .before .before .before .before .if1 .left))
 
 pub is-given-spec : {M : Type 1} → statement M
-is-given-spec =
-    tie.close (tie.spec returns returns-2 returns-3 returns-4 returns-5 returns-6 returns-7)
+is-given-spec = tie.close (tie.spec returns returns-2 returns-3 returns-4 returns-5 returns-6 returns-7)

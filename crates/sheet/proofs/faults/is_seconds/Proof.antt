@@ -1,21 +1,17 @@
+-- By the tests.
 use borrow.Author.Tests.{eq-eqb, ne-eqb}
 use Rattle.sheet.specs.Faults.{isSeconds}
 use Rattle.sheet.proofs.faults.is_seconds.Statement.{statement}
 use Rattle.sheet.proofs.faults.is_seconds.Tie as tie
-use Rattle.sheet.proofs.faults.is_seconds.Reads as reads
-use Rattle.sheet.proofs.faults.is_seconds.Lts as lts
 
--- src/faults.rt:56:9
 returns : tie.Need-returns
 unfolding isSeconds
 returns c = simp (ne-eqb _ _ (c .if1 .taken))
 
--- src/faults.rt:59:9
 returns-2 : tie.Need-returns-2
 unfolding isSeconds
 returns-2 c = simp (eq-eqb _ _ (c .if2 .taken), eq-eqb _ _ (c .before .before .if1 .left))
 
--- src/faults.rt:52:1
 returns-3 : tie.Need-returns-3
 unfolding isSeconds
 returns-3 c = simp (ne-eqb _ _ (c .before .if2 .left), eq-eqb _ _ (c .before .before .before .if1 .left))

@@ -1,16 +1,13 @@
+-- By the tests.
 use borrow.Author.Tests.{eq-eqb, ne-eqb}
 use Rattle.sheet.specs.Faults.{isValue}
 use Rattle.sheet.proofs.faults.is_value.Statement.{statement}
 use Rattle.sheet.proofs.faults.is_value.Tie as tie
-use Rattle.sheet.proofs.faults.is_value.Reads as reads
-use Rattle.sheet.proofs.faults.is_value.Lts as lts
 
--- src/faults.rt:109:9
 returns : tie.Need-returns
 unfolding isValue
 returns c = simp (eq-eqb _ _ (c .if1 .taken))
 
--- src/faults.rt:105:1
 returns-2 : tie.Need-returns-2
 unfolding isValue
 returns-2 c = simp (ne-eqb _ _ (c .before .if1 .left))

@@ -1,21 +1,17 @@
+-- By the tests.
 use borrow.Author.Tests.{eq-eqb, ne-eqb}
 use Rattle.sheet.specs.Lines.{isEnd}
 use Rattle.sheet.proofs.lines.is_end.Statement.{statement}
 use Rattle.sheet.proofs.lines.is_end.Tie as tie
-use Rattle.sheet.proofs.lines.is_end.Reads as reads
-use Rattle.sheet.proofs.lines.is_end.Lts as lts
 
--- src/lines.rt:12:9
 returns : tie.Need-returns
 unfolding isEnd
 returns c = simp (c .if1 .taken)
 
--- src/lines.rt:15:9
 returns-2 : tie.Need-returns-2
 unfolding isEnd
 returns-2 c = simp (eq-eqb _ _ (c .if2 .taken), c .before .if1 .left)
 
--- src/lines.rt:8:1
 returns-3 : tie.Need-returns-3
 unfolding isEnd
 returns-3 c = simp (ne-eqb _ _ (c .if2 .left), c .before .if1 .left)

@@ -1,20 +1,18 @@
 -- What is left of the text, from the state, gives the answer of the whole.
-use mathlib.Core.Path.{_≡_, refl, sym, ap, _∙_, subst}
-use mathlib.Core.Bool.{Bool, true, false}
-use mathlib.Core.List.{List, [], _∷_}
-use Prim.Native.Nat.{ℕ, _≤_, _<_, _-_}
+use mathlib.Core.Path.{sym, ap, _∙_}
+use Prim.Native.Nat.{_≤_, _<_, _-_}
 use native.Mathlib.Omega.{arith}
 use borrow.Author.Needs.{needs}
 use lib.ListN.{length, drop}
 use Rattle.sheet.specs.declared.parts.Fault.{Fault}
-use Rattle.sheet.specs.Lines.{linesOf}
 use Rattle.sheet.specs.Faults.{faultOf}
+use Rattle.sheet.specs.Good.{few-periods}
+use Rattle.sheet.specs.Lines.{linesOf}
 use Rattle.sheet.specs.Sheets.{lineFault}
-use Rattle.sheet.proofs.Walking.{Going, first, line-length, few-periods, stopped, ended, onward, not-true, not-false}
+use Rattle.sheet.proofs.Laws.{not-true, not-false}
+use Rattle.sheet.proofs.Walking.{Going, first, line-length, stopped, ended, onward}
 use Rattle.sheet.proofs.sheets.read.Statement.{statement}
 use Rattle.sheet.proofs.sheets.read.Tie as tie
-use Rattle.sheet.proofs.sheets.read.Reads as reads
-use Rattle.sheet.proofs.sheets.read.Lts as lts
 
 abbrev Inv-loop : tie.InvT-loop
 Inv-loop text table y₀ settings₀ periods₀ lines₀ at₀ y settings periods lines at = (at ≤ length text) × (lines ≤ at) × Going table text y₀ (linesOf (drop at text)) settings periods lines at y
@@ -41,7 +39,7 @@ returns c =
     let w = r .before .loop in
     let a = r .before .before .before .before .before .args in
     let q = stopped (a .table) (a .text .now) (a .y .now) (w .settings) (w .periods) (w .lines) (w .at) (w .y) (r .run-end .result) (w .inv .0) (r .run-end .ensures .0) (r .run-end .ensures .1) (f .fault .result) (w .inv .2)
-            (f .fault .ensures ∙ ap (faultOf (a .table) (w .settings) (w .periods)) (f .before .line-tokens .ensures)) (not-true _ (c .before .before .if1 .taken)) in
+    (f .fault .ensures ∙ ap (faultOf (a .table) (w .settings) (w .periods)) (f .before .line-tokens .ensures)) (not-true _ (c .before .before .if1 .taken)) in
     (c .wrong-line .ensures ∙ q .0, q .1)
 
 store-requires : tie.Need-store-requires Inv-loop μ-loop
@@ -60,8 +58,8 @@ returns-2 c =
     let w = r .before .loop in
     let a = r .before .before .before .before .before .args in
     let q = ended (a .table) (a .text .now) (a .y .now) (w .settings) (w .periods) (w .lines) (w .at) (w .y) (r .run-end .result) (w .inv .0) (r .run-end .ensures .0) (r .run-end .ensures .1) (f .fault .result) (w .inv .2)
-            (f .before .line-tokens .result) (c .before .before .after .result) (st .store .result) (st .store .last .0) (f .before .line-tokens .ensures) (f .fault .ensures) (not-false _ (st .before .before .if1 .left))
-            (st .store .ensures .0) (st .store .ensures .1) (c .before .before .after .ensures) (omega (arith, c .before .if2 .taken)) in
+    (f .before .line-tokens .result) (c .before .before .after .result) (st .store .result) (st .store .last .0) (f .before .line-tokens .ensures) (f .fault .ensures) (not-false _ (st .before .before .if1 .left))
+    (st .store .ensures .0) (st .store .ensures .1) (c .before .before .after .ensures) (omega (arith, c .before .if2 .taken)) in
     (c .end-of .ensures ∙ q .0, q .1)
 
 loop-again : tie.Need-loop-again Inv-loop μ-loop
@@ -71,13 +69,12 @@ loop-again c =
     let r = f .before .before .before in
     let w = r .before .loop in
     let a = r .before .before .before .before .before .args in
-    let less : r .run-end .result < length (a .text .now) = omega (arith, c .if2 .left, r .run-end .ensures .1) in
-    (
+    let less : r .run-end .result < length (a .text .now) = omega (arith, c .if2 .left, r .run-end .ensures .1) in (
       omega arith,
       omega (arith, w .inv .1, r .run-end .ensures .0),
       onward (a .table) (a .text .now) (a .y .now) (w .settings) (w .periods) (w .lines) (w .at) (w .y) (r .run-end .result) (w .inv .0) (r .run-end .ensures .0) (r .run-end .ensures .1) (f .fault .result) (w .inv .2)
-      (f .before .line-tokens .result) (c .before .after .result) (st .store .result) (st .store .last .0) (f .before .line-tokens .ensures) (f .fault .ensures) (not-false _ (st .before .before .if1 .left))
-      (st .store .ensures .0) (st .store .ensures .1) (c .before .after .ensures) less,
+          (f .before .line-tokens .result) (c .before .after .result) (st .store .result) (st .store .last .0) (f .before .line-tokens .ensures) (f .fault .ensures) (not-false _ (st .before .before .if1 .left))
+          (st .store .ensures .0) (st .store .ensures .1) (c .before .after .ensures) less,
     )
 
 wrong-line-requires : tie.Need-wrong-line-requires Inv-loop μ-loop
@@ -109,31 +106,4 @@ loop-less c =
     omega (arith, c .if2 .left, r .run-end .ensures .0, r .run-end .ensures .1)
 
 pub read-spec : {M : Type 1} → statement M
-read-spec =
-    tie.close
-    (tie.spec
-    Inv-loop
-    μ-loop
-    (λ c κs. search needs)
-    loop-holds
-    add-lines
-    (λ c κs. omega arith)
-    (λ c. omega arith)
-    (λ c. omega arith)
-    (λ c. omega arith)
-    (λ c κs. search needs)
-    (λ c κs. search needs)
-    (λ c. omega arith)
-    (λ c. omega arith)
-    (λ c. omega arith)
-    wrong-line-requires
-    same-length
-    returns
-    store-requires
-    (λ c κs. search needs)
-    (λ c κs. search needs)
-    same-length-2
-    returns-2
-    add-at
-    loop-less
-    loop-again)
+read-spec = tie.close (tie.spec Inv-loop μ-loop (λ c κs. search needs) loop-holds add-lines (λ c κs. omega arith) (λ c. omega arith) (λ c. omega arith) (λ c. omega arith) (λ c κs. search needs) (λ c κs. search needs) (λ c. omega arith) (λ c. omega arith) (λ c. omega arith) wrong-line-requires same-length returns store-requires (λ c κs. search needs) (λ c κs. search needs) same-length-2 returns-2 add-at loop-less loop-again)

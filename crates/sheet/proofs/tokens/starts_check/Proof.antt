@@ -1,7 +1,7 @@
 -- By the first byte.
 use mathlib.Core.Path.{sym, _∙_}
-use borrow.Author.Tests.{eq-eqb, ne-eqb, lt-ltb, le-ltb}
 use borrow.Author.Needs.{needs}
+use borrow.Author.Tests.{eq-eqb, ne-eqb, lt-ltb, le-ltb}
 use Rattle.decimal.specs.Reading.{isDigit}
 use Rattle.sheet.proofs.Laws.{starts-none, starts-by}
 use Rattle.sheet.proofs.tokens.starts_check.Statement.{statement}
