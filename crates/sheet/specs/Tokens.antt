@@ -1,8 +1,10 @@
 -- The words of a line and what each of them is. A word is a stretch with no blank, by `wordAt`.
-use mathlib.Core.Bool.{Bool, true, false, cond}
+use mathlib.Core.Path.{_≡_, refl, sym, ap₂}
+use mathlib.Core.Bool.{Bool, true, false, cond, true≢false}
 use mathlib.Core.List.{List, [], _∷_}
 use Prim.Native.Nat.{ℕ, zero, suc}
 use lib.Dec.{eqb}
+use borrow.Author.Tests.{eq-eqb, eqb-true}
 use Rattle.decimal.specs.declared.answers.Read.{Read}
 use Rattle.decimal.specs.declared.answers.Read.the-variants.{Whole, Empty, TooLong, NotANumber}
 use Rattle.decimal.specs.declared.answers.Span.{Span}
@@ -16,6 +18,22 @@ equal [] [] = true
 equal [] (y ∷ ys) = false
 equal (x ∷ xs) [] = false
 equal (x ∷ xs) (y ∷ ys) = cond (eqb x y) (equal xs ys) false
+
+pub equal-same : (a : List ℕ) → equal a a ≡ true
+unfolding equal
+equal-same [] = refl
+equal-same (x ∷ xs) = simp (eq-eqb x x refl) (equal-same xs)
+
+pub equal-is : (a b : List ℕ) → equal a b ≡ true → a ≡ b
+unfolding equal
+equal-is [] [] e = refl
+equal-is [] (y ∷ ys) e = absurd (true≢false (sym e))
+equal-is (x ∷ xs) [] e = absurd (true≢false (sym e))
+equal-is (x ∷ xs) (y ∷ ys) e = go (equal-is xs ys) (eqb x y) refl e
+  where
+    go : (equal xs ys ≡ true → xs ≡ ys) → (t : Bool) → eqb x y ≡ t → cond t (equal xs ys) false ≡ true → x ∷ xs ≡ y ∷ ys
+    go i true q e = ap₂ (λ (b : ℕ) (bs : List ℕ). b ∷ bs) (eqb-true x y q) (i e)
+    go i false q e = absurd (true≢false (sym e))
 
 -- ---- the kinds: 0 no word; 1 to 7 the settings; 8 a minus alone; 9 a plus alone; 10 a whole number; 11 one with a minus; 12 any other word that starts
 -- with a digit, a minus or a plus; 13 sd (size 1) and variance (size 0); 14 unknown; 15 any other
