@@ -78,6 +78,7 @@ fn store(y: &mut [f64], periods: usize, table: bool, t: Tokens) -> usize
     periods + 1
 }
 
+// Two readings a period go to the start of y; the rest of y stays. Of a bad text they are those of the lines before the wrong one.
 pub fn read(text: &[u8], table: bool, y: &mut [f64]) -> Sheet
     requires { ⌜ 8192 ≡ length (now y) ⌝ }
     ensures { λ r. ⌜ r ≡ sheetOf table (now (text .entry)) ⌝ }
