@@ -19,11 +19,15 @@ use Rattle.filter.specs.declared.Outcome.the-variants.{Refused, Answered}
 use Rattle.filter.specs.Promise.{isSilent}
 use Rattle.filter.specs.Blanked.{Blanked}
 use Rattle.filter.specs.Ends as ends
-use Rattle.smoother.specs.Promise.{PromiseSmooth, CheckedSmooth}
+use Rattle.smoother.specs.Promise.{PromiseSmooth}
 use Rattle.smoother.proofs.Looked.{Past, Smoothed}
 
 abbrev kinds : List Float → List Kind
 kinds y = map kindOf y
+
+-- k is the number of the first of refusals 1 to 11 that the inputs and the lent outputs earn, the smoothed parts among them, 0 if none
+pub record CheckedSmooth (x : Model) (o : Offsets) (y : List Float) (w : CovParts) (w′ : MeanParts) (sm sc : List Float) (k : ℕ) : Type 0 where
+  pub number : k ≡ ends.number x o y (roomySmoothed x w w′ sc sm)
 
 module _ {x : Model} {o : Offsets} {y : List Float} {w : CovParts} {w′ : MeanParts} {sm sc : List Float} {k : ℕ} where
   pub checked : {room both : Bool} → k ≡ ends.number x o y both → Room x o (length y) (anyOf isInfinity (kinds y)) w w′ room → (outside (x .p) (x .m) (x .r) (x .n) ≡ false → both ≡ roomsSmoothed (x .m) (x .n) room (length sm) (length sc)) → CheckedSmooth x o y w w′ sm sc k

@@ -2,83 +2,7 @@
 ghost use Rattle.definition.specs.Outcome.{smoothOutcome};
 ghost use Rattle.model.specs.Given.{modelOf, offsetsOf};
 ghost use Rattle.passes.specs.View.{covParts, meanParts};
-ghost use Rattle.smoother.specs.Promise.{PromiseSmooth, CheckedSmooth};
-
-// Refusals 1 to 11: the two smoothed parts count for refusal 2 too; 0: none. It writes nothing.
-fn refusal(
-    p: usize,
-    m: usize,
-    r: usize,
-    n: usize,
-    z: &[f64],
-    zs: &[f64],
-    h: &[f64],
-    t: &[f64],
-    rr: &[f64],
-    q: &[f64],
-    c: &[f64],
-    d: &[f64],
-    a1: &[f64],
-    p_star: &[f64],
-    flags: &[u8],
-    y: &[f64],
-    pred_mean: &[f64],
-    pred_cov: &[f64],
-    pred_inf: &[f64],
-    filt_mean: &[f64],
-    filt_cov: &[f64],
-    kinds: &[u8],
-    v: &[f64],
-    f_star: &[f64],
-    f_inf: &[f64],
-    m_star: &[f64],
-    m_inf: &[f64],
-    sm_mean: &[f64],
-    sm_cov: &[f64],
-) -> u8
-    ensures { λ k. ⌜ CheckedSmooth (modelOf p m r n (now (z .entry)) (now (zs .entry)) (now (h .entry)) (now (t .entry)) (now (rr .entry)) (now (q .entry)) (now («p_star» .entry)) (now (flags .entry)))
-        (offsetsOf (now (c .entry)) (now (d .entry)) (now (a1 .entry))) (now (y .entry))
-        (covParts (now («pred_cov» .entry)) (now («pred_inf» .entry)) (now («filt_cov» .entry)) (now (kinds .entry)) (now («f_star» .entry)) (now («f_inf» .entry)) (now («m_star» .entry)) (now («m_inf» .entry)))
-        (meanParts (now («pred_mean» .entry)) (now («filt_mean» .entry)) (now (v .entry))) (now («sm_mean» .entry)) (now («sm_cov» .entry)) k ⌝ }
-{
-    let room = model::lengths::room(
-        p,
-        m,
-        r,
-        n,
-        pred_mean.len(),
-        pred_cov.len(),
-        pred_inf.len(),
-        filt_mean.len(),
-        filt_cov.len(),
-        kinds.len(),
-        v.len(),
-        f_star.len(),
-        f_inf.len(),
-        m_star.len(),
-        m_inf.len(),
-    );
-    let both = model::lengths::room_smoothed(p, m, r, n, room, sm_mean.len(), sm_cov.len());
-    model::refusal(
-        p,
-        m,
-        r,
-        n,
-        z,
-        zs,
-        h,
-        t,
-        rr,
-        q,
-        c,
-        d,
-        a1,
-        p_star,
-        flags,
-        y,
-        both,
-    )
-}
+ghost use Rattle.smoother.specs.Promise.{PromiseSmooth};
 
 // The smoother's call: the filter's with two outputs more. It ends with an answer whatever it is handed: refused with its number, or answered.
 pub fn smooth_univariate<'a>(
@@ -119,7 +43,26 @@ pub fn smooth_univariate<'a>(
         (covParts (now («pred_cov» .exit)) (now («pred_inf» .exit)) (now («filt_cov» .exit)) (now (kinds .exit)) (now («f_star» .exit)) (now («f_inf» .exit)) (now («m_star» .exit)) (now («m_inf» .exit)))
         (meanParts (now («pred_mean» .exit)) (now («filt_mean» .exit)) (now (v .exit))) (now («sm_mean» .exit)) (now («sm_cov» .exit)) ⌝ }
 {
-    let k = refusal(
+    // refusals 1 to 11: the two smoothed parts count for refusal 2 too
+    let room = model::lengths::room(
+        p,
+        m,
+        r,
+        n,
+        pred_mean.len(),
+        pred_cov.len(),
+        pred_inf.len(),
+        filt_mean.len(),
+        filt_cov.len(),
+        kinds.len(),
+        v.len(),
+        f_star.len(),
+        f_inf.len(),
+        m_star.len(),
+        m_inf.len(),
+    );
+    let both = model::lengths::room_smoothed(p, m, r, n, room, sm_mean.len(), sm_cov.len());
+    let k = model::refusal(
         p,
         m,
         r,
@@ -136,19 +79,7 @@ pub fn smooth_univariate<'a>(
         p_star,
         flags,
         y,
-        pred_mean,
-        pred_cov,
-        pred_inf,
-        filt_mean,
-        filt_cov,
-        kinds,
-        v,
-        f_star,
-        f_inf,
-        m_star,
-        m_inf,
-        sm_mean,
-        sm_cov,
+        both,
     );
     if 0 < k {
         return filter::Outcome::Refused(k);
