@@ -1,0 +1,199 @@
+-- `estimate::estimate` meets its contract. Assumes nothing.
+use mathlib.Core.Path.{_≡_, sym, _∙_}
+use lib.ListN.{length}
+use borrow.Author.Needs.{needs}
+use Rattle.estimate.proofs.estimate.Statement.{statement}
+use Rattle.estimate.proofs.estimate.Tie as tie
+
+design-requires : tie.Need-design-requires
+design-requires c κs = search needs
+
+slice-aggregate-smooth-univariate : tie.Need-slice-aggregate-smooth-univariate
+slice-aggregate-smooth-univariate c = search needs
+
+slice-aggregate-smooth-univariate-2 : tie.Need-slice-aggregate-smooth-univariate-2
+slice-aggregate-smooth-univariate-2 c = search needs
+
+noise-requires : tie.Need-noise-requires
+noise-requires c κs = search needs
+
+slice-aggregate-smooth-univariate-3 : tie.Need-slice-aggregate-smooth-univariate-3
+slice-aggregate-smooth-univariate-3 c = search needs
+
+transition-requires : tie.Need-transition-requires
+transition-requires c κs = search needs
+
+slice-aggregate-smooth-univariate-4 : tie.Need-slice-aggregate-smooth-univariate-4
+slice-aggregate-smooth-univariate-4 c = search needs
+
+identity-requires : tie.Need-identity-requires
+identity-requires c κs = search needs
+
+slice-aggregate-smooth-univariate-5 : tie.Need-slice-aggregate-smooth-univariate-5
+slice-aggregate-smooth-univariate-5 c = search needs
+
+disturbances-requires : tie.Need-disturbances-requires
+disturbances-requires c κs = search needs
+
+slice-aggregate-smooth-univariate-6 : tie.Need-slice-aggregate-smooth-univariate-6
+slice-aggregate-smooth-univariate-6 c = search needs
+
+slice-aggregate-smooth-univariate-7 : tie.Need-slice-aggregate-smooth-univariate-7
+slice-aggregate-smooth-univariate-7 c = search needs
+
+slice-aggregate-smooth-univariate-8 : tie.Need-slice-aggregate-smooth-univariate-8
+slice-aggregate-smooth-univariate-8 c = search needs
+
+start-mean-requires : tie.Need-start-mean-requires
+start-mean-requires c κs = search needs
+
+slice-aggregate-smooth-univariate-9 : tie.Need-slice-aggregate-smooth-univariate-9
+slice-aggregate-smooth-univariate-9 c = search needs
+
+start-cov-requires : tie.Need-start-cov-requires
+start-cov-requires c κs = search needs
+
+slice-aggregate-smooth-univariate-10 : tie.Need-slice-aggregate-smooth-univariate-10
+slice-aggregate-smooth-univariate-10 c = search needs
+
+flags-requires : tie.Need-flags-requires
+flags-requires c κs = search needs
+
+slice-aggregate-smooth-univariate-11 : tie.Need-slice-aggregate-smooth-univariate-11
+slice-aggregate-smooth-univariate-11 c = search needs
+
+mul-first : tie.Need-mul-first
+mul-first c = search needs
+
+first-requires : tie.Need-first-requires
+first-requires c κs = search needs
+
+slice-aggregate-smooth-univariate-12 : tie.Need-slice-aggregate-smooth-univariate-12
+slice-aggregate-smooth-univariate-12 c = search needs
+
+slice-aggregate-smooth-univariate-13 : tie.Need-slice-aggregate-smooth-univariate-13
+slice-aggregate-smooth-univariate-13 c = search needs
+
+slice-aggregate-smooth-univariate-14 : tie.Need-slice-aggregate-smooth-univariate-14
+slice-aggregate-smooth-univariate-14 c = search needs
+
+slice-aggregate-smooth-univariate-15 : tie.Need-slice-aggregate-smooth-univariate-15
+slice-aggregate-smooth-univariate-15 c = search needs
+
+slice-aggregate-smooth-univariate-16 : tie.Need-slice-aggregate-smooth-univariate-16
+slice-aggregate-smooth-univariate-16 c = search needs
+
+slice-aggregate-smooth-univariate-17 : tie.Need-slice-aggregate-smooth-univariate-17
+slice-aggregate-smooth-univariate-17 c = search needs
+
+slice-aggregate-smooth-univariate-18 : tie.Need-slice-aggregate-smooth-univariate-18
+slice-aggregate-smooth-univariate-18 c = search needs
+
+slice-aggregate-smooth-univariate-19 : tie.Need-slice-aggregate-smooth-univariate-19
+slice-aggregate-smooth-univariate-19 c = search needs
+
+slice-aggregate-smooth-univariate-20 : tie.Need-slice-aggregate-smooth-univariate-20
+slice-aggregate-smooth-univariate-20 c = search needs
+
+slice-aggregate-smooth-univariate-21 : tie.Need-slice-aggregate-smooth-univariate-21
+slice-aggregate-smooth-univariate-21 c = search needs
+
+slice-aggregate-smooth-univariate-22 : tie.Need-slice-aggregate-smooth-univariate-22
+slice-aggregate-smooth-univariate-22 c = search needs
+
+slice-aggregate-smooth-univariate-23 : tie.Need-slice-aggregate-smooth-univariate-23
+slice-aggregate-smooth-univariate-23 c = search needs
+
+slice-aggregate-smooth-univariate-24 : tie.Need-slice-aggregate-smooth-univariate-24
+slice-aggregate-smooth-univariate-24 c = search needs
+
+smooth-univariate-requires : tie.Need-smooth-univariate-requires
+smooth-univariate-requires c κs = search needs
+
+slice-aggregate-fill : tie.Need-slice-aggregate-fill
+slice-aggregate-fill c = search needs
+
+slice-aggregate-fill-2 : tie.Need-slice-aggregate-fill-2
+slice-aggregate-fill-2 c = search needs
+
+slice-aggregate-fill-3 : tie.Need-slice-aggregate-fill-3
+slice-aggregate-fill-3 c = search needs
+
+slice-aggregate-fill-4 : tie.Need-slice-aggregate-fill-4
+slice-aggregate-fill-4 c = search needs
+
+slice-aggregate-fill-5 : tie.Need-slice-aggregate-fill-5
+slice-aggregate-fill-5 c = search needs
+
+slice-aggregate-fill-6 : tie.Need-slice-aggregate-fill-6
+slice-aggregate-fill-6 c = search needs
+
+fill-requires : tie.Need-fill-requires
+fill-requires c κs = c .before .before .before .before .before .before .before .before .before .before .before .before .before .before .before .before .before .before .before .before .before .before .before .before .before .before .before .before .before .before .before .before .before .before .before .before .before .before .before .before .before .before .before .before .before .before .before .before .before .before .before .before .before .before .before .before .before .pre
+
+slice-aggregate-fill-fates : tie.Need-slice-aggregate-fill-fates
+slice-aggregate-fill-fates c = search needs
+
+fill-fates-requires : tie.Need-fill-fates-requires
+fill-fates-requires c κs = c .before .before .before .before .before .before .before .before .before .before .before .before .before .before .before .before .before .before .before .before .before .before .before .before .before .before .before .before .before .before .before .before .before .before .before .before .before .before .before .before .before .before .before .before .before .before .before .before .before .before .before .before .before .before .before .before .before .before .before .before .before .before .pre
+
+same-length : tie.Need-same-length
+same-length c = search needs
+
+same-length-2 : tie.Need-same-length-2
+same-length-2 c = search needs
+
+returns : tie.Need-returns
+returns c = search needs
+
+pub estimate-spec : {M : Type 1} → statement M
+estimate-spec =
+    tie.close
+    (tie.spec
+    design-requires
+    slice-aggregate-smooth-univariate
+    slice-aggregate-smooth-univariate-2
+    noise-requires
+    slice-aggregate-smooth-univariate-3
+    transition-requires
+    slice-aggregate-smooth-univariate-4
+    identity-requires
+    slice-aggregate-smooth-univariate-5
+    disturbances-requires
+    slice-aggregate-smooth-univariate-6
+    slice-aggregate-smooth-univariate-7
+    slice-aggregate-smooth-univariate-8
+    start-mean-requires
+    slice-aggregate-smooth-univariate-9
+    start-cov-requires
+    slice-aggregate-smooth-univariate-10
+    flags-requires
+    slice-aggregate-smooth-univariate-11
+    mul-first
+    first-requires
+    slice-aggregate-smooth-univariate-12
+    slice-aggregate-smooth-univariate-13
+    slice-aggregate-smooth-univariate-14
+    slice-aggregate-smooth-univariate-15
+    slice-aggregate-smooth-univariate-16
+    slice-aggregate-smooth-univariate-17
+    slice-aggregate-smooth-univariate-18
+    slice-aggregate-smooth-univariate-19
+    slice-aggregate-smooth-univariate-20
+    slice-aggregate-smooth-univariate-21
+    slice-aggregate-smooth-univariate-22
+    slice-aggregate-smooth-univariate-23
+    slice-aggregate-smooth-univariate-24
+    smooth-univariate-requires
+    slice-aggregate-fill
+    slice-aggregate-fill-2
+    slice-aggregate-fill-3
+    slice-aggregate-fill-4
+    slice-aggregate-fill-5
+    slice-aggregate-fill-6
+    fill-requires
+    slice-aggregate-fill-fates
+    fill-fates-requires
+    same-length
+    same-length-2
+    returns)

@@ -1,0 +1,81 @@
+// What the library makes of a sheet: its call, and the numbers of its answer that are shown. The outputs of 4096 periods stand on the stack, 2.1 MB.
+mod system;
+
+ghost use Prim.Native.Nat.{_≤_};
+use sheet::answers::Settings;
+
+// The first k places, or all.
+fn first<'a>(s: &'a [f64], k: usize) -> &'a [f64] {
+    if k > s.len() {
+        return s;
+    }
+    let none = 0;
+    &s[none..k]
+}
+
+pub fn estimate(
+    s: Settings,
+    n: usize,
+    y: &[f64],
+    rows: &mut [f64],
+    fates: &mut [u8],
+) -> goxundar::Outcome
+    requires { ⌜ n ≤ 4096 ⌝ }
+{
+    let mut pred_mean = [0.0; 12291];
+    let mut pred_cov = [0.0; 36873];
+    let mut pred_inf = [0.0; 36873];
+    let mut filt_mean = [0.0; 12288];
+    let mut filt_cov = [0.0; 36864];
+    let mut kinds = [0u8; 8192];
+    let mut v = [0.0; 8192];
+    let mut f_star = [0.0; 8192];
+    let mut f_inf = [0.0; 8192];
+    let mut m_star = [0.0; 24576];
+    let mut m_inf = [0.0; 24576];
+    let mut sm_mean = [0.0; 12288];
+    let mut sm_cov = [0.0; 36864];
+    let outcome = goxundar::smooth(
+        2,
+        3,
+        3,
+        n,
+        &system::design(),
+        &[],
+        &system::noise(s),
+        &system::transition(s),
+        &system::identity(),
+        &system::disturbances(s),
+        &[0.0; 3],
+        &[0.0; 2],
+        &system::start_mean(s),
+        &system::start_cov(s),
+        &system::flags(s),
+        first(y, 2 * n),
+        &mut pred_mean,
+        &mut pred_cov,
+        &mut pred_inf,
+        &mut filt_mean,
+        &mut filt_cov,
+        &mut kinds,
+        &mut v,
+        &mut f_star,
+        &mut f_inf,
+        &mut m_star,
+        &mut m_inf,
+        &mut sm_mean,
+        &mut sm_cov,
+    );
+    rows::fill(
+        rows,
+        n,
+        &pred_inf,
+        &kinds,
+        &filt_mean,
+        &filt_cov,
+        &sm_mean,
+        &sm_cov,
+    );
+    rows::fill_fates(fates, n, &kinds, y);
+    outcome
+}

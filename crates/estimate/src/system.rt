@@ -1,0 +1,117 @@
+// The sheet's settings as the library's model: three states, the offset in microseconds, the rate in thousandths of a ppb, and the radio's own error
+// in a period's check, in microseconds. Both inputs read offset + radio error, each with noise of its own.
+//
+// Why thousandths of a ppb: the library's test for a diffuse period is absolute, and P∞ starts with ones. In ppb, two weeks of hourly periods with no
+// check before the first would pass for a rate that is known. In thousandths it takes ten years (docs/PANEL.md).
+use sheet::answers::Settings;
+use sheet::answers::Spread;
+use sheet::answers::Start;
+
+// What a ppb has of the rate's unit.
+const PER_PPB: f64 = 1000.0;
+
+// A rate of one unit moves the offset by a microsecond in so many seconds.
+const SECONDS: f64 = 1000000.0;
+
+fn double(n: u64) -> f64 {
+    std::num::nearest_u64_to_f64(n)
+}
+
+fn signed(minus: bool, n: u64) -> f64 {
+    if minus { -double(n) } else { double(n) }
+}
+
+// A standard deviation is squared, a variance taken as it is; `unit` is how many of the state's units one of the sheet's has.
+fn variance(s: Spread, unit: f64) -> f64 {
+    let size = double(s.size);
+    if s.sd {
+        let d = size * unit;
+        return d * d;
+    }
+    size * (unit * unit)
+}
+
+// The start's mean and variance: zeros of a state that is flagged.
+fn mean(s: Start, unit: f64) -> f64 {
+    if s.known {
+        signed(s.minus, s.size) * unit
+    } else {
+        0.0
+    }
+}
+
+fn start_variance(s: Start, unit: f64) -> f64 {
+    let spread = s.spread;
+    if s.known { variance(spread, unit) } else { 0.0 }
+}
+
+fn flag(s: Start) -> u8 {
+    if s.known { 0 } else { 1 }
+}
+
+fn diagonal(a: f64, b: f64, c: f64) -> [f64; 9] {
+    [a, 0.0, 0.0, 0.0, b, 0.0, 0.0, 0.0, c]
+}
+
+pub fn design() -> [f64; 6] {
+    [1.0, 0.0, 1.0, 1.0, 0.0, 1.0]
+}
+
+pub fn identity() -> [f64; 9] {
+    diagonal(1.0, 1.0, 1.0)
+}
+
+pub fn noise(s: Settings) -> [f64; 4] {
+    let first = s.noise;
+    let second = s.noise_2;
+    [variance(first, 1.0), 0.0, 0.0, variance(second, 1.0)]
+}
+
+// The offset grows by the rate; of the radio's error nothing stays.
+pub fn transition(s: Settings) -> [f64; 9] {
+    [
+        1.0,
+        double(s.period) / SECONDS,
+        0.0,
+        0.0,
+        1.0,
+        0.0,
+        0.0,
+        0.0,
+        0.0,
+    ]
+}
+
+pub fn disturbances(s: Settings) -> [f64; 9] {
+    let offset = s.wander_offset;
+    let rate = s.wander_rate;
+    let radio = s.radio;
+    diagonal(
+        variance(offset, 1.0),
+        variance(rate, PER_PPB),
+        variance(radio, 1.0),
+    )
+}
+
+pub fn start_mean(s: Settings) -> [f64; 3] {
+    let offset = s.offset;
+    let rate = s.rate;
+    [mean(offset, 1.0), mean(rate, PER_PPB), 0.0]
+}
+
+pub fn start_cov(s: Settings) -> [f64; 9] {
+    let offset = s.offset;
+    let rate = s.rate;
+    let radio = s.radio;
+    diagonal(
+        start_variance(offset, 1.0),
+        start_variance(rate, PER_PPB),
+        variance(radio, 1.0),
+    )
+}
+
+pub fn flags(s: Settings) -> [u8; 3] {
+    let offset = s.offset;
+    let rate = s.rate;
+    [flag(offset), flag(rate), 0]
+}

@@ -1,0 +1,211 @@
+// What is shown of each period: what became of its two checks, and eight numbers.
+ghost use mathlib.Core.Path.{_≡_};
+ghost use Prim.Native.Nat.{_≤_, _<_};
+ghost use lib.ListN.{length};
+
+// A period's numbers: the filtered offset, its standard deviation, the rate, its own; then the smoothed ones.
+pub const ROW: usize = 8;
+
+pub const SMOOTHED: usize = 4;
+
+// A standard deviation is infinite where nothing is known yet, and then its mean says nothing.
+pub const OFFSET: usize = 0;
+
+pub const OFFSET_SD: usize = 1;
+
+pub const RATE: usize = 2;
+
+pub const RATE_SD: usize = 3;
+
+// What became of a check.
+pub const NO_CHECK: u8 = 0;
+
+pub const TAKEN: u8 = 1;
+
+pub const FIRST_NEWS: u8 = 2;
+
+pub const PASSED_OVER: u8 = 3;
+
+// The library's test for a diffuse period.
+const DIFFUSE: f64 = 1e-10;
+
+pub fn rows() -> [f64; 32768]
+    ensures { λ r. ⌜ 32768 ≡ length r ⌝ }
+{
+    [0.0; 32768]
+}
+
+pub fn fates() -> [u8; 8192]
+    ensures { λ r. ⌜ 8192 ≡ length r ⌝ }
+{
+    [0; 8192]
+}
+
+pub fn readings() -> [f64; 8192]
+    ensures { λ r. ⌜ 8192 ≡ length r ⌝ }
+{
+    [0.0; 8192]
+}
+
+// Seconds from the first period to period t.
+pub fn time(t: usize, period: u64) -> f64 {
+    std::num::nearest_u64_to_f64(t as u64) * std::num::nearest_u64_to_f64(period)
+}
+
+// Place i, or 0 past the end.
+pub fn at(s: &[f64], i: usize) -> f64 {
+    if i < s.len() {
+        return s[i];
+    }
+    0.0
+}
+
+pub fn byte(s: &[u8], i: usize) -> u8 {
+    if i < s.len() {
+        return s[i];
+    }
+    0
+}
+
+// Number c of period t.
+pub fn of(rows: &[f64], t: usize, c: usize) -> f64
+    requires { ⌜ (t < 4096) × (c < 8) ⌝ }
+{
+    at(rows, ROW * t + c)
+}
+
+fn put(out: &mut [f64], i: usize, x: f64) {
+    if i < out.len() {
+        out[i] = x;
+    }
+}
+
+fn put_byte(out: &mut [u8], i: usize, x: u8) {
+    if i < out.len() {
+        out[i] = x;
+    }
+}
+
+fn fate(kind: u8, reading: f64) -> u8 {
+    match kind {
+        1 => TAKEN,
+        2 => FIRST_NEWS,
+        _ => if float::is_nan(reading) {
+            NO_CHECK
+        } else {
+            PASSED_OVER
+        },
+    }
+}
+
+// Whether period k starts with a covariance that has no bound: the library's own test, which the place after the last period has not had.
+fn open(pred_inf: &[f64], k: usize) -> bool
+    requires { ⌜ k ≤ 4096 ⌝ }
+{
+    let mut sum = 0.0;
+    for i in 0..9 {
+        let x = at(pred_inf, 9 * k + i);
+        sum = sum + x * x;
+    }
+    sum > DIFFUSE
+}
+
+// Whether the offset has no bound after period t. A check that is first news bounds it.
+fn offset_open(pred_inf: &[f64], kinds: &[u8], t: usize) -> bool
+    requires { ⌜ t < 4096 ⌝ }
+{
+    if byte(kinds, 2 * t) == 2 {
+        return false;
+    }
+    if byte(kinds, 2 * t + 1) == 2 {
+        return false;
+    }
+    open(pred_inf, t) & (at(pred_inf, 9 * t) != 0.0)
+}
+
+// Whether the rate has no bound at the start of period k: the step from period to period leaves the rate as it is.
+fn rate_open(pred_inf: &[f64], k: usize) -> bool
+    requires { ⌜ k ≤ 4096 ⌝ }
+{
+    open(pred_inf, k) & (at(pred_inf, 9 * k + 4) != 0.0)
+}
+
+// A variance below 0 is rounding.
+fn deviation(variance: f64, open: bool) -> f64 {
+    if open {
+        return 1.0 / 0.0;
+    }
+    float::sqrt(float::max0(variance))
+}
+
+// Four numbers of period t, from one pair of means and covariances.
+fn fill_half(
+    rows: &mut [f64],
+    from: usize,
+    means: &[f64],
+    covs: &[f64],
+    t: usize,
+    offset_open: bool,
+    rate_open: bool,
+)
+    requires { ⌜ (t < 4096) × (from ≤ 32768) ⌝ }
+{
+    put(rows, from + OFFSET, at(means, 3 * t));
+    put(
+        rows,
+        from + OFFSET_SD,
+        deviation(at(covs, 9 * t), offset_open),
+    );
+    put(rows, from + RATE, at(means, 3 * t + 1));
+    put(
+        rows,
+        from + RATE_SD,
+        deviation(at(covs, 9 * t + 4), rate_open),
+    );
+}
+
+// Where the last period leaves the rate with no bound, hindsight has learnt nothing of it either; and of the offset only where a check stands.
+pub fn fill(
+    rows: &mut [f64],
+    n: usize,
+    pred_inf: &[f64],
+    kinds: &[u8],
+    filt_mean: &[f64],
+    filt_cov: &[f64],
+    sm_mean: &[f64],
+    sm_cov: &[f64],
+)
+    requires { ⌜ n ≤ 4096 ⌝ }
+{
+    let left_open = open(pred_inf, n);
+    let rate_left_open = rate_open(pred_inf, n);
+    for t in 0..n {
+        let offset = offset_open(pred_inf, kinds, t);
+        fill_half(
+            rows,
+            ROW * t,
+            filt_mean,
+            filt_cov,
+            t,
+            offset,
+            rate_open(pred_inf, t + 1),
+        );
+        fill_half(
+            rows,
+            ROW * t + SMOOTHED,
+            sm_mean,
+            sm_cov,
+            t,
+            offset & left_open,
+            rate_left_open,
+        );
+    }
+}
+
+pub fn fill_fates(fates: &mut [u8], n: usize, kinds: &[u8], y: &[f64])
+    requires { ⌜ n ≤ 4096 ⌝ }
+{
+    for i in 0..2 * n {
+        put_byte(fates, i, fate(byte(kinds, i), at(y, i)));
+    }
+}
