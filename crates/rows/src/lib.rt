@@ -1,7 +1,10 @@
 // What is shown of each period: what became of its two checks, and eight numbers.
 ghost use mathlib.Core.Path.{_≡_};
-ghost use Prim.Native.Nat.{_≤_, _<_};
-ghost use lib.ListN.{length};
+ghost use Prim.Native.Nat.{_+_, _*_, _≤_, _<_};
+ghost use lib.ListN.{length, set};
+ghost use lib.Seq.{sets};
+ghost use Rattle.rows.specs.Rows.{byteAt, numAt, timeOf, fateOf, openOf, offsetOpenOf, rateOpenOf, deviationOf, halfOf};
+ghost use Rattle.rows.specs.Filled.{FatesFilled, RowsFilled};
 
 // A period's numbers: the filtered offset, its standard deviation, the rate, its own; then the smoothed ones.
 pub const ROW: usize = 8;
@@ -48,19 +51,25 @@ pub fn readings() -> [f64; 8192]
 }
 
 // Seconds from the first period to period t.
-pub fn time(t: usize, period: u64) -> f64 {
+pub fn time(t: usize, period: u64) -> f64
+    ensures { λ r. ⌜ r ≡ timeOf t period ⌝ }
+{
     std::num::nearest_u64_to_f64(t as u64) * std::num::nearest_u64_to_f64(period)
 }
 
 // Place i, or 0 past the end.
-pub fn at(s: &[f64], i: usize) -> f64 {
+pub fn at(s: &[f64], i: usize) -> f64
+    ensures { λ r. ⌜ r ≡ numAt (now (s .entry)) i ⌝ }
+{
     if i < s.len() {
         return s[i];
     }
     0.0
 }
 
-pub fn byte(s: &[u8], i: usize) -> u8 {
+pub fn byte(s: &[u8], i: usize) -> u8
+    ensures { λ r. ⌜ r ≡ byteAt (now (s .entry)) i ⌝ }
+{
     if i < s.len() {
         return s[i];
     }
@@ -70,23 +79,30 @@ pub fn byte(s: &[u8], i: usize) -> u8 {
 // Number c of period t.
 pub fn of(rows: &[f64], t: usize, c: usize) -> f64
     requires { ⌜ (t < 4096) × (c < 8) ⌝ }
+    ensures { λ r. ⌜ r ≡ numAt (now (rows .entry)) (8 * t + c) ⌝ }
 {
     at(rows, ROW * t + c)
 }
 
-fn put(out: &mut [f64], i: usize, x: f64) {
+fn put(out: &mut [f64], i: usize, x: f64)
+    ensures { λ _. ⌜ now (out .exit) ≡ set (now (out .entry)) i x ⌝ }
+{
     if i < out.len() {
         out[i] = x;
     }
 }
 
-fn put_byte(out: &mut [u8], i: usize, x: u8) {
+fn put_byte(out: &mut [u8], i: usize, x: u8)
+    ensures { λ _. ⌜ now (out .exit) ≡ set (now (out .entry)) i x ⌝ }
+{
     if i < out.len() {
         out[i] = x;
     }
 }
 
-fn fate(kind: u8, reading: f64) -> u8 {
+fn fate(kind: u8, reading: f64) -> u8
+    ensures { λ r. ⌜ r ≡ fateOf kind reading ⌝ }
+{
     match kind {
         1 => TAKEN,
         2 => FIRST_NEWS,
@@ -101,6 +117,7 @@ fn fate(kind: u8, reading: f64) -> u8 {
 // Whether period k starts with a covariance that has no bound: the library's own test, which the place after the last period has not had.
 fn open(pred_inf: &[f64], k: usize) -> bool
     requires { ⌜ k ≤ 4096 ⌝ }
+    ensures { λ r. ⌜ r ≡ openOf (now («pred_inf» .entry)) k ⌝ }
 {
     let mut sum = 0.0;
     for i in 0..9 {
@@ -113,6 +130,7 @@ fn open(pred_inf: &[f64], k: usize) -> bool
 // Whether the offset has no bound after period t. A check that is first news bounds it.
 fn offset_open(pred_inf: &[f64], kinds: &[u8], t: usize) -> bool
     requires { ⌜ t < 4096 ⌝ }
+    ensures { λ r. ⌜ r ≡ offsetOpenOf (now («pred_inf» .entry)) (now (kinds .entry)) t ⌝ }
 {
     if byte(kinds, 2 * t) == 2 {
         return false;
@@ -126,12 +144,15 @@ fn offset_open(pred_inf: &[f64], kinds: &[u8], t: usize) -> bool
 // Whether the rate has no bound at the start of period k: the step from period to period leaves the rate as it is.
 fn rate_open(pred_inf: &[f64], k: usize) -> bool
     requires { ⌜ k ≤ 4096 ⌝ }
+    ensures { λ r. ⌜ r ≡ rateOpenOf (now («pred_inf» .entry)) k ⌝ }
 {
     open(pred_inf, k) & (at(pred_inf, 9 * k + 4) != 0.0)
 }
 
 // A variance below 0 is rounding.
-fn deviation(variance: f64, open: bool) -> f64 {
+fn deviation(variance: f64, open: bool) -> f64
+    ensures { λ r. ⌜ r ≡ deviationOf variance «open» ⌝ }
+{
     if open {
         return 1.0 / 0.0;
     }
@@ -149,6 +170,7 @@ fn fill_half(
     rate_open: bool,
 )
     requires { ⌜ (t < 4096) × (from ≤ 32768) ⌝ }
+    ensures { λ _. ⌜ now (rows .exit) ≡ sets (now (rows .entry)) from (halfOf (now (means .entry)) (now (covs .entry)) t «offset_open» «rate_open») ⌝ }
 {
     put(rows, from + OFFSET, at(means, 3 * t));
     put(
@@ -176,6 +198,7 @@ pub fn fill(
     sm_cov: &[f64],
 )
     requires { ⌜ n ≤ 4096 ⌝ }
+    ensures { λ _. ⌜ RowsFilled n (now («pred_inf» .entry)) (now (kinds .entry)) (now («filt_mean» .entry)) (now («filt_cov» .entry)) (now («sm_mean» .entry)) (now («sm_cov» .entry)) (now (rows .entry)) (now (rows .exit)) ⌝ }
 {
     let left_open = open(pred_inf, n);
     let rate_left_open = rate_open(pred_inf, n);
@@ -204,6 +227,7 @@ pub fn fill(
 
 pub fn fill_fates(fates: &mut [u8], n: usize, kinds: &[u8], y: &[f64])
     requires { ⌜ n ≤ 4096 ⌝ }
+    ensures { λ _. ⌜ FatesFilled n (now (kinds .entry)) (now (y .entry)) (now (fates .entry)) (now (fates .exit)) ⌝ }
 {
     for i in 0..2 * n {
         put_byte(fates, i, fate(byte(kinds, i), at(y, i)));

@@ -1,0 +1,13 @@
+-- Past the end nothing is set.
+use mathlib.Core.Path.{sym}
+use borrow.Author.Needs.{needs}
+use native.Mathlib.Omega.{arith}
+use lib.Seq.{set-out}
+use Rattle.rows.proofs.put.Statement.{statement}
+use Rattle.rows.proofs.put.Tie as tie
+
+returns-2 : tie.Need-returns-2
+returns-2 c = let a = c .before .args in sym (set-out (a .out .now) (a .i) (a .x) (omega arith))
+
+pub put-spec : {M : Type 1} → statement M
+put-spec = tie.close (tie.spec (λ c. search needs) (λ c. search needs) (λ c. search needs) (λ c. search needs) returns-2)
