@@ -34,8 +34,25 @@ unsafe fn call_on(top: *mut u8, which: &Call, args: &Args) {
     );
 }
 
+/// Runs `call` with the stack pointer at `top`.
+#[cfg(target_arch = "aarch64")]
+unsafe fn call_on(top: *mut u8, which: &Call, args: &Args) {
+    std::arch::asm!(
+        "mov x20, sp",
+        "mov sp, {top}",
+        "bl {f}",
+        "mov sp, x20",
+        top = in(reg) top,
+        f = sym call,
+        in("x0") which,
+        in("x1") args,
+        out("x20") _,
+        clobber_abi("C"),
+    );
+}
+
 /// Bytes of stack that the call on a case takes, with its parameters and the frames that hand them over, here some 600 bytes.
-#[cfg(target_arch = "x86_64")]
+#[cfg(any(target_arch = "x86_64", target_arch = "aarch64"))]
 fn depth(which: Call, case: &Case, room: &mut [u128]) -> usize {
     let bytes = room.as_mut_ptr().cast::<u8>();
     let mut lent = Lent::of(case, 0);
@@ -49,7 +66,7 @@ fn depth(which: Call, case: &Case, room: &mut [u128]) -> usize {
 }
 
 /// The timed case of m = p = 8, and the deepest over fresh cases.
-#[cfg(target_arch = "x86_64")]
+#[cfg(any(target_arch = "x86_64", target_arch = "aarch64"))]
 pub fn print() {
     let mut room = vec![0u128; SIZE / 16];
     println!("Deepest stack of a call of the library, in bytes, with its parameters and the frame that hands them over");
@@ -61,7 +78,7 @@ pub fn print() {
     }
 }
 
-#[cfg(not(target_arch = "x86_64"))]
+#[cfg(not(any(target_arch = "x86_64", target_arch = "aarch64")))]
 pub fn print() {
-    println!("Deepest stack of a call of the library: measured on x86-64 alone");
+    println!("Deepest stack of a call of the library: measured on x86-64 and Arm alone");
 }
