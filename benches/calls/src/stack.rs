@@ -51,7 +51,7 @@ unsafe fn call_on(top: *mut u8, which: &Call, args: &Args) {
     );
 }
 
-/// Bytes of stack that the call on a case takes, with its parameters and the frames that hand them over, here some 600 bytes.
+/// Bytes of stack that the call on a case takes, with its parameters and the frames that hand them over, here 700 to 800 bytes.
 #[cfg(any(target_arch = "x86_64", target_arch = "aarch64"))]
 fn depth(which: Call, case: &Case, room: &mut [u128]) -> usize {
     let bytes = room.as_mut_ptr().cast::<u8>();
