@@ -29,7 +29,7 @@ module _ (x : Model) (o : Offsets) (y : List Float) where
   abbrev pub number : Bool → ℕ
   number room = refusal x o (length y) (anyOf isInfinity kinds) room
 
-  by-number : (room : Bool) (k : ℕ) → k ≡ number room → fate x o kinds room ≡ fateOf k (noInformation (countsOf (covOf x kinds .0) kinds))
+  pub by-number : (room : Bool) (k : ℕ) → k ≡ number room → fate x o kinds room ≡ fateOf k (noInformation (countsOf (covOf x kinds .0) kinds))
   unfolding fate
   by-number room k e = rw (length-map, ← e) refl
 

@@ -1,5 +1,5 @@
 -- The call's three ends are the outcome's.
-use mathlib.Core.Path.{_≡_, refl, sym, ap, _∙_}
+use mathlib.Core.Path.{_≡_, refl, sym, ap, subst, _∙_}
 use Prim.Native.Nat.{ℕ, zero, suc, _≤_, _<_}
 use native.Mathlib.Omega.{arith}
 use mathlib.Core.Bool.{Bool, true, false}
@@ -9,18 +9,20 @@ use lib.Ieee.{Float}
 use Rattle.definition.specs.Run.{anyOf}
 use Rattle.definition.specs.Inputs.{Model, Offsets, Kind, kindOf, isInfinity}
 use Rattle.definition.specs.Refusals.{outside}
-use Rattle.definition.specs.Outcome.{CovParts, MeanParts, SmoothedCov, SmoothedMean, Fate, turned, silent, answered, fate, after, roomySmoothed, smoothedCovNeed, smoothedMeanNeed, covOutcome, meanOutcome, smoothedCov, smoothedMean, smoothOutcome, smoothOutcomeAt}
+use Rattle.definition.specs.Parts.{predCov, predInf, fStar, fInf, mStar, mInf, predMean, innovations}
+use Rattle.definition.specs.Outcome.{CovParts, MeanParts, SmoothedCov, SmoothedMean, Fate, turned, silent, answered, fateOf, fate, numberOf, after, roomy, roomySmoothed, smoothedCovNeed, smoothedMeanNeed, covOf, countsOf, noInformation, covOutcome, meanOutcome, outcome, outcomeAt, smoothedCov, smoothedMean, smoothOutcome, smoothOutcomeAt}
 use Rattle.laws.specs.Accepted.{accepted}
+use Rattle.laws.specs.Flat.{flatIn}
 use Rattle.model.specs.Lengths.{Room, roomsSmoothed, by-room-smoothed}
 use Rattle.blank.specs.Stretches.{SmoothedBlank}
 use Rattle.mean.specs.declared.Answer.{Answer}
-use Rattle.passes.specs.View.{Ran}
+use Rattle.passes_back.specs.View.{Back}
+use Rattle.filter.specs.declared.Outcome.{Outcome}
 use Rattle.filter.specs.declared.Outcome.the-variants.{Refused, Answered}
-use Rattle.filter.specs.Promise.{isSilent}
-use Rattle.filter.specs.Blanked.{Blanked}
+use Rattle.filter.specs.Promise.{answerBy, Promise}
 use Rattle.filter.specs.Ends as ends
 use Rattle.smoother.specs.Promise.{PromiseSmooth}
-use Rattle.smoother.proofs.Looked.{Past, Smoothed}
+use Rattle.smoother.proofs.Looked.{Past, fit, smoothed}
 
 abbrev kinds : List Float → List Kind
 kinds y = map kindOf y
@@ -41,6 +43,29 @@ by-fate : (x : Model) (o : Offsets) (y : List Float) (w : CovParts) (w′ : Mean
 unfolding smoothOutcome smoothOutcomeAt End
 by-fate x o y w w′ sm sc f e = ap (λ (g : Fate). End x o y w w′ sm sc g) e
 
+-- refusal 12, where refusals 1 to 11 are past
+abbrev quiet : Model → List Float → Bool
+quiet x y = noInformation (countsOf (covOf x (kinds y) .0) (kinds y))
+
+-- a call past them is silent if it says a number, and answered if it has an answer
+abbrev isAnswer : Outcome → ℕ
+isAnswer (Refused k) = 0
+isAnswer (Answered a) = 1
+
+apart : {k : ℕ} {a : Answer} → Refused k ≡ Answered a → ⊥
+apart e = let z : _≡_ {A = ℕ} 0 1 = ap isAnswer e in omega arith
+
+module _ (x : Model) (o : Offsets) (y : List Float) (w : CovParts) (w′ : MeanParts) {b : CovParts} {b′ : MeanParts} where
+  refused-silent : (t : Bool) (i : ℕ) → Promise (ends.End x o y w w′ (fateOf 0 t)) (Refused i) b b′ → fateOf 0 t ≡ silent
+  unfolding fateOf covOutcome numberOf answerBy
+  refused-silent true i u = refl
+  refused-silent false i u = absurd (apart (u .answer))
+
+  answered-heard : (t : Bool) (a : Answer) → Promise (ends.End x o y w w′ (fateOf 0 t)) (Answered a) b b′ → fateOf 0 t ≡ answered
+  unfolding fateOf covOutcome numberOf answerBy
+  answered-heard true a u = absurd (apart (sym (u .answer)))
+  answered-heard false a u = refl
+
 module _ {x : Model} {o : Offsets} {y : List Float} {w : CovParts} {w′ : MeanParts} {sm sc : List Float} {k : ℕ} (e : CheckedSmooth x o y w w′ sm sc k) where
   pub refused : 0 < k → PromiseSmooth (smoothOutcome x o y w w′ sc sm) (Refused k) w w′ sm sc
   unfolding End smoothedCov smoothedMean after
@@ -54,15 +79,31 @@ module _ {x : Model} {o : Offsets} {y : List Float} {w : CovParts} {w′ : MeanP
   pub past : k ≤ 0 → Past x o (length y) w w′ sm sc
   past h = record { accepted = accepted x o (length y) (anyOf isInfinity (kinds y)) (roomySmoothed x w w′ sc sm) (sym (ends.none h (e .number))) }
 
-  module _ {a : Answer} {b : CovParts} {b′ : MeanParts} (none : k ≤ 0) (r : Ran x o y a w b w′ b′) {sm′ sc′ : List Float} where
-    pub heard : isSilent (a .heard) (a .news) ≡ false → Smoothed x o y sm sm′ sc sc′ → PromiseSmooth (smoothOutcome x o y w w′ sc sm) (Answered a) b b′ sm′ sc′
-    unfolding End smoothedCov smoothedMean after
-    heard h s =
-        rw (by-fate x o y w w′ sm sc answered (ends.is-answered x o y w w′ r (roomySmoothed x w w′ sc sm) (ends.none none (e .number)) h))
-        (record { filter = ends.answered-so x o y w w′ r; mean = s .mean .is; cov = s .cov .is })
+  -- past the checks the filter's call has the fate of this one; r, b and b′ are what it left
+  module _ (none : k ≤ 0) {r : Outcome} {b : CovParts} {b′ : MeanParts} (u : Promise (outcome x o y w w′) r b b′) where
+    fated : fate x o (kinds y) (roomySmoothed x w w′ sc sm) ≡ fateOf 0 (quiet x y)
+    fated = ends.by-number x o y (roomySmoothed x w w′ sc sm) 0 (ends.none none (e .number))
 
-    pub silenced : {c : CovParts} {c′ : MeanParts} → isSilent (a .heard) (a .news) ≡ true → Blanked x b c b′ c′ → SmoothedBlank (x .m) (x .n) sm sm′ sc sc′ → PromiseSmooth (smoothOutcome x o y w w′ sc sm) (Refused 12) c c′ sm′ sc′
-    unfolding End smoothedCov smoothedMean after smoothedCovNeed smoothedMeanNeed
-    silenced h z s =
-        rw (by-fate x o y w w′ sm sc silent (ends.is-silent x o y w w′ r (roomySmoothed x w w′ sc sm) (ends.none none (e .number)) h))
-        (record { filter = ends.silent-so x o y w w′ r z; mean = s .mean; cov = s .cov })
+    same : fate x o (kinds y) (roomy x w w′) ≡ fate x o (kinds y) (roomySmoothed x w w′ sc sm)
+    same = ap (fate x o (kinds y)) (fit (past none) .accepted .roomy ∙ sym (past none .accepted .roomy))
+
+    ended : {r′ : Outcome} → r ≡ r′ → Promise (ends.End x o y w w′ (fateOf 0 (quiet x y))) r′ b b′
+    unfolding outcome outcomeAt
+    ended {r′} g = subst (λ (f : Fate). Promise (ends.End x o y w w′ f) r′ b b′) (same ∙ fated) (subst (λ (q : Outcome). Promise (outcome x o y w w′) q b b′) g u)
+
+    module _ {sm′ sc′ : List Float} where
+      pub silenced : {i : ℕ} → r ≡ Refused i → SmoothedBlank (x .m) (x .n) sm sm′ sc sc′ → PromiseSmooth (smoothOutcome x o y w w′ sc sm) (Refused i) b b′ sm′ sc′
+      unfolding End smoothedCov smoothedMean after smoothedCovNeed smoothedMeanNeed
+      silenced {i} g s =
+          let h = refused-silent x o y w w′ (quiet x y) i (ended g) in
+          rw (by-fate x o y w w′ sm sc silent (fated ∙ h)) (record { filter = subst (λ (f : Fate). Promise (ends.End x o y w w′ f) (Refused i) b b′) h (ended g); mean = s .mean; cov = s .cov })
+
+      pub heard : {a : Answer} → r ≡ Answered a → Back (x .p) (x .m) (x .n) (a .«d_diffuse») (x .zOnce) (x .zList) (x .t) (b′ predMean) (b .part predCov) (b .part predInf) (b′ innovations) (flatIn (b .kinds) (b .part fStar) (b .part fInf) (b .part mStar) (b .part mInf)) sm sm′ sc sc′
+          → PromiseSmooth (smoothOutcome x o y w w′ sc sm) (Answered a) b b′ sm′ sc′
+      unfolding End smoothedCov smoothedMean after
+      heard {a} g k =
+          let h = answered-heard x o y w w′ (quiet x y) a (ended g) in
+          let v : Promise (ends.End x o y w w′ answered) (Answered a) b b′ = subst (λ (f : Fate). Promise (ends.End x o y w w′ f) (Answered a) b b′) h (ended g) in
+          let t = past none .accepted in
+          let s = smoothed x o y w w′ (t .inputs .pStar) (t .inputs .a1) (t .readings) v k in
+          rw (by-fate x o y w w′ sm sc answered (fated ∙ h)) (record { filter = v; mean = s .mean; cov = s .cov })

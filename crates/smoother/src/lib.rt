@@ -1,4 +1,4 @@
-// smoother.rs: the smoother's call: the filter's checks and run, then both passes back (crates/passes_back).
+// smoother.rs: the smoother's call: its checks, the filter's call (crates/filter), then both passes back (crates/passes_back).
 ghost use Rattle.definition.specs.Outcome.{smoothOutcome};
 ghost use Rattle.model.specs.Given.{modelOf, offsetsOf};
 ghost use Rattle.passes.specs.View.{covParts, meanParts};
@@ -84,7 +84,8 @@ pub fn smooth_univariate<'a>(
     if 0 < k {
         return filter::Outcome::Refused(k);
     }
-    let a = passes::run(
+    // its own checks refuse nothing that has come past these: what it refuses here is refusal 12
+    let o = filter::filter_univariate(
         p,
         m,
         r,
@@ -113,45 +114,33 @@ pub fn smooth_univariate<'a>(
         m_star,
         m_inf,
     );
-    if filter::is_silent(a.heard, a.news) {
-        blank::filtered(
-            pred_mean,
-            pred_cov,
-            pred_inf,
-            filt_mean,
-            filt_cov,
-            kinds,
-            v,
-            f_star,
-            f_inf,
-            m_star,
-            m_inf,
-            p,
-            m,
-            n,
-        );
-        blank::smoothed(sm_mean, sm_cov, p, m, n);
-        return filter::Outcome::Refused(12);
+    match o {
+        filter::Outcome::Refused(k) => {
+            blank::smoothed(sm_mean, sm_cov, p, m, n);
+            filter::Outcome::Refused(k)
+        }
+        filter::Outcome::Answered(a) => {
+            passes_back::back(
+                z,
+                zs,
+                t,
+                pred_mean,
+                pred_cov,
+                pred_inf,
+                kinds,
+                v,
+                f_star,
+                f_inf,
+                m_star,
+                m_inf,
+                sm_mean,
+                sm_cov,
+                a.d_diffuse,
+                p,
+                m,
+                n,
+            );
+            filter::Outcome::Answered(a)
+        }
     }
-    passes_back::back(
-        z,
-        zs,
-        t,
-        pred_mean,
-        pred_cov,
-        pred_inf,
-        kinds,
-        v,
-        f_star,
-        f_inf,
-        m_star,
-        m_inf,
-        sm_mean,
-        sm_cov,
-        a.d_diffuse,
-        p,
-        m,
-        n,
-    );
-    filter::Outcome::Answered(a)
 }
