@@ -24,13 +24,13 @@ module _ (m : ℕ) (z : List Float) where
   unfolding backN
   usual-n _ _ _ _ _ _ _ _ _ _ el eg e0 e1 = cc
 
-  pub diffuse-n1 : (f1 : Float) (l0 l1 a b c s q s′ q′ r : List Float) → s ≡ outerScaled m z z f1 → q ≡ quad m l0 b l0 → s′ ≡ plus m s q → q′ ≡ quad m l1 a l0 → r ≡ plus m s′ q′ → r ≡ diffuseN1 m z f1 l0 l1 (record { n0 = a; n1 = b; n2 = c })
+  pub diffuse-n1 : (f1 : Float) (l0 l1 a b c s s′ r : List Float) → s ≡ outerScaled m z z f1 → s′ ≡ plus m s (quad m l0 b l0) → r ≡ plus m s′ (quad m l1 a l0) → r ≡ diffuseN1 m z f1 l0 l1 (record { n0 = a; n1 = b; n2 = c })
   unfolding diffuseN1
-  diffuse-n1 _ _ _ _ _ _ _ _ _ _ _ e1 e2 e3 e4 e5 = cc
+  diffuse-n1 _ _ _ _ _ _ _ _ _ e1 e2 e3 = cc
 
-  pub diffuse-n2 : (f2 : Float) (l0 l1 a b c s0 q1 s1 q2 s2 q3 s3 q4 r : List Float) → s0 ≡ outerScaled m z z f2 → q1 ≡ quad m l0 c l0 → s1 ≡ plus m s0 q1 → q2 ≡ quad m l0 b l1 → s2 ≡ plus m s1 q2 → q3 ≡ quad m l1 (tr m b) l0 → s3 ≡ plus m s2 q3 → q4 ≡ quad m l1 a l1 → r ≡ plus m s3 q4 → r ≡ diffuseN2 m z f2 l0 l1 (record { n0 = a; n1 = b; n2 = c })
+  pub diffuse-n2 : (f2 : Float) (l0 l1 a b c t s0 s1 s2 s3 r : List Float) → s0 ≡ outerScaled m z z f2 → s1 ≡ plus m s0 (quad m l0 c l0) → s2 ≡ plus m s1 (quad m l0 b l1) → t ≡ tr m b → s3 ≡ plus m s2 (quad m l1 t l0) → r ≡ plus m s3 (quad m l1 a l1) → r ≡ diffuseN2 m z f2 l0 l1 (record { n0 = a; n1 = b; n2 = c })
   unfolding diffuseN2
-  diffuse-n2 _ _ _ _ _ _ _ _ _ _ _ _ _ _ _ e1 e2 e3 e4 e5 e6 e7 e8 e9 = cc
+  diffuse-n2 _ _ _ _ _ _ _ _ _ _ _ _ e1 e2 e3 e4 e5 e6 = cc
 
   pub diffuse-n : (f f∞ f1 f2 : Float) (live : Bool) (m* m∞ l0 l1 a b c a′ b′ c′ : List Float) → l0 ≡ lUsual m z f∞ m∞ → l1 ≡ lDiffuse m z f f∞ m* m∞ → f1 ≡ fOne f∞ → f2 ≡ fTwo f f∞ → c′ ≡ diffuseN2 m z f2 l0 l1 (record { n0 = a; n1 = b; n2 = c }) → b′ ≡ diffuseN1 m z f1 l0 l1 (record { n0 = a; n1 = b; n2 = c }) → a′ ≡ quad m l0 a l0 → _≡_ {A = Ns} (record { n0 = a′; n1 = b′; n2 = c′ }) (backN m live z (record { n0 = a; n1 = b; n2 = c }) (diffuse f f∞ m* m∞))
   unfolding backN

@@ -4,7 +4,7 @@ ghost use Prim.Native.Nat.{_≤_};
 ghost use mathlib.Core.Bool.{Bool, cond};
 ghost use mathlib.Core.List.{List};
 ghost use lib.Ieee.{Float};
-ghost use Rattle.definition.specs.Dense.{mul, tr, quad};
+ghost use Rattle.definition.specs.Dense.{plus, mul, quad};
 ghost use Rattle.definition.specs.Cov.{usual, diffuse};
 ghost use Rattle.definition.specs.Smooth.{lZeroAt, lZero, lOne, fOne, fTwo, kOne, lUsual, lDiffuse, usualN0, diffuseN1, diffuseN2, backN};
 ghost use Rattle.dense.specs.Views.{vec, mat};
@@ -144,6 +144,15 @@ fn back_usual(
     usual_n1(n1, live, &l, m);
 }
 
+// A' N B, added to s. One function for all six, so that the caller's frame has no matrix for each of them.
+fn add_quad(s: &mut [f64; 64], a: &[f64; 64], n: &[f64; 64], b: &[f64; 64], m: usize)
+    requires { ⌜ m ≤ 8 ⌝ }
+    ensures { λ _. ⌜ mat m (now (s .exit)) ≡ plus m (mat m (now (s .entry))) (quad m (mat m (now (a .entry))) (mat m (now (n .entry))) (mat m (now (b .entry)))) ⌝ }
+{
+    let q = products::quad(a, n, b, m);
+    dense::add(s, &q, m);
+}
+
 // N1 = z z' F1 + L0' N1 L0 + L1' N0 L0.
 fn diffuse_n1(
     n0: &[f64; 64],
@@ -158,20 +167,9 @@ fn diffuse_n1(
     ensures { λ r. ⌜ ((n2 : List Float) → mat m r ≡ diffuseN1 m (vec m (now (z .entry))) f1 (mat m (now (l0 .entry))) (mat m (now (l1 .entry))) (record { n0 = mat m (now (n0 .entry)); n1 = mat m (now (n1 .entry)); n2 = n2 })) ⌝ }
 {
     let mut s = dense::outer_scaled(z, z, f1, m);
-    let a = products::quad(l0, n1, l0, m);
-    dense::add(&mut s, &a, m);
-    let b = products::quad(l1, n0, l0, m);
-    dense::add(&mut s, &b, m);
+    add_quad(&mut s, l0, n1, l0, m);
+    add_quad(&mut s, l1, n0, l0, m);
     s
-}
-
-// A' N' B.
-fn quad_turned(a: &[f64; 64], n: &[f64; 64], b: &[f64; 64], m: usize) -> [f64; 64]
-    requires { ⌜ m ≤ 8 ⌝ }
-    ensures { λ r. ⌜ mat m r ≡ quad m (mat m (now (a .entry))) (tr m (mat m (now (n .entry)))) (mat m (now (b .entry))) ⌝ }
-{
-    let turned = products::transpose(n, m, m);
-    products::quad(a, &turned, b, m)
 }
 
 // N2 = z z' F2 + L0' N2 L0 + L0' N1 L1 + L1' N1' L0 + L1' N0 L1.
@@ -189,14 +187,11 @@ fn diffuse_n2(
     ensures { λ r. ⌜ mat m r ≡ diffuseN2 m (vec m (now (z .entry))) f2 (mat m (now (l0 .entry))) (mat m (now (l1 .entry))) (nsIn m (now (n0 .entry)) (now (n1 .entry)) (now (n2 .entry))) ⌝ }
 {
     let mut s = dense::outer_scaled(z, z, f2, m);
-    let a = products::quad(l0, n2, l0, m);
-    dense::add(&mut s, &a, m);
-    let b = products::quad(l0, n1, l1, m);
-    dense::add(&mut s, &b, m);
-    let c = quad_turned(l1, n1, l0, m);
-    dense::add(&mut s, &c, m);
-    let d = products::quad(l1, n0, l1, m);
-    dense::add(&mut s, &d, m);
+    add_quad(&mut s, l0, n2, l0, m);
+    add_quad(&mut s, l0, n1, l1, m);
+    let turned = products::transpose(n1, m, m);
+    add_quad(&mut s, l1, &turned, l0, m);
+    add_quad(&mut s, l1, n0, l1, m);
     s
 }
 
