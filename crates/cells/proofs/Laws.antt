@@ -17,13 +17,6 @@ use Rattle.cells.specs.Cells.{rightOf, leftOf, fits, written, tooLarge, 
 use Rattle.cells.specs.Kept.{said-fits, fits-is}
 
 -- ---- a word over blanks
-pub cleared : (n : ℕ) (old new : List ℕ) → n ≡ length old → Onto 0 (replicate n 32 ++ drop (0 + n) old) old new → new ≡ replicate (length old) 32
-cleared n old new e o =
-    whole 0 _ old new o
-    ∙ ap (λ (l : List ℕ). replicate n 32 ++ l) (drop-of-length-le old {i = 0 + n} (omega arith))
-    ∙ append-nil (replicate n 32)
-    ∙ ap (λ (k : ℕ). replicate k 32) e
-
 -- the bytes of text, copied over the blanks of a field
 pub laid : (old blank text new : List ℕ) (at width pad k : ℕ) → at + width ≤ length old → pad + length text ≤ width → k ≡ length text
     → Onto at (replicate width 32 ++ drop (at + width) old) old blank

@@ -5,6 +5,5 @@ mod words;
 pub use numbers::count;
 pub use numbers::number;
 pub use numbers::thousandths;
-pub use words::clear;
 pub use words::word_left;
 pub use words::word_right;

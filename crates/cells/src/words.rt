@@ -5,14 +5,6 @@ ghost use mathlib.Core.List.{_++_};
 ghost use lib.ListN.{length, replicate};
 ghost use Rattle.cells.specs.Cells.{rightOf, leftOf, fits, written};
 
-// Every byte of out a blank.
-pub fn clear(out: &mut [u8])
-    ensures { λ _. ⌜ now (out .exit) ≡ replicate (length (now (out .entry))) 32 ⌝ }
-{
-    let n = out.len();
-    decimal::blanks(out, 0, n);
-}
-
 // The field: `pad` blanks, the word, and blanks up to its end. The field's end is not added up before the test: the sum could wrap.
 fn word(out: &mut [u8], at: usize, width: usize, pad: usize, text: &[u8]) -> bool
     requires { ⌜ pad + length (now text) ≤ width ⌝ }

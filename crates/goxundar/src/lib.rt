@@ -2,8 +2,6 @@
 ghost use Rattle.definition.specs.Outcome.{outcome, smoothOutcome};
 ghost use Rattle.model.specs.Given.{modelOf, offsetsOf};
 ghost use Rattle.passes.specs.View.{covParts, meanParts};
-ghost use Rattle.filter.specs.Promise.{Promise};
-ghost use Rattle.smoother.specs.Promise.{PromiseSmooth};
 ghost use Rattle.goxundar.specs.Exported.{places, Told, Exported, ExportedSmooth};
 
 // The filter's call and the smoother's, as crates/filter and crates/smoother have them: refused with its number, or answered.
