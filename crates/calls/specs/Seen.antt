@@ -13,7 +13,7 @@ use Rattle.definition.specs.Outcome.{CovParts, MeanParts, Counts, CovOutcome, M
 use Rattle.demands.specs.Refusals.{Blanked, Blank}
 use Rattle.demands.specs.Values as values
 use Rattle.mean.specs.declared.Answer.{Answer}
-use Rattle.passes.specs.View.{answerIn}
+use Rattle.forward.specs.View.{answerIn}
 use Rattle.filter.specs.declared.Outcome.{Outcome}
 use Rattle.filter.specs.declared.Outcome.the-variants.{Refused, Answered}
 use Rattle.filter.specs.Promise.{answerBy, Promise}

@@ -20,7 +20,7 @@ use Rattle.laws.specs.Passes.{wrote-none, wrote-next, wrote-all, state-next, st
 use Rattle.laws.specs.Passes as passes
 use Rattle.dense.specs.Views.{vec, mat, rect}
 use Rattle.blocks.specs.Block.{Put}
-use Rattle.element.specs.Views.{stateOf}
+use Rattle.period.specs.Views.{stateOf}
 use Rattle.cov.specs.View.{gapsAt, Entered, absorbOf, Absorbed, Wrote, Left, Room, LoopedTo, Passed}
 
 -- a whole period, from what its steps leave

@@ -15,8 +15,8 @@ use Rattle.definition.specs.Cov.{Cov, elementOf, stepped}
 use Rattle.definition.specs.Inputs.{kindOf, isGap}
 use Rattle.dense.specs.Views.{vec, mat, rect}
 use Rattle.blocks.specs.Block.{Put}
-use Rattle.judge.specs.Views.{fixedOf}
-use Rattle.element.specs.Views.{Ran, stateOf}
+use Rattle.element.specs.Views.{fixedOf}
+use Rattle.period.specs.Views.{Ran, stateOf}
 use Rattle.cov.specs.View.{gapsAt, absorbOf, Absorbed, Wrote, Left}
 use Rattle.laws.specs.Passes.{over}
 

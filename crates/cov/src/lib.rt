@@ -7,7 +7,7 @@ ghost use lib.ListN.{length};
 ghost use Rattle.definition.specs.Cov.{covRun};
 ghost use Rattle.definition.specs.Inputs.{kindOf, gapRows, systemFrom, startFrom, noiseOf};
 ghost use Rattle.dense.specs.Views.{mat};
-ghost use Rattle.element.specs.Views.{stateOf};
+ghost use Rattle.period.specs.Views.{stateOf};
 ghost use Rattle.cov.specs.View.{gapsAt, Two, Entered, Five, absorbOf, Absorbed, Left, Periods, Room, LoopedTo, Ready, Rooms, Passed};
 
 pub mod counts;
@@ -25,7 +25,7 @@ fn enter(
     requires { ⌜ Two m t (length (now «pred_cov»)) (length (now «pred_inf»)) ⌝ }
     ensures { λ r. ⌜ Entered m t live (now (star .entry)) (now («p_inf» .entry)) (now («p_inf» .exit)) (now («pred_cov» .entry)) (now («pred_cov» .exit)) (now («pred_inf» .entry)) (now («pred_inf» .exit)) r ⌝ }
 {
-    let lasts = element::begin(p_inf, live, m);
+    let lasts = period::begin(p_inf, live, m);
     let mm = m * m;
     blocks::put64(pred_cov, star, t, mm);
     blocks::put64(pred_inf, p_inf, t, mm);
@@ -66,7 +66,7 @@ fn absorb(
     let mut fi = [0.0; 8];
     let mut ms = [0.0; 64];
     let mut mi = [0.0; 64];
-    element::elements(
+    period::elements(
         star,
         p_inf,
         root,
@@ -113,7 +113,7 @@ fn leave(
     dense::symmetrize_in_place(p_inf, m);
     let mm = m * m;
     blocks::put64(filt_cov, star, t, mm);
-    element::go_on(star, p_inf, root, unres, tr, rqr, diffuse, m);
+    period::go_on(star, p_inf, root, unres, tr, rqr, diffuse, m);
 }
 
 fn and_one(d: usize, yes: bool) -> usize

@@ -17,7 +17,7 @@ use Rattle.laws.specs.Passes.{over, Laid}
 use Rattle.laws.specs.Backward.{later, WroteFrom, from-none, later-none, later-step, from-next, from-all}
 use Rattle.dense.specs.Views.{vec, rect, mat}
 use Rattle.dense.proofs.Laws.{vec-zeros}
-use Rattle.backward.specs.View.{nsIn}
+use Rattle.element_back.specs.View.{nsIn}
 
 module _ (y : Frame) (s₀ : Ns) (n p m dd : ℕ) (pc pi : List Float) (r : Flat) where
   abbrev pub ls : List Look

@@ -13,7 +13,7 @@ ghost use Rattle.definition.specs.Smooth.{backElement, elementsN, between, diff
 ghost use Rattle.laws.specs.Flat.{flatIn, readBack, decisionsAt, blockAt, lookAt, looks};
 ghost use Rattle.laws.specs.Passes.{Laid};
 ghost use Rattle.dense.specs.Views.{mat};
-ghost use Rattle.backward.specs.View.{nsIn};
+ghost use Rattle.element_back.specs.View.{nsIn};
 ghost use Rattle.cov_back.specs.View.{Element, Period, Blocks, Periods, Ready};
 
 // ---- the elements
@@ -46,7 +46,7 @@ fn element(
     let z = dense::load8(&design[row..row_end]);
     let ms = dense::load8(&m_star[from..to]);
     let mi = dense::load8(&m_inf[from..to]);
-    backward::back_element(
+    element_back::back_element(
         n0,
         n1,
         n2,

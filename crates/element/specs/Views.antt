@@ -1,129 +1,126 @@
--- A period's values as the definition's, and what each stretch of its elements leaves.
-use Prim.Native.Nat.{ℕ, suc, _≤_, _<_, _+_}
+-- An element's values as the definition's, and what each step of it leaves.
+use Prim.Native.Nat.{ℕ, _≤_, _<_, _+_}
 use mathlib.Core.Path.{_≡_}
-use mathlib.Core.Bool.{Bool, true, false, cond}
-use mathlib.Core.List.{List, [], _∷_, _++_, map}
-use lib.Dec.{eqb}
-use lib.ListN.{take, length}
+use mathlib.Core.Bool.{Bool, false}
+use mathlib.Core.List.{List, [], _∷_, _++_}
+use lib.ListN.{take}
 use lib.Ieee.{Float}
-use Rattle.definition.specs.Run.{scan, join}
-use Rattle.definition.specs.Inputs.{kindOf, isGap}
-use Rattle.definition.specs.Cov.{Decision, Inner, Fixed, Cov, elementOf, entered, isLive, none-yet}
-use Rattle.definition.specs.Parts as parts
-use Rattle.definition.specs.Parts.{kindNo, mStarOf, mInfOf}
-use Rattle.dense.specs.Views.{mat, rect}
+use Rattle.definition.specs.Dense.{outerSub, over}
+use Rattle.definition.specs.Cov.{Decision, skipped, usual, diffuse, Inner, Fixed, apply, elementOf, k1Of, none-yet, sdOf}
+use Rattle.definition.specs.Parts.{kindNo, fStarOf, fInfOf, mStarOf, mInfOf}
+use Rattle.dense.specs.Views.{vec, mat, rect}
 use Rattle.star.specs.Views.{Holds}
 use Rattle.star.specs.declared.StarRoot.{StarRoot}
-use Rattle.judge.specs.Views.{Notes, Books, notes, books, innerOf, fixedOf}
-use Rattle.judge.specs.declared.Step.{Step}
-use Rattle.judge.specs.declared.Step.the-variants as step
-use Rattle.element.specs.declared.Taken.{Taken}
+use Rattle.acceptance.specs.declared.Finding.{Finding}
+use Rattle.acceptance.specs.declared.Finding.the-variants as finding
+use Rattle.element.specs.declared.Step.{Step}
+use Rattle.element.specs.declared.Step.the-variants as step
 
--- ---- what the callers see
+-- what a diffuse update leaves of P* and P∞
+pub record Updated (m : ℕ) (p* p∞ m* m∞ : List Float) (f f∞ : Float) (q* q∞ : List Float) : Type 0 where
+  pub star : mat m q* ≡ outerSub m (outerSub m (mat m p*) (vec m m*) (over m (vec m m∞) f∞)) (vec m m∞) (k1Of m (vec m m*) (over m (vec m m∞) f∞) f f∞)
+  pub pinf : mat m q∞ ≡ outerSub m (mat m p∞) (vec m m∞) (over m (vec m m∞) f∞)
 
--- what the elements of a period leave: their decisions in the flat form, and P*, P∞ and B
-pub record Ran (p m : ℕ) (want : List Decision × Inner) (ks : List ℕ) (fs fi ms mi p* p∞ b : List Float) : Type 0 where
-  pub kinds : take p ks ≡ map kindNo (want .0)
-  pub stars : take p fs ≡ map parts.fStarOf (want .0)
-  pub infs : take p fi ≡ map parts.fInfOf (want .0)
-  pub m-stars : rect p m ms ≡ join (map (mStarOf m) (want .0))
-  pub m-infs : rect p m mi ≡ join (map (mInfOf m) (want .0))
-  pub star : mat m p* ≡ want .1 .star
-  pub pinf : mat m p∞ ≡ want .1 .pinf
-  pub root : mat m b ≡ want .1 .root
+-- ---- the flat records, and what goes from element to element
 
--- before the period's first element
-abbrev pub startOf : ℕ → List Float → List Float → List Float → Inner
-startOf m star pinf root = record { star = mat m star; pinf = mat m pinf; root = mat m root; taken = [] }
+pub record Notes : Type 0 where
+  pub kinds : List ℕ
+  pub fs : List Float
+  pub fi : List Float
+  pub ms : List Float
+  pub mi : List Float
 
-abbrev pub stateOf : ℕ → List Float → List Float → List Float → List Float → Bool → Cov
-stateOf m star pinf root unres live = record { star = mat m star; pinf = mat m pinf; root = mat m root; unres = mat m unres; live = live }
+pub record Books : Type 0 where
+  pub star : List Float
+  pub pinf : List Float
+  pub root : List Float
+  pub notes : Notes
 
-pub record Begun (m : ℕ) (live : Bool) (p∞ q∞ : List Float) (r : Bool) : Type 0 where
-  pub lasts : r ≡ isLive m live (mat m p∞)
-  pub pinf : mat m q∞ ≡ entered m r (mat m p∞)
+abbrev pub notes : List ℕ → List Float → List Float → List Float → List Float → Notes
+notes k f g a b = record { kinds = k; fs = f; fi = g; ms = a; mi = b }
 
--- ---- the stretches
+abbrev pub books : List Float → List Float → List Float → Notes → Books
+books star pinf root n = record { star = star; pinf = pinf; root = root; notes = n }
 
-abbrev pub gapsOf : List Float → List Bool
-gapsOf ys = map isGap (map kindOf ys)
+abbrev pub innerOf : ℕ → Books → List ℕ → Inner
+innerOf m b taken = record { star = mat m (b .star); pinf = mat m (b .pinf); root = mat m (b .root); taken = taken }
 
--- element i of a period of p, with n readings
-pub record Sizes (p m i n : ℕ) : Type 0 where
+abbrev pub fixedOf : ℕ → ℕ → Bool → List Float → List Float → List Float → Fixed
+fixedOf p m live design pre unres = record { diffuse = live; z = rect p m design; pre = mat m pre; unres = mat m unres }
+
+-- the record of element i after those before it
+pub record Entered (i m kind : ℕ) (f g : Float) (a b : List Float) (n n′ : Notes) : Type 0 where
+  pub kinds : take (i + 1) (n′ .kinds) ≡ take i (n .kinds) ++ (kind ∷ [])
+  pub fs : take (i + 1) (n′ .fs) ≡ take i (n .fs) ++ (f ∷ [])
+  pub fi : take (i + 1) (n′ .fi) ≡ take i (n .fi) ++ (g ∷ [])
+  pub ms : rect (i + 1) m (n′ .ms) ≡ rect i m (n .ms) ++ a
+  pub mi : rect (i + 1) m (n′ .mi) ≡ rect i m (n .mi) ++ b
+
+abbrev pub Recorded : ℕ → ℕ → Decision → Notes → Notes → Type 0
+Recorded m i d n n′ = Entered i m (kindNo d) (fStarOf d) (fInfOf d) (mStarOf m d) (mInfOf m d) n n′
+
+abbrev pub stepOf : Decision → Step
+stepOf skipped = step.Passed
+stepOf (usual f m*) = step.Taken
+stepOf (diffuse f f∞ m* m∞) = step.Taken
+
+-- the elements taken, after a decision on element i
+abbrev pub takenBy : Decision → List ℕ → ℕ → List ℕ
+takenBy skipped t i = t
+takenBy (usual f m*) t i = t ++ (i ∷ [])
+takenBy (diffuse f f∞ m* m∞) t i = t ++ (i ∷ [])
+
+-- decision d on element i, carried out
+pub record Moved (m i : ℕ) (z : List Float) (d : Decision) (r : Step) (b b′ : Books) : Type 0 where
+  pub inner : (taken : List ℕ) → innerOf m b′ (takenBy d taken i) ≡ apply m z i (innerOf m b taken) d
+  pub recorded : Recorded m i d (b .notes) (b′ .notes)
+  pub told : r ≡ stepOf d
+
+unfoldable pub Settled : ℕ → ℕ → List Float → Float → Finding → List Float → List Float → Step → Books → Books → Type 0
+Settled m i z f finding.Nothing a c r b b′ = Moved m i z skipped r b b′
+Settled m i z f finding.Usual a c r b b′ = Moved m i z (usual f (vec m a)) r b b′
+Settled m i z f (finding.Diffuse g) a c r b b′ = Moved m i z (diffuse f g (vec m a) (vec m c)) r b b′
+Settled m i z f (finding.Doubtful x) a c r b b′ = (r ≡ step.Doubtful) × (b′ ≡ b)
+
+-- element i of p, m states
+pub record Here (p m i : ℕ) : Type 0 where
   pub elements : p ≤ 8
   pub states : m ≤ 8
-  pub here : i ≤ p
-  pub readings : n ≡ p
+  pub here : i < p
 
-unfoldable pub stopsOf : Step → Bool → Bool
-stopsOf step.Passed fresh = false
-stopsOf step.Taken fresh = fresh
-stopsOf step.Doubtful fresh = true
+-- the standard deviations are worked out, once the period had an update
+pub record Known (m : ℕ) (fresh : Bool) (pre sd : List Float) : Type 0 where
+  pub known : fresh ≡ false → vec m sd ≡ sdOf m (mat m pre)
 
-unfoldable pub pastOf : Step → ℕ → ℕ
-pastOf step.Passed i = i + 1
-pastOf step.Taken i = i + 1
-pastOf step.Doubtful i = i
+-- element i as the definition has it: what goes on, its record, and whether it was taken
+pub record Did (m i : ℕ) (want : Decision × Inner) (r : Step) (b b′ : Books) : Type 0 where
+  pub inner : innerOf m b′ (want .1 .taken) ≡ want .1
+  pub recorded : Recorded m i (want .0) (b .notes) (b′ .notes)
+  pub told : r ≡ stepOf (want .0)
 
--- the first i elements, as the definition has them
-abbrev pub upTo : ℕ → ℕ → List Float → Fixed → List Bool → Inner → ℕ → List Decision × Inner
-upTo p m h fix gaps s i = scan (elementOf p m h fix) 0 s (take i gaps)
+-- nothing was done, since the star root has to say: so the period is not diffuse and had an update
+pub record Stayed (live fresh : Bool) (b b′ : Books) : Type 0 where
+  pub same : b′ ≡ b
+  pub settled : live ≡ false
+  pub stale : fresh ≡ false
 
--- the records hold the decisions ds
-pub record Flats (m i : ℕ) (ds : List Decision) (n : Notes) : Type 0 where
-  pub kinds : take i (n .kinds) ≡ map kindNo ds
-  pub fs : take i (n .fs) ≡ map parts.fStarOf ds
-  pub fi : take i (n .fi) ≡ map parts.fInfOf ds
-  pub ms : rect i m (n .ms) ≡ join (map (mStarOf m) ds)
-  pub mi : rect i m (n .mi) ≡ join (map (mInfOf m) ds)
+abbrev pub Done : ℕ → ℕ → List Float → Fixed → Bool → ℕ → Bool → Books → Books → Step → Type 0
+Done p m h fix fresh i gap b b′ r = (taken : List ℕ) → fresh ≡ none-yet taken → Did m i (elementOf p m h fix i (innerOf m b taken) gap) r b b′
 
--- i elements are done, from the state s on
-pub record Gone (p m : ℕ) (h : List Float) (fix : Fixed) (gaps : List Bool) (s : Inner) (i : ℕ) (b : Books) : Type 0 where
-  pub inner : innerOf m b (upTo p m h fix gaps s i .1 .taken) ≡ upTo p m h fix gaps s i .1
-  pub flats : Flats m i (upTo p m h fix gaps s i .0) (b .notes)
+unfoldable pub Went : ℕ → ℕ → List Float → Fixed → Bool → ℕ → Bool → Books → Books → Step → Type 0
+Went p m h fix fresh i gap b b′ step.Passed = Done p m h fix fresh i gap b b′ step.Passed
+Went p m h fix fresh i gap b b′ step.Taken = Done p m h fix fresh i gap b b′ step.Taken
+Went p m h fix fresh i gap b b′ step.Doubtful = Stayed (fix .diffuse) fresh b b′
 
--- whether none of the first i was taken
-abbrev pub none-of : ℕ → ℕ → List Float → Fixed → List Bool → Inner → ℕ → Bool
-none-of p m h fix gaps s i = none-yet (upTo p m h fix gaps s i .1 .taken)
+-- the same with the star root of the elements taken at hand, whatever P∞, B and the unresolved matrix are
+pub record ByRootAt (p m : ℕ) (h design pre : List Float) (i : ℕ) (want : Decision × Inner) (b b′ : Books) (root : StarRoot) : Type 0 where
+  pub inner : innerOf m b′ (want .1 .taken) ≡ want .1
+  pub recorded : Recorded m i (want .0) (b .notes) (b′ .notes)
+  pub holds : Holds p m (rect p m design) h (mat m pre) (want .1 .taken) root
+  pub stale : none-yet (want .1 .taken) ≡ false
 
--- a stretch without the star root, to element r: it ends before p only once an element is taken, and one that began so only in a period that is not diffuse
-pub record Stretch (p m : ℕ) (h : List Float) (fix : Fixed) (gaps : List Bool) (fresh : Bool) (from r : ℕ) (b b′ : Books) : Type 0 where
-  pub high : r ≤ p
-  pub gone : (s : Inner) → Gone p m h fix gaps s from b → fresh ≡ none-of p m h fix gaps s from → Gone p m h fix gaps s r b′ × (r < p → none-of p m h fix gaps s r ≡ false)
-  pub calm : r < p → fresh ≡ false → fix .diffuse ≡ false
-
--- all the elements that are left
-abbrev pub Rest : ℕ → ℕ → List Float → Fixed → List Bool → ℕ → Books → Books → Type 0
-Rest p m h fix gaps from b b′ = (s : Inner) → s .taken ≡ [] → Gone p m h fix gaps s from b → none-of p m h fix gaps s from ≡ false → Gone p m h fix gaps s p b′
-
--- the same in a period that is not diffuse, whatever P∞, B and the unresolved matrix are
-abbrev pub ByRoots : ℕ → ℕ → List Float → List Float → List Float → List Bool → ℕ → List Float → Notes → List Float → Notes → Type 0
-ByRoots p m h design pre gaps from star n star′ n′ =
-    (p∞ b unres : List Float) → Rest p m h (fixedOf p m false design pre unres) gaps from (books star p∞ b n) (books star′ p∞ b n′)
-
--- and with the star root of the elements taken at hand
-abbrev pub WithRoot : ℕ → ℕ → List Float → List Float → List Float → List Bool → ℕ → StarRoot → List Float → Notes → List Float → Notes → Type 0
-WithRoot p m h design pre gaps from root star n star′ n′ =
-    (p∞ b unres : List Float) (s : Inner) → Gone p m h (fixedOf p m false design pre unres) gaps s from (books star p∞ b n)
-    → none-of p m h (fixedOf p m false design pre unres) gaps s from ≡ false
-    → Holds p m (rect p m design) h (mat m pre) (upTo p m h (fixedOf p m false design pre unres) gaps s from .1 .taken) root
-    → Gone p m h (fixedOf p m false design pre unres) gaps s p (books star′ p∞ b n′)
-
--- ---- the elements taken
-
--- the places from k on at which a kind is not 0
-unfoldable pub placesFrom : ℕ → List ℕ → List ℕ
-placesFrom k [] = []
-placesFrom k (x ∷ xs) = let rest = placesFrom (suc k) xs in cond (eqb x 0) rest (k ∷ rest)
-
--- element i joins those taken, by its kind
-pub record TookIn (t : Taken) (kind i : ℕ) (r : Taken) : Type 0 where
-  pub count : r .count ≡ cond (eqb kind 0) (t .count) (t .count + 1)
-  pub places : take (r .count) (r .places) ≡ cond (eqb kind 0) (take (t .count) (t .places)) (take (t .count) (t .places) ++ (i ∷ []))
-  pub size : length (r .places) ≡ length (t .places)
-
--- those taken of the first n
-pub record Listed (n : ℕ) (kinds : List ℕ) (r : Taken) : Type 0 where
-  pub size : length (r .places) ≡ 8
-  pub few : r .count ≤ n
-  pub places : take (r .count) (r .places) ≡ placesFrom 0 kinds
+abbrev pub ByRoot : ℕ → ℕ → List Float → List Float → List Float → ℕ → Bool → List Float → Notes → StarRoot → List Float → Notes → StarRoot → Type 0
+ByRoot p m h design pre i gap star n root star′ n′ root′ =
+    (p∞ b unres : List Float) (taken : List ℕ) → none-yet taken ≡ false → Holds p m (rect p m design) h (mat m pre) taken root
+    → ByRootAt p m h design pre i (elementOf p m h (fixedOf p m false design pre unres) i (innerOf m (books star p∞ b n) taken) gap)
+    (books star p∞ b n) (books star′ p∞ b n′) root′

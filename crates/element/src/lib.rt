@@ -1,48 +1,144 @@
-// filter.rs, the elements of one period of the covariance track in order, the period's test, and the step by T.
-// It sees which readings are gaps, and no reading, mean or intercept. A period goes in up to three stretches: until an element is taken; then, the
-// standard deviations worked out, until one is doubtful; then with the star root, which is built there and kept to the period's end.
+// filter.rs, one element of a period on the covariance track: the updates and the record that its verdict brings. Its mean is worked out elsewhere.
+// The star root is seldom asked. So `element` goes without it and stops at an element that needs it, and `element_by_root` has it at hand.
 ghost use mathlib.Core.Path.{_≡_};
-ghost use mathlib.Core.Bool.{true, false};
-ghost use mathlib.Core.List.{map};
-ghost use Prim.Native.Nat.{_≤_, _<_, _*_};
-ghost use lib.ListN.{take, length};
-ghost use Rattle.definition.specs.Num.{zeros};
-ghost use Rattle.definition.specs.Run.{scan};
-ghost use Rattle.definition.specs.Dense.{sandwich};
-ghost use Rattle.definition.specs.Cov.{elementOf, isLive, stepStar, stepInf, stepped};
-ghost use Rattle.definition.specs.Inputs.{kindOf, isGap};
-ghost use Rattle.dense.specs.Views.{mat};
+ghost use mathlib.Core.Bool.{false};
+ghost use Prim.Native.Nat.{_≤_, _<_};
+ghost use Rattle.definition.specs.Cov.{k1Of, rootLess, skipped, usual, sdOf, sdAt};
+ghost use Rattle.definition.specs.Dense.{outerSub, over};
+ghost use Rattle.dense.specs.Views.{vec, mat};
 ghost use Rattle.star.specs.Views.{Sound};
-ghost use Rattle.judge.specs.Views.{notes, books, fixedOf, Known};
-ghost use Rattle.element.specs.Views.{Ran, Begun, stateOf, gapsOf, stopsOf, pastOf, startOf, TookIn, Listed, Sizes, Stretch, WithRoot, ByRoots, Rest};
+ghost use Rattle.element.specs.Views.{notes, books, fixedOf, Updated, Entered, Recorded, Settled, Here, Known, Went, ByRoot};
 
-const RANK: f64 = 1e-10;
-
-// A stretch ends at a doubtful element, and one that began fresh with the first that is taken.
-fn stops(r: judge::Step, fresh: bool) -> bool
-    ensures { λ x. ⌜ x ≡ stopsOf r fresh ⌝ }
-{
-    match r {
-        judge::Step::Passed => false,
-        judge::Step::Taken => fresh,
-        judge::Step::Doubtful => true,
-    }
+// How an element ended: nothing moved, or it was taken; or the star root has to say.
+pub enum Step {
+    Passed,
+    Taken,
+    Doubtful,
 }
 
-// Where the next stretch begins: at a doubtful element, else past element i.
-fn past(r: judge::Step, i: usize) -> usize
-    requires { ⌜ i < 8 ⌝ }
-    ensures { λ x. ⌜ x ≡ pastOf r i ⌝ }
+// The gain K1 of a diffuse element.
+fn k1(m_star: &[f64; 8], k0: &[f64; 8], f: f64, f_inf: f64, m: usize) -> [f64; 8]
+    requires { ⌜ m ≤ 8 ⌝ }
+    ensures { λ r. ⌜ vec m r ≡ k1Of m (vec m (now («m_star» .entry))) (vec m (now (k0 .entry))) f «f_inf» ⌝ }
 {
-    match r {
-        judge::Step::Passed => i + 1,
-        judge::Step::Taken => i + 1,
-        judge::Step::Doubtful => i,
+    let f12 = -f / f_inf;
+    let mut out = [0.0; 8];
+    for j in 0..m {
+        out[j] = dense::nth(m_star, m, j) / f_inf + dense::nth(k0, m, j) * f12;
     }
+    out
 }
 
-// A stretch without the star root, from element `from` on. How far it came.
-fn stretch(
+// B (I - u u' / u' u), u = B' z.
+fn root_less(root: &mut [f64; 64], z: &[f64; 8], m: usize)
+    requires { ⌜ m ≤ 8 ⌝ }
+    ensures { λ _. ⌜ mat m (now (root .exit)) ≡ rootLess m (vec m (now (z .entry))) (mat m (now (root .entry))) ⌝ }
+{
+    let u = dense::mat_t_vec(root, z, m);
+    let bu = dense::mat_vec(root, &u, m);
+    let g = dense::over(&u, dense::dot(&u, &u, m), m);
+    dense::outer_sub(root, &bu, &g, m);
+}
+
+// P* - M* K'.
+fn usual_update(star: &mut [f64; 64], m_star: &[f64; 8], f: f64, m: usize)
+    requires { ⌜ m ≤ 8 ⌝ }
+    ensures { λ _. ⌜ mat m (now (star .exit)) ≡ outerSub m (mat m (now (star .entry))) (vec m (now («m_star» .entry))) (over m (vec m (now («m_star» .entry))) f) ⌝ }
+{
+    let k = dense::over(m_star, f, m);
+    dense::outer_sub(star, m_star, &k, m);
+}
+
+// P* - M* K0' - M∞ K1' and P∞ - M∞ K0'.
+fn diffuse_update(
+    star: &mut [f64; 64],
+    p_inf: &mut [f64; 64],
+    m_star: &[f64; 8],
+    m_inf: &[f64; 8],
+    f: f64,
+    f_inf: f64,
+    m: usize,
+)
+    requires { ⌜ m ≤ 8 ⌝ }
+    ensures { λ _. ⌜ Updated m (now (star .entry)) (now («p_inf» .entry)) (now («m_star» .entry)) (now («m_inf» .entry)) f «f_inf» (now (star .exit)) (now («p_inf» .exit)) ⌝ }
+{
+    let k0 = dense::over(m_inf, f_inf, m);
+    let k1 = k1(m_star, &k0, f, f_inf, m);
+    dense::outer_sub(star, m_star, &k0, m);
+    dense::outer_sub(star, m_inf, &k1, m);
+    dense::outer_sub(p_inf, m_inf, &k0, m);
+}
+
+// The flat record of element i: its kind, F*, F∞, M* and M∞.
+fn enter(
+    kinds: &mut [u8; 8],
+    fs: &mut [f64; 8],
+    fi: &mut [f64; 8],
+    ms: &mut [f64; 64],
+    mi: &mut [f64; 64],
+    kind: u8,
+    f: f64,
+    g: f64,
+    m_star: &[f64; 8],
+    m_inf: &[f64; 8],
+    i: usize,
+    m: usize,
+)
+    requires { ⌜ (i < 8) × (m ≤ 8) ⌝ }
+    ensures { λ _. ⌜ Entered i m kind f g (vec m (now («m_star» .entry))) (vec m (now («m_inf» .entry)))
+        (notes (now (kinds .entry)) (now (fs .entry)) (now (fi .entry)) (now (ms .entry)) (now (mi .entry)))
+        (notes (now (kinds .exit)) (now (fs .exit)) (now (fi .exit)) (now (ms .exit)) (now (mi .exit))) ⌝ }
+{
+    dense::sized_bytes(kinds);
+    dense::sized8(fs);
+    dense::sized8(fi);
+    kinds[i] = kind;
+    fs[i] = f;
+    fi[i] = g;
+    dense::put_row(ms, m_star, i, m);
+    dense::put_row(mi, m_inf, i, m);
+}
+
+fn record_skipped(
+    kinds: &mut [u8; 8],
+    fs: &mut [f64; 8],
+    fi: &mut [f64; 8],
+    ms: &mut [f64; 64],
+    mi: &mut [f64; 64],
+    i: usize,
+    m: usize,
+)
+    requires { ⌜ (i < 8) × (m ≤ 8) ⌝ }
+    ensures { λ _. ⌜ Recorded m i skipped
+        (notes (now (kinds .entry)) (now (fs .entry)) (now (fi .entry)) (now (ms .entry)) (now (mi .entry)))
+        (notes (now (kinds .exit)) (now (fs .exit)) (now (fi .exit)) (now (ms .exit)) (now (mi .exit))) ⌝ }
+{
+    let none = [0.0; 8];
+    enter(kinds, fs, fi, ms, mi, 0, 0.0, 0.0, &none, &none, i, m);
+}
+
+fn record_usual(
+    kinds: &mut [u8; 8],
+    fs: &mut [f64; 8],
+    fi: &mut [f64; 8],
+    ms: &mut [f64; 64],
+    mi: &mut [f64; 64],
+    f: f64,
+    m_star: &[f64; 8],
+    i: usize,
+    m: usize,
+)
+    requires { ⌜ (i < 8) × (m ≤ 8) ⌝ }
+    ensures { λ _. ⌜ Recorded m i (usual f (vec m (now («m_star» .entry))))
+        (notes (now (kinds .entry)) (now (fs .entry)) (now (fi .entry)) (now (ms .entry)) (now (mi .entry)))
+        (notes (now (kinds .exit)) (now (fs .exit)) (now (fi .exit)) (now (ms .exit)) (now (mi .exit))) ⌝ }
+{
+    let none = [0.0; 8];
+    enter(kinds, fs, fi, ms, mi, 1, f, 0.0, m_star, &none, i, m);
+}
+
+// What a finding brings: the update and the record. A doubtful element leaves all as it was.
+fn settle(
     star: &mut [f64; 64],
     p_inf: &mut [f64; 64],
     root: &mut [f64; 64],
@@ -51,89 +147,111 @@ fn stretch(
     fi: &mut [f64; 8],
     ms: &mut [f64; 64],
     mi: &mut [f64; 64],
-    from: usize,
-    fresh: bool,
+    d: acceptance::Finding,
+    f: f64,
+    z: &[f64; 8],
+    m_star: &[f64; 8],
+    m_inf: &[f64; 8],
+    i: usize,
+    m: usize,
+) -> Step
+    requires { ⌜ (i < 8) × (m ≤ 8) ⌝ }
+    ensures { λ r. ⌜ Settled m i (vec m (now (z .entry))) f d (now («m_star» .entry)) (now («m_inf» .entry)) r
+        (books (now (star .entry)) (now («p_inf» .entry)) (now (root .entry)) (notes (now (kinds .entry)) (now (fs .entry)) (now (fi .entry)) (now (ms .entry)) (now (mi .entry))))
+        (books (now (star .exit)) (now («p_inf» .exit)) (now (root .exit)) (notes (now (kinds .exit)) (now (fs .exit)) (now (fi .exit)) (now (ms .exit)) (now (mi .exit)))) ⌝ }
+{
+    match d {
+        acceptance::Finding::Nothing => {
+            record_skipped(kinds, fs, fi, ms, mi, i, m);
+            Step::Passed
+        }
+        acceptance::Finding::Usual => {
+            usual_update(star, m_star, f, m);
+            record_usual(kinds, fs, fi, ms, mi, f, m_star, i, m);
+            Step::Taken
+        }
+        acceptance::Finding::Diffuse(g) => {
+            diffuse_update(star, p_inf, m_star, m_inf, f, g, m);
+            root_less(root, z, m);
+            enter(kinds, fs, fi, ms, mi, 2, f, g, m_star, m_inf, i, m);
+            Step::Taken
+        }
+        acceptance::Finding::Doubtful(_) => Step::Doubtful,
+    }
+}
+
+// Element i of a period, the star root not asked; a gap is passed over. The standard deviations are read once the period had an update.
+pub fn element(
+    star: &mut [f64; 64],
+    p_inf: &mut [f64; 64],
+    root: &mut [f64; 64],
+    kinds: &mut [u8; 8],
+    fs: &mut [f64; 8],
+    fi: &mut [f64; 8],
+    ms: &mut [f64; 64],
+    mi: &mut [f64; 64],
+    gap: bool,
     live: bool,
+    fresh: bool,
     pre: &[f64; 64],
     sd: &[f64; 8],
     unres: &[f64; 64],
     design: &[f64; 64],
     hs: &[f64; 64],
-    ys: &[f64],
     p: usize,
     m: usize,
-) -> usize
-    requires { ⌜ Sizes p m from (length (now ys)) × Known m fresh (now pre) (now sd) ⌝ }
-    ensures { λ r. ⌜ Stretch p m (mat p (now (hs .entry))) (fixedOf p m live (now (design .entry)) (now (pre .entry)) (now (unres .entry))) (gapsOf (now (ys .entry))) fresh from r
+    i: usize,
+) -> Step
+    requires { ⌜ Here p m i × Known m fresh (now pre) (now sd) ⌝ }
+    ensures { λ r. ⌜ Went p m (mat p (now (hs .entry))) (fixedOf p m live (now (design .entry)) (now (pre .entry)) (now (unres .entry))) fresh i gap
         (books (now (star .entry)) (now («p_inf» .entry)) (now (root .entry)) (notes (now (kinds .entry)) (now (fs .entry)) (now (fi .entry)) (now (ms .entry)) (now (mi .entry))))
-        (books (now (star .exit)) (now («p_inf» .exit)) (now (root .exit)) (notes (now (kinds .exit)) (now (fs .exit)) (now (fi .exit)) (now (ms .exit)) (now (mi .exit)))) ⌝ }
+        (books (now (star .exit)) (now («p_inf» .exit)) (now (root .exit)) (notes (now (kinds .exit)) (now (fs .exit)) (now (fi .exit)) (now (ms .exit)) (now (mi .exit)))) r ⌝ }
 {
-    for i in from..p {
-        let gap = float::is_nan(ys[i]);
-        let r = judge::element(
-            star,
-            p_inf,
-            root,
-            kinds,
-            fs,
-            fi,
-            ms,
-            mi,
-            gap,
-            live,
-            fresh,
-            pre,
-            sd,
-            unres,
-            design,
-            hs,
-            p,
-            m,
-            i,
-        );
-        if stops(r, fresh) {
-            return past(r, i);
-        }
+    if gap {
+        record_skipped(kinds, fs, fi, ms, mi, i, m);
+        return Step::Passed;
     }
-    p
+    let z = dense::row_to_vec(design, p, m, i);
+    let h = dense::get(hs, p, i, i);
+    let m_star = dense::mat_vec(star, &z, m);
+    let f = acceptance::f_star(&z, h, &m_star, m);
+    let mut m_inf = [0.0; 8];
+    let d = acceptance::judge(
+        &z,
+        h,
+        live,
+        fresh,
+        pre,
+        sd,
+        unres,
+        star,
+        p_inf,
+        root,
+        &mut m_inf,
+        f,
+        m,
+    );
+    settle(
+        star,
+        p_inf,
+        root,
+        kinds,
+        fs,
+        fi,
+        ms,
+        mi,
+        d,
+        f,
+        &z,
+        &m_star,
+        &m_inf,
+        i,
+        m,
+    )
 }
 
-// The elements taken so far, by their kinds.
-struct Taken {
-    places: [usize; 8],
-    count: usize,
-}
-
-fn take_in(t: Taken, kind: u8, i: usize) -> Taken
-    requires { ⌜ t .count < 8 ⌝ }
-    ensures { λ r. ⌜ TookIn t kind i r ⌝ }
-{
-    let mut t = t;
-    if kind != 0 {
-        let n = t.count;
-        t.places[n] = i;
-        t.count = n + 1;
-    }
-    t
-}
-
-fn taken_of(kinds: &[u8; 8], n: usize) -> Taken
-    requires { ⌜ n ≤ 8 ⌝ }
-    ensures { λ r. ⌜ Listed n (take n (now (kinds .entry))) r ⌝ }
-{
-    let ks: &[u8] = kinds;
-    let mut t = Taken {
-        places: [0; 8],
-        count: 0,
-    };
-    for i in 0..n {
-        t = take_in(t, ks[i], i);
-    }
-    t
-}
-
-// The last stretch: the star root is at hand.
-fn with_root(
+// Element i of a period that is not diffuse and had an update, with the star root at hand. The root follows an element that is taken.
+pub fn element_by_root(
     star: &mut [f64; 64],
     kinds: &mut [u8; 8],
     fs: &mut [f64; 8],
@@ -141,299 +259,52 @@ fn with_root(
     ms: &mut [f64; 64],
     mi: &mut [f64; 64],
     root: star::StarRoot,
-    from: usize,
+    gap: bool,
     pre: &[f64; 64],
     sd: &[f64; 8],
     design: &[f64; 64],
     hs: &[f64; 64],
-    ys: &[f64],
     p: usize,
     m: usize,
-)
-    requires { ⌜ Sizes p m from (length (now ys)) × (Known m false (now pre) (now sd) × Sound m root) ⌝ }
-    ensures { λ _. ⌜ WithRoot p m (mat p (now (hs .entry))) (now (design .entry)) (now (pre .entry)) (gapsOf (now (ys .entry))) from root
-        (now (star .entry)) (notes (now (kinds .entry)) (now (fs .entry)) (now (fi .entry)) (now (ms .entry)) (now (mi .entry)))
-        (now (star .exit)) (notes (now (kinds .exit)) (now (fs .exit)) (now (fi .exit)) (now (ms .exit)) (now (mi .exit))) ⌝ }
+    i: usize,
+) -> star::StarRoot
+    requires { ⌜ Here p m i × (Known m false (now pre) (now sd) × Sound m root) ⌝ }
+    ensures { λ r. ⌜ Sound m r × (ByRoot p m (mat p (now (hs .entry))) (now (design .entry)) (now (pre .entry)) i gap
+        (now (star .entry)) (notes (now (kinds .entry)) (now (fs .entry)) (now (fi .entry)) (now (ms .entry)) (now (mi .entry))) root
+        (now (star .exit)) (notes (now (kinds .exit)) (now (fs .exit)) (now (fi .exit)) (now (ms .exit)) (now (mi .exit))) r) ⌝ }
 {
-    let mut root = root;
-    for i in from..p {
-        let gap = float::is_nan(ys[i]);
-        root = judge::element_by_root(
-            star,
-            kinds,
-            fs,
-            fi,
-            ms,
-            mi,
-            root,
-            gap,
-            pre,
-            sd,
-            design,
-            hs,
-            p,
-            m,
-            i,
-        );
+    if gap {
+        record_skipped(kinds, fs, fi, ms, mi, i, m);
+        return root;
     }
-}
-
-// The star root is built over the elements taken, and kept.
-fn by_root(
-    star: &mut [f64; 64],
-    kinds: &mut [u8; 8],
-    fs: &mut [f64; 8],
-    fi: &mut [f64; 8],
-    ms: &mut [f64; 64],
-    mi: &mut [f64; 64],
-    from: usize,
-    pre: &[f64; 64],
-    sd: &[f64; 8],
-    design: &[f64; 64],
-    hs: &[f64; 64],
-    ys: &[f64],
-    p: usize,
-    m: usize,
-)
-    requires { ⌜ Sizes p m from (length (now ys)) × Known m false (now pre) (now sd) ⌝ }
-    ensures { λ _. ⌜ ByRoots p m (mat p (now (hs .entry))) (now (design .entry)) (now (pre .entry)) (gapsOf (now (ys .entry))) from
-        (now (star .entry)) (notes (now (kinds .entry)) (now (fs .entry)) (now (fi .entry)) (now (ms .entry)) (now (mi .entry)))
-        (now (star .exit)) (notes (now (kinds .exit)) (now (fs .exit)) (now (fi .exit)) (now (ms .exit)) (now (mi .exit))) ⌝ }
-{
-    let t = taken_of(kinds, from);
-    let places = t.places;
-    let root = star::StarRoot::replay(p, m, design, hs, pre, &places, t.count);
-    with_root(
-        star,
-        kinds,
-        fs,
-        fi,
-        ms,
-        mi,
-        root,
-        from,
-        pre,
-        sd,
-        design,
-        hs,
-        ys,
-        p,
-        m,
-    );
-}
-
-// The elements after the first that was taken.
-fn rest(
-    star: &mut [f64; 64],
-    p_inf: &mut [f64; 64],
-    root: &mut [f64; 64],
-    kinds: &mut [u8; 8],
-    fs: &mut [f64; 8],
-    fi: &mut [f64; 8],
-    ms: &mut [f64; 64],
-    mi: &mut [f64; 64],
-    from: usize,
-    live: bool,
-    pre: &[f64; 64],
-    unres: &[f64; 64],
-    design: &[f64; 64],
-    hs: &[f64; 64],
-    ys: &[f64],
-    p: usize,
-    m: usize,
-)
-    requires { ⌜ Sizes p m from (length (now ys)) ⌝ }
-    ensures { λ _. ⌜ Rest p m (mat p (now (hs .entry))) (fixedOf p m live (now (design .entry)) (now (pre .entry)) (now (unres .entry))) (gapsOf (now (ys .entry))) from
-        (books (now (star .entry)) (now («p_inf» .entry)) (now (root .entry)) (notes (now (kinds .entry)) (now (fs .entry)) (now (fi .entry)) (now (ms .entry)) (now (mi .entry))))
-        (books (now (star .exit)) (now («p_inf» .exit)) (now (root .exit)) (notes (now (kinds .exit)) (now (fs .exit)) (now (fi .exit)) (now (ms .exit)) (now (mi .exit)))) ⌝ }
-{
-    let sd = judge::deviations(pre, m);
-    let at = stretch(
-        star,
-        p_inf,
-        root,
-        kinds,
-        fs,
-        fi,
-        ms,
-        mi,
-        from,
-        false,
-        live,
-        pre,
-        &sd,
-        unres,
-        design,
-        hs,
-        ys,
-        p,
-        m,
-    );
-    if at < p {
-        by_root(
-            star,
-            kinds,
-            fs,
-            fi,
-            ms,
-            mi,
-            at,
-            pre,
-            &sd,
-            design,
-            hs,
-            ys,
-            p,
-            m,
-        );
+    let z = dense::row_to_vec(design, p, m, i);
+    let h = dense::get(hs, p, i, i);
+    let m_star = dense::mat_vec(star, &z, m);
+    let f = acceptance::f_star(&z, h, &m_star, m);
+    if acceptance::is_usual(root, &z, h, pre, sd, star, f, m) {
+        usual_update(star, &m_star, f, m);
+        record_usual(kinds, fs, fi, ms, mi, f, &m_star, i, m);
+        return root.downdate(&z, h, m);
     }
+    record_skipped(kinds, fs, fi, ms, mi, i, m);
+    root
 }
 
-// The elements of a period, in order, by its readings `ys`, of which only the gaps are seen. P*, P∞ and B go from predicted to filtered.
-pub fn elements(
-    star: &mut [f64; 64],
-    p_inf: &mut [f64; 64],
-    root: &mut [f64; 64],
-    kinds: &mut [u8; 8],
-    fs: &mut [f64; 8],
-    fi: &mut [f64; 8],
-    ms: &mut [f64; 64],
-    mi: &mut [f64; 64],
-    live: bool,
-    pre: &[f64; 64],
-    unres: &[f64; 64],
-    design: &[f64; 64],
-    hs: &[f64; 64],
-    ys: &[f64],
-    p: usize,
-    m: usize,
-)
-    requires { ⌜ (p ≤ 8) × ((m ≤ 8) × (length (now ys) ≡ p)) ⌝ }
-    ensures { λ _. ⌜ Ran p m (scan (elementOf p m (mat p (now (hs .entry))) (fixedOf p m live (now (design .entry)) (now (pre .entry)) (now (unres .entry)))) 0
-        (startOf m (now (star .entry)) (now («p_inf» .entry)) (now (root .entry))) (map isGap (map kindOf (now (ys .entry)))))
-        (now (kinds .exit)) (now (fs .exit)) (now (fi .exit)) (now (ms .exit)) (now (mi .exit)) (now (star .exit)) (now («p_inf» .exit)) (now (root .exit)) ⌝ }
+fn sd_at(pre: &[f64; 64], m: usize, j: usize) -> f64
+    requires { ⌜ (m ≤ 8) × (j < m) ⌝ }
+    ensures { λ r. ⌜ r ≡ sdAt m (mat m (now (pre .entry))) j ⌝ }
 {
-    let none = [0.0; 8];
-    let at = stretch(
-        star,
-        p_inf,
-        root,
-        kinds,
-        fs,
-        fi,
-        ms,
-        mi,
-        0,
-        true,
-        live,
-        pre,
-        &none,
-        unres,
-        design,
-        hs,
-        ys,
-        p,
-        m,
-    );
-    if at < p {
-        rest(
-            star,
-            p_inf,
-            root,
-            kinds,
-            fs,
-            fi,
-            ms,
-            mi,
-            at,
-            live,
-            pre,
-            unres,
-            design,
-            hs,
-            ys,
-            p,
-            m,
-        );
+    float::sqrt(float::max0(dense::get(pre, m, j, j)))
+}
+
+// The standard deviations of the predicted P*.
+pub fn deviations(pre: &[f64; 64], m: usize) -> [f64; 8]
+    requires { ⌜ m ≤ 8 ⌝ }
+    ensures { λ r. ⌜ vec m r ≡ sdOf m (mat m (now (pre .entry))) ⌝ }
+{
+    let mut out = [0.0; 8];
+    for j in 0..m {
+        out[j] = sd_at(pre, m, j);
     }
-}
-
-fn clear(p: &mut [f64; 64], m: usize)
-    requires { ⌜ m ≤ 8 ⌝ }
-    ensures { λ _. ⌜ mat m (now (p .exit)) ≡ zeros (m * m) ⌝ }
-{
-    *p = [0.0; 64];
-}
-
-fn lasts(p_inf: &[f64; 64], live: bool, m: usize) -> bool
-    requires { ⌜ m ≤ 8 ⌝ }
-    ensures { λ r. ⌜ r ≡ isLive m live (mat m (now («p_inf» .entry))) ⌝ }
-{
-    if live {
-        return dense::frob_sq(p_inf, m) > RANK;
-    }
-    false
-}
-
-// Whether the period is diffuse; P∞ is set to zeros where it is not.
-pub fn begin(p_inf: &mut [f64; 64], live: bool, m: usize) -> bool
-    requires { ⌜ m ≤ 8 ⌝ }
-    ensures { λ r. ⌜ Begun m live (now («p_inf» .entry)) (now («p_inf» .exit)) r ⌝ }
-{
-    if lasts(p_inf, live, m) {
-        return true;
-    }
-    clear(p_inf, m);
-    false
-}
-
-// T P T' as (T P) T', in place. `tp` is room for T P.
-fn step(p: &mut [f64; 64], t: &[f64; 64], tp: &mut [f64; 64], m: usize)
-    requires { ⌜ m ≤ 8 ⌝ }
-    ensures { λ _. ⌜ mat m (now (p .exit)) ≡ sandwich m (mat m (now (t .entry))) (mat m (now (p .entry))) ⌝ }
-{
-    products::mul_into(tp, t, p, m);
-    products::product_t_into(p, tp, t, m, m, m);
-}
-
-fn step_star(star: &mut [f64; 64], t: &[f64; 64], rqr: &[f64; 64], tp: &mut [f64; 64], m: usize)
-    requires { ⌜ m ≤ 8 ⌝ }
-    ensures { λ _. ⌜ mat m (now (star .exit)) ≡ stepStar m (mat m (now (t .entry))) (mat m (now (rqr .entry))) (mat m (now (star .entry))) ⌝ }
-{
-    step(star, t, tp, m);
-    dense::add(star, rqr, m);
-    dense::symmetrize_in_place(star, m);
-}
-
-fn step_inf(p_inf: &mut [f64; 64], t: &[f64; 64], tp: &mut [f64; 64], m: usize)
-    requires { ⌜ m ≤ 8 ⌝ }
-    ensures { λ _. ⌜ mat m (now («p_inf» .exit)) ≡ stepInf m (mat m (now (t .entry))) (mat m (now («p_inf» .entry))) ⌝ }
-{
-    step(p_inf, t, tp, m);
-    dense::symmetrize_in_place(p_inf, m);
-}
-
-// P*, P∞, B and the unresolved matrix go on by T.
-pub fn go_on(
-    star: &mut [f64; 64],
-    p_inf: &mut [f64; 64],
-    root: &mut [f64; 64],
-    unres: &mut [f64; 64],
-    t: &[f64; 64],
-    rqr: &[f64; 64],
-    diffuse: bool,
-    m: usize,
-)
-    requires { ⌜ m ≤ 8 ⌝ }
-    ensures { λ _. ⌜ stateOf m (now (star .exit)) (now («p_inf» .exit)) (now (root .exit)) (now (unres .exit)) diffuse
-        ≡ stepped m (mat m (now (t .entry))) (mat m (now (rqr .entry))) diffuse (mat m (now (star .entry))) (mat m (now («p_inf» .entry))) (mat m (now (root .entry))) (mat m (now (unres .entry))) ⌝ }
-{
-    let mut tp = [0.0; 64];
-    step_star(star, t, rqr, &mut tp, m);
-    step_inf(p_inf, t, &mut tp, m);
-    if diffuse {
-        products::mul_into(&mut tp, t, root, m);
-        *root = tp;
-        step(unres, t, &mut tp, m);
-    }
+    out
 }

@@ -12,7 +12,7 @@ use Rattle.definition.specs.Outcome.{CovParts, MeanParts, Fate, turned, silent,
 use Rattle.laws.specs.Accepted.{accepted}
 use Rattle.model.specs.Lengths.{Room, by-room}
 use Rattle.mean.specs.declared.Answer.{Answer}
-use Rattle.passes.specs.View.{Fit, Ran}
+use Rattle.forward.specs.View.{Fit, Ran}
 use Rattle.filter.specs.declared.Outcome.the-variants.{Refused, Answered}
 use Rattle.filter.specs.Promise.{Promise, isSilent}
 use Rattle.filter.specs.Blanked.{Blanked}

@@ -13,7 +13,7 @@ use Rattle.definition.specs.Refusals.{refusal}
 use Rattle.definition.specs.Outcome.{CovParts, MeanParts, CovOutcome, MeanOutcome, Fate, turned, silent, answered, fateOf, fate, numberOf, after, countsIn, loglikIn, kindsNeed, covNeed, meanNeed, covOf, countsOf, noInformation, covOutcome, meanOutcome, roomy}
 use Rattle.laws.specs.Passes.{lay-again}
 use Rattle.mean.specs.declared.Answer.{Answer}
-use Rattle.passes.specs.View.{Ran}
+use Rattle.forward.specs.View.{Ran}
 use Rattle.filter.specs.declared.Outcome.the-variants.{Refused, Answered}
 use Rattle.filter.specs.Promise.{answerBy, Promise, isSilent}
 use Rattle.filter.specs.Blanked.{Blanked}

@@ -6,7 +6,7 @@ use lib.Dec.{ltb, eqb}
 use Rattle.definition.specs.Parts.{CovPart, MeanPart}
 use Rattle.definition.specs.Outcome.{CovParts, MeanParts, CovOutcome, MeanOutcome}
 use Rattle.mean.specs.declared.Answer.{Answer}
-use Rattle.passes.specs.View.{answerIn}
+use Rattle.forward.specs.View.{answerIn}
 use Rattle.filter.specs.declared.Outcome.{Outcome}
 use Rattle.filter.specs.declared.Outcome.the-variants.{Refused, Answered}
 

@@ -2,7 +2,7 @@
 ghost use mathlib.Core.Path.{_≡_};
 ghost use Rattle.definition.specs.Outcome.{outcome};
 ghost use Rattle.model.specs.Given.{modelOf, offsetsOf};
-ghost use Rattle.passes.specs.View.{covParts, meanParts};
+ghost use Rattle.forward.specs.View.{covParts, meanParts};
 ghost use Rattle.filter.specs.Promise.{Promise, isSilent};
 ghost use Rattle.filter.specs.Ends.{Checked};
 
@@ -161,7 +161,7 @@ pub fn filter_univariate<'a>(
     if 0 < k {
         return Outcome::Refused(k);
     }
-    let a = passes::run(
+    let a = forward::run(
         p,
         m,
         r,

@@ -1,7 +1,7 @@
 // The public library: the filter's call and the smoother's, from Rattle and by the C calling convention. None asks anything of its caller.
 ghost use Rattle.definition.specs.Outcome.{outcome, smoothOutcome};
 ghost use Rattle.model.specs.Given.{modelOf, offsetsOf};
-ghost use Rattle.passes.specs.View.{covParts, meanParts};
+ghost use Rattle.forward.specs.View.{covParts, meanParts};
 ghost use Rattle.goxundar.specs.Exported.{places, Told, Exported, ExportedSmooth};
 
 // The filter's call and the smoother's, as crates/filter and crates/smoother have them: refused with its number, or answered.

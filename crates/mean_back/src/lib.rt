@@ -14,7 +14,7 @@ ghost use Rattle.definition.specs.Inputs.{frameFrom};
 ghost use Rattle.laws.specs.Flat.{flatIn, readBack, decisionsAt, blockAt};
 ghost use Rattle.laws.specs.Passes.{Laid};
 ghost use Rattle.dense.specs.Views.{vec, mat};
-ghost use Rattle.backward.specs.View.{rsIn};
+ghost use Rattle.element_back.specs.View.{rsIn};
 ghost use Rattle.mean_back.specs.View.{lookedAt, looked, Vectors, Square, Entry, Element, Period, Smoothed, Block, Periods, Ready};
 
 // ---- L' r, with the entries of L worked out as they are read
@@ -26,7 +26,7 @@ fn l_zero_t_vec_at(k: &[f64; 8], z: &[f64; 8], r: &[f64; 8], m: usize, j: usize)
 {
     let mut s = 0.0;
     for i in 0..m {
-        s = s + backward::l_zero_at(k, z, m, i, j) * dense::nth(r, m, i);
+        s = s + element_back::l_zero_at(k, z, m, i, j) * dense::nth(r, m, i);
     }
     s
 }
@@ -72,7 +72,7 @@ fn gain_back(gain: &[f64], f: f64, m: usize) -> [f64; 8]
     requires { ⌜ (m ≤ 8) × (length (now gain) ≡ m) ⌝ }
     ensures { λ r. ⌜ vec m r ≡ scaled m (now (gain .entry)) (fOne f) ⌝ }
 {
-    let g = backward::f_one(f);
+    let g = element_back::f_one(f);
     let mut out = [0.0; 8];
     for j in 0..m {
         out[j] = gain[j] * g;
@@ -85,7 +85,7 @@ fn usual_r(r0: &mut [f64; 8], z: &[f64; 8], v: f64, f: f64, gain: &[f64], m: usi
     requires { ⌜ (m ≤ 8) × (length (now gain) ≡ m) ⌝ }
     ensures { λ _. ⌜ vec m (now (r0 .exit)) ≡ usualR m (vec m (now (z .entry))) v (fOne f) (lUsual m (vec m (now (z .entry))) f (now (gain .entry))) (vec m (now (r0 .entry))) ⌝ }
 {
-    let g = backward::f_one(f);
+    let g = element_back::f_one(f);
     let k = gain_back(gain, f, m);
     let mut next = l_zero_t_vec(&k, z, r0, m);
     dense::axpy(&mut next, v * g, z, m);
@@ -108,11 +108,11 @@ fn diffuse_r(
     ensures { λ _. ⌜ rsIn m (now (r0 .exit)) (now (r1 .exit)) ≡ backR m (vec m (now (z .entry))) (rsIn m (now (r0 .entry)) (now (r1 .entry)))
         (diffuse f «f_inf» (now («m_star» .entry)) (now («m_inf» .entry))) v ⌝ }
 {
-    let g = backward::f_one(f_inf);
+    let g = element_back::f_one(f_inf);
     let k0 = gain_back(m_inf, f_inf, m);
     let ms = dense::load8(m_star);
     let mi = dense::load8(m_inf);
-    let k1 = backward::k_one(f, f_inf, &ms, &mi, m);
+    let k1 = element_back::k_one(f, f_inf, &ms, &mi, m);
     let next0 = l_zero_t_vec(&k0, z, r0, m);
     let mut next1 = l_zero_t_vec(&k0, z, r1, m);
     let cross = l_one_t_vec(&k1, z, r0, m);

@@ -16,7 +16,7 @@ use Rattle.laws.specs.Flat.{flatIn}
 use Rattle.model.specs.Lengths.{Room, roomsSmoothed, by-room-smoothed}
 use Rattle.blank.specs.Stretches.{SmoothedBlank}
 use Rattle.mean.specs.declared.Answer.{Answer}
-use Rattle.passes_back.specs.View.{Back}
+use Rattle.backward.specs.View.{Back}
 use Rattle.filter.specs.declared.Outcome.{Outcome}
 use Rattle.filter.specs.declared.Outcome.the-variants.{Refused, Answered}
 use Rattle.filter.specs.Promise.{answerBy, Promise}

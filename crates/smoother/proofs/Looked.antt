@@ -15,7 +15,7 @@ use Rattle.laws.specs.Accepted.{Accepted, RoomySmoothed, room-smoothed, as-long
 use Rattle.laws.specs.Flat.{flatIn, Flat, looks, meanLooks}
 use Rattle.laws.specs.Passes.{Laid}
 use Rattle.blank.specs.Stretches.{SmoothedRoom}
-use Rattle.passes.specs.View.{Fit}
+use Rattle.forward.specs.View.{Fit}
 use Rattle.mean.specs.declared.Answer.{Answer}
 use Rattle.filter.specs.declared.Outcome.{Outcome}
 use Rattle.filter.specs.declared.Outcome.the-variants.{Refused, Answered}
@@ -25,7 +25,7 @@ use Rattle.cov_back.specs.Call as cov-call
 use Rattle.laws.specs.Looked as cov-looked
 use Rattle.mean_back.specs.Call as mean-call
 use Rattle.mean_back.specs.Looked as mean-looked
-use Rattle.passes_back.specs.View.{ReadyBack, Back}
+use Rattle.backward.specs.View.{ReadyBack, Back}
 
 first : (a b c : Bool) → (a && b && c) ≡ true → a ≡ true
 first true b c e = refl

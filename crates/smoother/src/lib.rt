@@ -1,7 +1,7 @@
 // smoother.rs: the smoother's call: its checks, the filter's call (crates/filter), then both passes back (crates/passes_back).
 ghost use Rattle.definition.specs.Outcome.{smoothOutcome};
 ghost use Rattle.model.specs.Given.{modelOf, offsetsOf};
-ghost use Rattle.passes.specs.View.{covParts, meanParts};
+ghost use Rattle.forward.specs.View.{covParts, meanParts};
 ghost use Rattle.smoother.specs.Promise.{PromiseSmooth};
 
 // The smoother's call: the filter's with two outputs more. It ends with an answer whatever it is handed: refused with its number, or answered.
@@ -120,7 +120,7 @@ pub fn smooth_univariate<'a>(
             filter::Outcome::Refused(k)
         }
         filter::Outcome::Answered(a) => {
-            passes_back::back(
+            backward::back(
                 z,
                 zs,
                 t,

@@ -5,7 +5,7 @@ use lib.ListN.{length}
 use Rattle.definition.specs.Inputs.{kindOf}
 use Rattle.dense.specs.Views.{mat}
 use Rattle.model.specs.Design.{length-design}
-use Rattle.element.specs.Views.{stateOf}
+use Rattle.period.specs.Views.{stateOf}
 use Rattle.cov.proofs.Going as going
 use Rattle.cov.proofs.cov_loop.Statement.{statement}
 use Rattle.cov.proofs.cov_loop.Tie as tie

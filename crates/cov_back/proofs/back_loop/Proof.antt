@@ -3,7 +3,7 @@ use mathlib.Core.Path.{_∙_}
 use Prim.Native.Nat.{_*_}
 use Rattle.definition.specs.Inputs.{frameFrom}
 use Rattle.dense.specs.Views.{mat}
-use Rattle.backward.specs.View.{nsIn}
+use Rattle.element_back.specs.View.{nsIn}
 use Rattle.laws.specs.Flat.{flatIn}
 use Rattle.cov_back.proofs.Laws as laws
 use Rattle.cov_back.proofs.Sizes as sizes

@@ -1,5 +1,5 @@
 -- The period is its elements, its smoothed covariance and the step. Made of Proof.tpl by tools/expand.
-use Rattle.backward.specs.View.{nsIn}
+use Rattle.element_back.specs.View.{nsIn}
 use Rattle.dense.specs.Views.{mat}
 use Rattle.laws.specs.Flat.{flatIn}
 use Rattle.cov_back.proofs.Laws as laws

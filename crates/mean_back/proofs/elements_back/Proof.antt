@@ -1,6 +1,6 @@
 -- The loop over the elements goes down along the fold. Made of Proof.tpl by tools/expand.
 use native.Mathlib.Omega.{arith}
-use Rattle.backward.specs.View.{rsIn}
+use Rattle.element_back.specs.View.{rsIn}
 use Rattle.laws.specs.Flat.{flatIn}
 use Rattle.mean_back.proofs.Laws as laws
 use Rattle.mean_back.proofs.Sizes as sizes

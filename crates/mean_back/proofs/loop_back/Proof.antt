@@ -3,7 +3,7 @@ use borrow.Author.Needs.{needs}
 use native.Mathlib.Omega.{arith}
 use Rattle.definition.specs.Inputs.{frameFrom}
 use Rattle.dense.specs.Views.{mat}
-use Rattle.backward.specs.View.{rsIn}
+use Rattle.element_back.specs.View.{rsIn}
 use Rattle.laws.specs.Flat.{flatIn}
 use Rattle.mean_back.proofs.Sizes as sizes
 use Rattle.mean_back.proofs.Going as going

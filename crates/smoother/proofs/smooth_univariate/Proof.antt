@@ -1,7 +1,7 @@
 -- Checked; then the filter's call, and what it ended with told the same way. Made of Proof.tpl by tools/expand.
 use mathlib.Core.Path.{refl}
 use Rattle.model.specs.Given.{modelOf, offsetsOf}
-use Rattle.passes.specs.View.{covParts, meanParts}
+use Rattle.forward.specs.View.{covParts, meanParts}
 use Rattle.smoother.proofs.Looked as looked
 use Rattle.smoother.proofs.Judged as judged
 use Rattle.smoother.proofs.smooth_univariate.Statement.{statement}

@@ -1,0 +1,11 @@
+use Rattle.acceptance.proofs.f_inf.Statement.{statement}
+use Rattle.acceptance.proofs.f_inf.Tie as tie
+use borrow.Author.Needs.{needs}
+use Rattle.definition.specs.Cov.{fInfOf}
+
+returns : tie.Need-returns
+unfolding fInfOf
+returns c = cc
+
+pub f-inf-spec : {M : Type 1} → statement M
+f-inf-spec = tie.close (tie.spec (λ c κs. search needs) (λ c κs. search needs) returns)

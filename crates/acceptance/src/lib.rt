@@ -1,0 +1,241 @@
+// filter.rs, the verdict on one element of a period: the tests that it has to pass, and what they find. What a finding brings is judge's.
+// The star root is seldom asked. So `judge` goes without it and says where it has to be asked, and `is_usual` has it at hand.
+ghost use mathlib.Core.Path.{_≡_};
+ghost use mathlib.Core.Bool.{true, false};
+ghost use Prim.Native.Nat.{_≤_};
+ghost use Rattle.definition.specs.Cov.{fStarOf, fInfOf, diffuseTest, scaledTest, bound, against, dust, passes, usualTest};
+ghost use Rattle.dense.specs.Views.{vec, mat};
+ghost use Rattle.star.specs.Views.{Sound, projectedAt};
+ghost use Rattle.acceptance.specs.Views.{dustOf, Ruled, Usually, Judged};
+
+// TOLERANCE_RANK, TOLERANCE_CANCEL and SUSPECT_DUST.
+const RANK: f64 = 1e-10;
+
+const CANCEL: f64 = 1e-14;
+
+const SUSPECT: f64 = 1e-6;
+
+// The dust test's verdict: F* against the period's predicted P*. A suspect has the reference that it was read against.
+pub enum Dust {
+    Clear,
+    Below,
+    Suspect(f64),
+}
+
+// What is found of an element while the star root is not asked. A diffuse one has its F∞, a doubtful one its reference.
+pub enum Finding {
+    Nothing,
+    Usual,
+    Diffuse(f64),
+    Doubtful(f64),
+}
+
+pub fn f_star(z: &[f64; 8], h: f64, m_star: &[f64; 8], m: usize) -> f64
+    requires { ⌜ m ≤ 8 ⌝ }
+    ensures { λ r. ⌜ r ≡ fStarOf m (vec m (now (z .entry))) h (vec m (now («m_star» .entry))) ⌝ }
+{
+    float::max0(dense::dot(z, m_star, m) + h)
+}
+
+fn f_inf(z: &[f64; 8], m_inf: &[f64; 8], m: usize) -> f64
+    requires { ⌜ m ≤ 8 ⌝ }
+    ensures { λ r. ⌜ r ≡ fInfOf m (vec m (now (z .entry))) (vec m (now («m_inf» .entry))) ⌝ }
+{
+    float::max0(dense::dot(z, m_inf, m))
+}
+
+fn is_diffuse(
+    z: &[f64; 8],
+    p_inf: &[f64; 64],
+    unres: &[f64; 64],
+    f_inf: f64,
+    f_root: f64,
+    m: usize,
+) -> bool
+    requires { ⌜ m ≤ 8 ⌝ }
+    ensures { λ r. ⌜ r ≡ diffuseTest m (vec m (now (z .entry))) (mat m (now («p_inf» .entry))) (mat m (now (unres .entry))) «f_inf» «f_root» ⌝ }
+{
+    if f_inf > RANK * dense::abs_quad_form(z, p_inf, m) {
+        return f_root > CANCEL * dense::abs_quad_form(z, unres, m);
+    }
+    false
+}
+
+fn is_scaled(z: &[f64; 8], h: f64, star: &[f64; 64], f: f64, m: usize) -> bool
+    requires { ⌜ m ≤ 8 ⌝ }
+    ensures { λ r. ⌜ r ≡ scaledTest m (vec m (now (z .entry))) h (mat m (now (star .entry))) f ⌝ }
+{
+    f > RANK * (dense::abs_quad_form(z, star, m) + h)
+}
+
+fn bound(z: &[f64; 8], sd: &[f64; 8], m: usize) -> f64
+    requires { ⌜ m ≤ 8 ⌝ }
+    ensures { λ r. ⌜ r ≡ bound m (vec m (now (z .entry))) (vec m (now (sd .entry))) ⌝ }
+{
+    let mut s = 0.0;
+    for j in 0..m {
+        s = s + float::abs(dense::nth(z, m, j)) * dense::nth(sd, m, j);
+    }
+    s
+}
+
+fn against(f: f64, reference: f64) -> Dust
+    ensures { λ r. ⌜ dustOf r ≡ against f reference ⌝ }
+{
+    if f <= CANCEL * reference {
+        return Dust::Below;
+    }
+    if f > SUSPECT * reference {
+        return Dust::Clear;
+    }
+    Dust::Suspect(reference)
+}
+
+// Fresh: no update in the period yet.
+fn dust_test(
+    z: &[f64; 8],
+    h: f64,
+    pre: &[f64; 64],
+    sd: &[f64; 8],
+    fresh: bool,
+    f: f64,
+    m: usize,
+) -> Dust
+    requires { ⌜ m ≤ 8 ⌝ }
+    ensures { λ r. ⌜ dustOf r ≡ dust m (vec m (now (z .entry))) h (mat m (now (pre .entry))) (vec m (now (sd .entry))) fresh f ⌝ }
+{
+    if fresh {
+        return Dust::Clear;
+    }
+    let b = bound(z, sd, m);
+    if f > SUSPECT * (b * b + h) {
+        return Dust::Clear;
+    }
+    against(f, dense::abs_quad_form(z, pre, m) + h)
+}
+
+// A suspect is accepted in a diffuse period; in any other it stays doubtful.
+fn by_dust(d: Dust, live: bool) -> Finding
+    ensures { λ r. ⌜ Ruled live d r ⌝ }
+{
+    match d {
+        Dust::Clear => Finding::Usual,
+        Dust::Below => Finding::Nothing,
+        Dust::Suspect(reference) => {
+            if live {
+                return Finding::Usual;
+            }
+            Finding::Doubtful(reference)
+        }
+    }
+}
+
+// Usual acceptance.
+fn usually(
+    z: &[f64; 8],
+    h: f64,
+    live: bool,
+    fresh: bool,
+    pre: &[f64; 64],
+    sd: &[f64; 8],
+    star: &[f64; 64],
+    f: f64,
+    m: usize,
+) -> Finding
+    requires { ⌜ m ≤ 8 ⌝ }
+    ensures { λ r. ⌜ Usually m (vec m (now (z .entry))) h live (mat m (now (pre .entry))) (vec m (now (sd .entry))) fresh (mat m (now (star .entry))) f r ⌝ }
+{
+    if is_scaled(z, h, star, f, m) {
+        let d = dust_test(z, h, pre, sd, fresh, f, m);
+        return by_dust(d, live);
+    }
+    Finding::Nothing
+}
+
+// Diffuse acceptance, or else usual. M∞ is written.
+fn diffusely(
+    z: &[f64; 8],
+    h: f64,
+    fresh: bool,
+    pre: &[f64; 64],
+    sd: &[f64; 8],
+    unres: &[f64; 64],
+    star: &[f64; 64],
+    p_inf: &[f64; 64],
+    root: &[f64; 64],
+    m_inf: &mut [f64; 8],
+    f: f64,
+    m: usize,
+) -> Finding
+    requires { ⌜ m ≤ 8 ⌝ }
+    ensures { λ r. ⌜ Judged m (vec m (now (z .entry))) h true (mat m (now (pre .entry))) (vec m (now (sd .entry))) fresh (mat m (now (unres .entry)))
+        (mat m (now (star .entry))) (mat m (now («p_inf» .entry))) (mat m (now (root .entry))) f (now («m_inf» .exit)) r ⌝ }
+{
+    *m_inf = dense::mat_vec(p_inf, z, m);
+    let g = f_inf(z, m_inf, m);
+    let u = dense::mat_t_vec(root, z, m);
+    if is_diffuse(z, p_inf, unres, g, dense::dot(&u, &u, m), m) {
+        return Finding::Diffuse(g);
+    }
+    usually(z, h, true, fresh, pre, sd, star, f, m)
+}
+
+// The verdict, F* at hand. M∞ is written in a diffuse period.
+pub fn judge(
+    z: &[f64; 8],
+    h: f64,
+    live: bool,
+    fresh: bool,
+    pre: &[f64; 64],
+    sd: &[f64; 8],
+    unres: &[f64; 64],
+    star: &[f64; 64],
+    p_inf: &[f64; 64],
+    root: &[f64; 64],
+    m_inf: &mut [f64; 8],
+    f: f64,
+    m: usize,
+) -> Finding
+    requires { ⌜ m ≤ 8 ⌝ }
+    ensures { λ r. ⌜ Judged m (vec m (now (z .entry))) h live (mat m (now (pre .entry))) (vec m (now (sd .entry))) fresh (mat m (now (unres .entry)))
+        (mat m (now (star .entry))) (mat m (now («p_inf» .entry))) (mat m (now (root .entry))) f (now («m_inf» .exit)) r ⌝ }
+{
+    if live {
+        return diffusely(z, h, fresh, pre, sd, unres, star, p_inf, root, m_inf, f, m);
+    }
+    usually(z, h, false, fresh, pre, sd, star, f, m)
+}
+
+// A suspect of a period that is not diffuse is accepted if the star root says so.
+fn passes(d: Dust, root: star::StarRoot, z: &[f64; 8], h: f64, m: usize) -> bool
+    requires { ⌜ Sound m root ⌝ }
+    ensures { λ r. ⌜ r ≡ passes false (projectedAt root (vec m (now (z .entry))) h) (dustOf d) ⌝ }
+{
+    match d {
+        Dust::Clear => true,
+        Dust::Below => false,
+        Dust::Suspect(reference) => root.project(z, h, m) > CANCEL * reference,
+    }
+}
+
+// Usual acceptance after an update, with the star root at hand.
+pub fn is_usual(
+    root: star::StarRoot,
+    z: &[f64; 8],
+    h: f64,
+    pre: &[f64; 64],
+    sd: &[f64; 8],
+    star: &[f64; 64],
+    f: f64,
+    m: usize,
+) -> bool
+    requires { ⌜ Sound m root ⌝ }
+    ensures { λ r. ⌜ r ≡ usualTest m (vec m (now (z .entry))) h false (mat m (now (pre .entry))) (vec m (now (sd .entry)))
+        (projectedAt root (vec m (now (z .entry))) h) false (mat m (now (star .entry))) f ⌝ }
+{
+    if is_scaled(z, h, star, f, m) {
+        let d = dust_test(z, h, pre, sd, false, f, m);
+        return passes(d, root, z, h, m);
+    }
+    false
+}

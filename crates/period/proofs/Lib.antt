@@ -1,0 +1,3 @@
+pub mod Along
+pub mod Listing
+pub mod Whole

@@ -1,0 +1,129 @@
+-- A period's values as the definition's, and what each stretch of its elements leaves.
+use Prim.Native.Nat.{ℕ, suc, _≤_, _<_, _+_}
+use mathlib.Core.Path.{_≡_}
+use mathlib.Core.Bool.{Bool, true, false, cond}
+use mathlib.Core.List.{List, [], _∷_, _++_, map}
+use lib.Dec.{eqb}
+use lib.ListN.{take, length}
+use lib.Ieee.{Float}
+use Rattle.definition.specs.Run.{scan, join}
+use Rattle.definition.specs.Inputs.{kindOf, isGap}
+use Rattle.definition.specs.Cov.{Decision, Inner, Fixed, Cov, elementOf, entered, isLive, none-yet}
+use Rattle.definition.specs.Parts as parts
+use Rattle.definition.specs.Parts.{kindNo, mStarOf, mInfOf}
+use Rattle.dense.specs.Views.{mat, rect}
+use Rattle.star.specs.Views.{Holds}
+use Rattle.star.specs.declared.StarRoot.{StarRoot}
+use Rattle.element.specs.Views.{Notes, Books, notes, books, innerOf, fixedOf}
+use Rattle.element.specs.declared.Step.{Step}
+use Rattle.element.specs.declared.Step.the-variants as step
+use Rattle.period.specs.declared.Taken.{Taken}
+
+-- ---- what the callers see
+
+-- what the elements of a period leave: their decisions in the flat form, and P*, P∞ and B
+pub record Ran (p m : ℕ) (want : List Decision × Inner) (ks : List ℕ) (fs fi ms mi p* p∞ b : List Float) : Type 0 where
+  pub kinds : take p ks ≡ map kindNo (want .0)
+  pub stars : take p fs ≡ map parts.fStarOf (want .0)
+  pub infs : take p fi ≡ map parts.fInfOf (want .0)
+  pub m-stars : rect p m ms ≡ join (map (mStarOf m) (want .0))
+  pub m-infs : rect p m mi ≡ join (map (mInfOf m) (want .0))
+  pub star : mat m p* ≡ want .1 .star
+  pub pinf : mat m p∞ ≡ want .1 .pinf
+  pub root : mat m b ≡ want .1 .root
+
+-- before the period's first element
+abbrev pub startOf : ℕ → List Float → List Float → List Float → Inner
+startOf m star pinf root = record { star = mat m star; pinf = mat m pinf; root = mat m root; taken = [] }
+
+abbrev pub stateOf : ℕ → List Float → List Float → List Float → List Float → Bool → Cov
+stateOf m star pinf root unres live = record { star = mat m star; pinf = mat m pinf; root = mat m root; unres = mat m unres; live = live }
+
+pub record Begun (m : ℕ) (live : Bool) (p∞ q∞ : List Float) (r : Bool) : Type 0 where
+  pub lasts : r ≡ isLive m live (mat m p∞)
+  pub pinf : mat m q∞ ≡ entered m r (mat m p∞)
+
+-- ---- the stretches
+
+abbrev pub gapsOf : List Float → List Bool
+gapsOf ys = map isGap (map kindOf ys)
+
+-- element i of a period of p, with n readings
+pub record Sizes (p m i n : ℕ) : Type 0 where
+  pub elements : p ≤ 8
+  pub states : m ≤ 8
+  pub here : i ≤ p
+  pub readings : n ≡ p
+
+unfoldable pub stopsOf : Step → Bool → Bool
+stopsOf step.Passed fresh = false
+stopsOf step.Taken fresh = fresh
+stopsOf step.Doubtful fresh = true
+
+unfoldable pub pastOf : Step → ℕ → ℕ
+pastOf step.Passed i = i + 1
+pastOf step.Taken i = i + 1
+pastOf step.Doubtful i = i
+
+-- the first i elements, as the definition has them
+abbrev pub upTo : ℕ → ℕ → List Float → Fixed → List Bool → Inner → ℕ → List Decision × Inner
+upTo p m h fix gaps s i = scan (elementOf p m h fix) 0 s (take i gaps)
+
+-- the records hold the decisions ds
+pub record Flats (m i : ℕ) (ds : List Decision) (n : Notes) : Type 0 where
+  pub kinds : take i (n .kinds) ≡ map kindNo ds
+  pub fs : take i (n .fs) ≡ map parts.fStarOf ds
+  pub fi : take i (n .fi) ≡ map parts.fInfOf ds
+  pub ms : rect i m (n .ms) ≡ join (map (mStarOf m) ds)
+  pub mi : rect i m (n .mi) ≡ join (map (mInfOf m) ds)
+
+-- i elements are done, from the state s on
+pub record Gone (p m : ℕ) (h : List Float) (fix : Fixed) (gaps : List Bool) (s : Inner) (i : ℕ) (b : Books) : Type 0 where
+  pub inner : innerOf m b (upTo p m h fix gaps s i .1 .taken) ≡ upTo p m h fix gaps s i .1
+  pub flats : Flats m i (upTo p m h fix gaps s i .0) (b .notes)
+
+-- whether none of the first i was taken
+abbrev pub none-of : ℕ → ℕ → List Float → Fixed → List Bool → Inner → ℕ → Bool
+none-of p m h fix gaps s i = none-yet (upTo p m h fix gaps s i .1 .taken)
+
+-- a stretch without the star root, to element r: it ends before p only once an element is taken, and one that began so only in a period that is not diffuse
+pub record Stretch (p m : ℕ) (h : List Float) (fix : Fixed) (gaps : List Bool) (fresh : Bool) (from r : ℕ) (b b′ : Books) : Type 0 where
+  pub high : r ≤ p
+  pub gone : (s : Inner) → Gone p m h fix gaps s from b → fresh ≡ none-of p m h fix gaps s from → Gone p m h fix gaps s r b′ × (r < p → none-of p m h fix gaps s r ≡ false)
+  pub calm : r < p → fresh ≡ false → fix .diffuse ≡ false
+
+-- all the elements that are left
+abbrev pub Rest : ℕ → ℕ → List Float → Fixed → List Bool → ℕ → Books → Books → Type 0
+Rest p m h fix gaps from b b′ = (s : Inner) → s .taken ≡ [] → Gone p m h fix gaps s from b → none-of p m h fix gaps s from ≡ false → Gone p m h fix gaps s p b′
+
+-- the same in a period that is not diffuse, whatever P∞, B and the unresolved matrix are
+abbrev pub ByRoots : ℕ → ℕ → List Float → List Float → List Float → List Bool → ℕ → List Float → Notes → List Float → Notes → Type 0
+ByRoots p m h design pre gaps from star n star′ n′ =
+    (p∞ b unres : List Float) → Rest p m h (fixedOf p m false design pre unres) gaps from (books star p∞ b n) (books star′ p∞ b n′)
+
+-- and with the star root of the elements taken at hand
+abbrev pub WithRoot : ℕ → ℕ → List Float → List Float → List Float → List Bool → ℕ → StarRoot → List Float → Notes → List Float → Notes → Type 0
+WithRoot p m h design pre gaps from root star n star′ n′ =
+    (p∞ b unres : List Float) (s : Inner) → Gone p m h (fixedOf p m false design pre unres) gaps s from (books star p∞ b n)
+    → none-of p m h (fixedOf p m false design pre unres) gaps s from ≡ false
+    → Holds p m (rect p m design) h (mat m pre) (upTo p m h (fixedOf p m false design pre unres) gaps s from .1 .taken) root
+    → Gone p m h (fixedOf p m false design pre unres) gaps s p (books star′ p∞ b n′)
+
+-- ---- the elements taken
+
+-- the places from k on at which a kind is not 0
+unfoldable pub placesFrom : ℕ → List ℕ → List ℕ
+placesFrom k [] = []
+placesFrom k (x ∷ xs) = let rest = placesFrom (suc k) xs in cond (eqb x 0) rest (k ∷ rest)
+
+-- element i joins those taken, by its kind
+pub record TookIn (t : Taken) (kind i : ℕ) (r : Taken) : Type 0 where
+  pub count : r .count ≡ cond (eqb kind 0) (t .count) (t .count + 1)
+  pub places : take (r .count) (r .places) ≡ cond (eqb kind 0) (take (t .count) (t .places)) (take (t .count) (t .places) ++ (i ∷ []))
+  pub size : length (r .places) ≡ length (t .places)
+
+-- those taken of the first n
+pub record Listed (n : ℕ) (kinds : List ℕ) (r : Taken) : Type 0 where
+  pub size : length (r .places) ≡ 8
+  pub few : r .count ≤ n
+  pub places : take (r .count) (r .places) ≡ placesFrom 0 kinds

@@ -1,0 +1,439 @@
+// filter.rs, the elements of one period of the covariance track in order, the period's test, and the step by T.
+// It sees which readings are gaps, and no reading, mean or intercept. A period goes in up to three stretches: until an element is taken; then, the
+// standard deviations worked out, until one is doubtful; then with the star root, which is built there and kept to the period's end.
+ghost use mathlib.Core.Path.{_≡_};
+ghost use mathlib.Core.Bool.{true, false};
+ghost use mathlib.Core.List.{map};
+ghost use Prim.Native.Nat.{_≤_, _<_, _*_};
+ghost use lib.ListN.{take, length};
+ghost use Rattle.definition.specs.Num.{zeros};
+ghost use Rattle.definition.specs.Run.{scan};
+ghost use Rattle.definition.specs.Dense.{sandwich};
+ghost use Rattle.definition.specs.Cov.{elementOf, isLive, stepStar, stepInf, stepped};
+ghost use Rattle.definition.specs.Inputs.{kindOf, isGap};
+ghost use Rattle.dense.specs.Views.{mat};
+ghost use Rattle.star.specs.Views.{Sound};
+ghost use Rattle.element.specs.Views.{notes, books, fixedOf, Known};
+ghost use Rattle.period.specs.Views.{Ran, Begun, stateOf, gapsOf, stopsOf, pastOf, startOf, TookIn, Listed, Sizes, Stretch, WithRoot, ByRoots, Rest};
+
+const RANK: f64 = 1e-10;
+
+// A stretch ends at a doubtful element, and one that began fresh with the first that is taken.
+fn stops(r: element::Step, fresh: bool) -> bool
+    ensures { λ x. ⌜ x ≡ stopsOf r fresh ⌝ }
+{
+    match r {
+        element::Step::Passed => false,
+        element::Step::Taken => fresh,
+        element::Step::Doubtful => true,
+    }
+}
+
+// Where the next stretch begins: at a doubtful element, else past element i.
+fn past(r: element::Step, i: usize) -> usize
+    requires { ⌜ i < 8 ⌝ }
+    ensures { λ x. ⌜ x ≡ pastOf r i ⌝ }
+{
+    match r {
+        element::Step::Passed => i + 1,
+        element::Step::Taken => i + 1,
+        element::Step::Doubtful => i,
+    }
+}
+
+// A stretch without the star root, from element `from` on. How far it came.
+fn stretch(
+    star: &mut [f64; 64],
+    p_inf: &mut [f64; 64],
+    root: &mut [f64; 64],
+    kinds: &mut [u8; 8],
+    fs: &mut [f64; 8],
+    fi: &mut [f64; 8],
+    ms: &mut [f64; 64],
+    mi: &mut [f64; 64],
+    from: usize,
+    fresh: bool,
+    live: bool,
+    pre: &[f64; 64],
+    sd: &[f64; 8],
+    unres: &[f64; 64],
+    design: &[f64; 64],
+    hs: &[f64; 64],
+    ys: &[f64],
+    p: usize,
+    m: usize,
+) -> usize
+    requires { ⌜ Sizes p m from (length (now ys)) × Known m fresh (now pre) (now sd) ⌝ }
+    ensures { λ r. ⌜ Stretch p m (mat p (now (hs .entry))) (fixedOf p m live (now (design .entry)) (now (pre .entry)) (now (unres .entry))) (gapsOf (now (ys .entry))) fresh from r
+        (books (now (star .entry)) (now («p_inf» .entry)) (now (root .entry)) (notes (now (kinds .entry)) (now (fs .entry)) (now (fi .entry)) (now (ms .entry)) (now (mi .entry))))
+        (books (now (star .exit)) (now («p_inf» .exit)) (now (root .exit)) (notes (now (kinds .exit)) (now (fs .exit)) (now (fi .exit)) (now (ms .exit)) (now (mi .exit)))) ⌝ }
+{
+    for i in from..p {
+        let gap = float::is_nan(ys[i]);
+        let r = element::element(
+            star,
+            p_inf,
+            root,
+            kinds,
+            fs,
+            fi,
+            ms,
+            mi,
+            gap,
+            live,
+            fresh,
+            pre,
+            sd,
+            unres,
+            design,
+            hs,
+            p,
+            m,
+            i,
+        );
+        if stops(r, fresh) {
+            return past(r, i);
+        }
+    }
+    p
+}
+
+// The elements taken so far, by their kinds.
+struct Taken {
+    places: [usize; 8],
+    count: usize,
+}
+
+fn take_in(t: Taken, kind: u8, i: usize) -> Taken
+    requires { ⌜ t .count < 8 ⌝ }
+    ensures { λ r. ⌜ TookIn t kind i r ⌝ }
+{
+    let mut t = t;
+    if kind != 0 {
+        let n = t.count;
+        t.places[n] = i;
+        t.count = n + 1;
+    }
+    t
+}
+
+fn taken_of(kinds: &[u8; 8], n: usize) -> Taken
+    requires { ⌜ n ≤ 8 ⌝ }
+    ensures { λ r. ⌜ Listed n (take n (now (kinds .entry))) r ⌝ }
+{
+    let ks: &[u8] = kinds;
+    let mut t = Taken {
+        places: [0; 8],
+        count: 0,
+    };
+    for i in 0..n {
+        t = take_in(t, ks[i], i);
+    }
+    t
+}
+
+// The last stretch: the star root is at hand.
+fn with_root(
+    star: &mut [f64; 64],
+    kinds: &mut [u8; 8],
+    fs: &mut [f64; 8],
+    fi: &mut [f64; 8],
+    ms: &mut [f64; 64],
+    mi: &mut [f64; 64],
+    root: star::StarRoot,
+    from: usize,
+    pre: &[f64; 64],
+    sd: &[f64; 8],
+    design: &[f64; 64],
+    hs: &[f64; 64],
+    ys: &[f64],
+    p: usize,
+    m: usize,
+)
+    requires { ⌜ Sizes p m from (length (now ys)) × (Known m false (now pre) (now sd) × Sound m root) ⌝ }
+    ensures { λ _. ⌜ WithRoot p m (mat p (now (hs .entry))) (now (design .entry)) (now (pre .entry)) (gapsOf (now (ys .entry))) from root
+        (now (star .entry)) (notes (now (kinds .entry)) (now (fs .entry)) (now (fi .entry)) (now (ms .entry)) (now (mi .entry)))
+        (now (star .exit)) (notes (now (kinds .exit)) (now (fs .exit)) (now (fi .exit)) (now (ms .exit)) (now (mi .exit))) ⌝ }
+{
+    let mut root = root;
+    for i in from..p {
+        let gap = float::is_nan(ys[i]);
+        root = element::element_by_root(
+            star,
+            kinds,
+            fs,
+            fi,
+            ms,
+            mi,
+            root,
+            gap,
+            pre,
+            sd,
+            design,
+            hs,
+            p,
+            m,
+            i,
+        );
+    }
+}
+
+// The star root is built over the elements taken, and kept.
+fn by_root(
+    star: &mut [f64; 64],
+    kinds: &mut [u8; 8],
+    fs: &mut [f64; 8],
+    fi: &mut [f64; 8],
+    ms: &mut [f64; 64],
+    mi: &mut [f64; 64],
+    from: usize,
+    pre: &[f64; 64],
+    sd: &[f64; 8],
+    design: &[f64; 64],
+    hs: &[f64; 64],
+    ys: &[f64],
+    p: usize,
+    m: usize,
+)
+    requires { ⌜ Sizes p m from (length (now ys)) × Known m false (now pre) (now sd) ⌝ }
+    ensures { λ _. ⌜ ByRoots p m (mat p (now (hs .entry))) (now (design .entry)) (now (pre .entry)) (gapsOf (now (ys .entry))) from
+        (now (star .entry)) (notes (now (kinds .entry)) (now (fs .entry)) (now (fi .entry)) (now (ms .entry)) (now (mi .entry)))
+        (now (star .exit)) (notes (now (kinds .exit)) (now (fs .exit)) (now (fi .exit)) (now (ms .exit)) (now (mi .exit))) ⌝ }
+{
+    let t = taken_of(kinds, from);
+    let places = t.places;
+    let root = star::StarRoot::replay(p, m, design, hs, pre, &places, t.count);
+    with_root(
+        star,
+        kinds,
+        fs,
+        fi,
+        ms,
+        mi,
+        root,
+        from,
+        pre,
+        sd,
+        design,
+        hs,
+        ys,
+        p,
+        m,
+    );
+}
+
+// The elements after the first that was taken.
+fn rest(
+    star: &mut [f64; 64],
+    p_inf: &mut [f64; 64],
+    root: &mut [f64; 64],
+    kinds: &mut [u8; 8],
+    fs: &mut [f64; 8],
+    fi: &mut [f64; 8],
+    ms: &mut [f64; 64],
+    mi: &mut [f64; 64],
+    from: usize,
+    live: bool,
+    pre: &[f64; 64],
+    unres: &[f64; 64],
+    design: &[f64; 64],
+    hs: &[f64; 64],
+    ys: &[f64],
+    p: usize,
+    m: usize,
+)
+    requires { ⌜ Sizes p m from (length (now ys)) ⌝ }
+    ensures { λ _. ⌜ Rest p m (mat p (now (hs .entry))) (fixedOf p m live (now (design .entry)) (now (pre .entry)) (now (unres .entry))) (gapsOf (now (ys .entry))) from
+        (books (now (star .entry)) (now («p_inf» .entry)) (now (root .entry)) (notes (now (kinds .entry)) (now (fs .entry)) (now (fi .entry)) (now (ms .entry)) (now (mi .entry))))
+        (books (now (star .exit)) (now («p_inf» .exit)) (now (root .exit)) (notes (now (kinds .exit)) (now (fs .exit)) (now (fi .exit)) (now (ms .exit)) (now (mi .exit)))) ⌝ }
+{
+    let sd = element::deviations(pre, m);
+    let at = stretch(
+        star,
+        p_inf,
+        root,
+        kinds,
+        fs,
+        fi,
+        ms,
+        mi,
+        from,
+        false,
+        live,
+        pre,
+        &sd,
+        unres,
+        design,
+        hs,
+        ys,
+        p,
+        m,
+    );
+    if at < p {
+        by_root(
+            star,
+            kinds,
+            fs,
+            fi,
+            ms,
+            mi,
+            at,
+            pre,
+            &sd,
+            design,
+            hs,
+            ys,
+            p,
+            m,
+        );
+    }
+}
+
+// The elements of a period, in order, by its readings `ys`, of which only the gaps are seen. P*, P∞ and B go from predicted to filtered.
+pub fn elements(
+    star: &mut [f64; 64],
+    p_inf: &mut [f64; 64],
+    root: &mut [f64; 64],
+    kinds: &mut [u8; 8],
+    fs: &mut [f64; 8],
+    fi: &mut [f64; 8],
+    ms: &mut [f64; 64],
+    mi: &mut [f64; 64],
+    live: bool,
+    pre: &[f64; 64],
+    unres: &[f64; 64],
+    design: &[f64; 64],
+    hs: &[f64; 64],
+    ys: &[f64],
+    p: usize,
+    m: usize,
+)
+    requires { ⌜ (p ≤ 8) × ((m ≤ 8) × (length (now ys) ≡ p)) ⌝ }
+    ensures { λ _. ⌜ Ran p m (scan (elementOf p m (mat p (now (hs .entry))) (fixedOf p m live (now (design .entry)) (now (pre .entry)) (now (unres .entry)))) 0
+        (startOf m (now (star .entry)) (now («p_inf» .entry)) (now (root .entry))) (map isGap (map kindOf (now (ys .entry)))))
+        (now (kinds .exit)) (now (fs .exit)) (now (fi .exit)) (now (ms .exit)) (now (mi .exit)) (now (star .exit)) (now («p_inf» .exit)) (now (root .exit)) ⌝ }
+{
+    let none = [0.0; 8];
+    let at = stretch(
+        star,
+        p_inf,
+        root,
+        kinds,
+        fs,
+        fi,
+        ms,
+        mi,
+        0,
+        true,
+        live,
+        pre,
+        &none,
+        unres,
+        design,
+        hs,
+        ys,
+        p,
+        m,
+    );
+    if at < p {
+        rest(
+            star,
+            p_inf,
+            root,
+            kinds,
+            fs,
+            fi,
+            ms,
+            mi,
+            at,
+            live,
+            pre,
+            unres,
+            design,
+            hs,
+            ys,
+            p,
+            m,
+        );
+    }
+}
+
+fn clear(p: &mut [f64; 64], m: usize)
+    requires { ⌜ m ≤ 8 ⌝ }
+    ensures { λ _. ⌜ mat m (now (p .exit)) ≡ zeros (m * m) ⌝ }
+{
+    *p = [0.0; 64];
+}
+
+fn lasts(p_inf: &[f64; 64], live: bool, m: usize) -> bool
+    requires { ⌜ m ≤ 8 ⌝ }
+    ensures { λ r. ⌜ r ≡ isLive m live (mat m (now («p_inf» .entry))) ⌝ }
+{
+    if live {
+        return dense::frob_sq(p_inf, m) > RANK;
+    }
+    false
+}
+
+// Whether the period is diffuse; P∞ is set to zeros where it is not.
+pub fn begin(p_inf: &mut [f64; 64], live: bool, m: usize) -> bool
+    requires { ⌜ m ≤ 8 ⌝ }
+    ensures { λ r. ⌜ Begun m live (now («p_inf» .entry)) (now («p_inf» .exit)) r ⌝ }
+{
+    if lasts(p_inf, live, m) {
+        return true;
+    }
+    clear(p_inf, m);
+    false
+}
+
+// T P T' as (T P) T', in place. `tp` is room for T P.
+fn step(p: &mut [f64; 64], t: &[f64; 64], tp: &mut [f64; 64], m: usize)
+    requires { ⌜ m ≤ 8 ⌝ }
+    ensures { λ _. ⌜ mat m (now (p .exit)) ≡ sandwich m (mat m (now (t .entry))) (mat m (now (p .entry))) ⌝ }
+{
+    products::mul_into(tp, t, p, m);
+    products::product_t_into(p, tp, t, m, m, m);
+}
+
+fn step_star(star: &mut [f64; 64], t: &[f64; 64], rqr: &[f64; 64], tp: &mut [f64; 64], m: usize)
+    requires { ⌜ m ≤ 8 ⌝ }
+    ensures { λ _. ⌜ mat m (now (star .exit)) ≡ stepStar m (mat m (now (t .entry))) (mat m (now (rqr .entry))) (mat m (now (star .entry))) ⌝ }
+{
+    step(star, t, tp, m);
+    dense::add(star, rqr, m);
+    dense::symmetrize_in_place(star, m);
+}
+
+fn step_inf(p_inf: &mut [f64; 64], t: &[f64; 64], tp: &mut [f64; 64], m: usize)
+    requires { ⌜ m ≤ 8 ⌝ }
+    ensures { λ _. ⌜ mat m (now («p_inf» .exit)) ≡ stepInf m (mat m (now (t .entry))) (mat m (now («p_inf» .entry))) ⌝ }
+{
+    step(p_inf, t, tp, m);
+    dense::symmetrize_in_place(p_inf, m);
+}
+
+// P*, P∞, B and the unresolved matrix go on by T.
+pub fn go_on(
+    star: &mut [f64; 64],
+    p_inf: &mut [f64; 64],
+    root: &mut [f64; 64],
+    unres: &mut [f64; 64],
+    t: &[f64; 64],
+    rqr: &[f64; 64],
+    diffuse: bool,
+    m: usize,
+)
+    requires { ⌜ m ≤ 8 ⌝ }
+    ensures { λ _. ⌜ stateOf m (now (star .exit)) (now («p_inf» .exit)) (now (root .exit)) (now (unres .exit)) diffuse
+        ≡ stepped m (mat m (now (t .entry))) (mat m (now (rqr .entry))) diffuse (mat m (now (star .entry))) (mat m (now («p_inf» .entry))) (mat m (now (root .entry))) (mat m (now (unres .entry))) ⌝ }
+{
+    let mut tp = [0.0; 64];
+    step_star(star, t, rqr, &mut tp, m);
+    step_inf(p_inf, t, &mut tp, m);
+    if diffuse {
+        products::mul_into(&mut tp, t, root, m);
+        *root = tp;
+        step(unres, t, &mut tp, m);
+    }
+}
