@@ -8,7 +8,7 @@ use lib.Ieee.{Float}
 use Rattle.definition.specs.Num.{_⊕_, _⊗_, _>ᶠ_, _≤ᶠ_, rank-tol, cancel-tol, suspect-tol}
 use Rattle.definition.specs.Dense.{matVec, matTVec, dot, absQuadForm}
 use Rattle.definition.specs.Cov as cov
-use Rattle.definition.specs.Cov.{diffuseTest, scaledTest, dust, against, bound, clear, passes, usualTest, usually, diffusely, fInfOf}
+use Rattle.definition.specs.Cov.{diffuseTest, scaledTest, dust, against, bound, clear, passes, usualTest, usually, diffusely, fInfBy}
 use Rattle.dense.specs.Views.{vec}
 use Rattle.acceptance.specs.declared.Dust.{Dust}
 use Rattle.acceptance.specs.declared.Dust.the-variants.{Clear, Below, Suspect}
@@ -101,7 +101,7 @@ module _ (m : ℕ) (z : List Float) (h : Float) (live : Bool) (pre sd : List Flo
 
 -- ---- the verdict
 module _ (m : ℕ) (z : List Float) (h : Float) (pre sd : List Float) (fresh : Bool) (unres star pinf root : List Float) (f : Float) where
-  module _ {t : Bool} {g r : Float} {b u : List Float} (e1 : vec m b ≡ matVec m pinf z) (e2 : g ≡ fInfOf m z (vec m b)) (e3 : u ≡ matTVec m root z) (e4 : r ≡ dot m u u) (e5 : t ≡ diffuseTest m z pinf unres g r) where
+  module _ {t : Bool} {g r : Float} {b u : List Float} (e1 : vec m b ≡ matVec m pinf z) (e2 : g ≡ fInfBy m z (vec m b)) (e3 : u ≡ matTVec m root z) (e4 : r ≡ dot m u u) (e5 : t ≡ diffuseTest m z pinf unres g r) where
     pub diffusely-yes : t ≡ true → Judged m z h true pre sd fresh unres star pinf root f b (finding.Diffuse g)
     unfolding judgedBy diffusely found
     diffusely-yes w = record { finds = λ again a. rw (sym e1, sym e2, sym e3, sym e4, sym e5, w); doubts = λ x k. absurd (let n : _≡_ {A = ℕ} 0 1 = cc in omega arith) }

@@ -3,7 +3,7 @@
 ghost use mathlib.Core.Path.{_≡_};
 ghost use mathlib.Core.Bool.{true, false};
 ghost use Prim.Native.Nat.{_≤_};
-ghost use Rattle.definition.specs.Cov.{fStarOf, fInfOf, diffuseTest, scaledTest, bound, against, dust, passes, usualTest};
+ghost use Rattle.definition.specs.Cov.{fStarBy, fInfBy, diffuseTest, scaledTest, bound, against, dust, passes, usualTest};
 ghost use Rattle.dense.specs.Views.{vec, mat};
 ghost use Rattle.star.specs.Views.{Sound, projectedAt};
 ghost use Rattle.acceptance.specs.Views.{dustOf, Ruled, Usually, Judged};
@@ -32,14 +32,14 @@ pub enum Finding {
 
 pub fn f_star(z: &[f64; 8], h: f64, m_star: &[f64; 8], m: usize) -> f64
     requires { ⌜ m ≤ 8 ⌝ }
-    ensures { λ r. ⌜ r ≡ fStarOf m (vec m (now (z .entry))) h (vec m (now («m_star» .entry))) ⌝ }
+    ensures { λ r. ⌜ r ≡ fStarBy m (vec m (now (z .entry))) h (vec m (now («m_star» .entry))) ⌝ }
 {
     float::max0(dense::dot(z, m_star, m) + h)
 }
 
 fn f_inf(z: &[f64; 8], m_inf: &[f64; 8], m: usize) -> f64
     requires { ⌜ m ≤ 8 ⌝ }
-    ensures { λ r. ⌜ r ≡ fInfOf m (vec m (now (z .entry))) (vec m (now («m_inf» .entry))) ⌝ }
+    ensures { λ r. ⌜ r ≡ fInfBy m (vec m (now (z .entry))) (vec m (now («m_inf» .entry))) ⌝ }
 {
     float::max0(dense::dot(z, m_inf, m))
 }

@@ -10,7 +10,7 @@ use lib.Ieee.{Float, nan}
 use Rattle.definition.specs.Num.{isFinite}
 use Rattle.definition.specs.Inputs.{Model, Offsets}
 use Rattle.definition.specs.Outcome.{CovParts, MeanParts, outcome}
-use Rattle.definition.specs.Tracks.{by-kinds}
+use Rattle.definition.specs.Tracks.{by-classes}
 use Rattle.demands.specs.Conditions.{Room, table, First}
 use Rattle.demands.specs.Refusals as refusals
 use Rattle.demands.specs.Values as demand
@@ -41,7 +41,7 @@ module _ (x : Model) (o : Offsets) (y : List Float) (w : CovParts) (w′ : MeanP
 
   -- demand 3: the values of finite readings reach no refusal, no count, no decision and no covariance
   pub values : (y′ : List Float) → demand.Alike y y′ → {s : Outcome} {c : CovParts} {c′ : MeanParts} → Called x o y′ w w′ s c c′ → seen.Blind r s b c
-  values y′ alike other = seen.blind call other (by-kinds x o y y′ (demand.alike-kinds y y′ alike) w w′)
+  values y′ alike other = seen.blind call other (by-classes x o y y′ (demand.alike-kinds y y′ alike) w w′)
 
   -- and a finite reading judged no news changes nothing: another finite number in its place leaves all as it was, a gap all but the count heard
   module _ (k : ℕ) (h : seen.NoNews y r b k) where

@@ -10,7 +10,7 @@ use lib.Ieee.{Float, nan}
 use Rattle.definition.specs.Num.{0ᶠ, isFinite}
 use Rattle.definition.specs.Inputs.{Model, Offsets}
 use Rattle.definition.specs.Outcome.{CovParts, MeanParts, SmoothedCov, SmoothedMean, CovOutcome, MeanOutcome, smoothedCovNeed, smoothedMeanNeed, smoothOutcome}
-use Rattle.definition.specs.Tracks.{smooth-by-kinds}
+use Rattle.definition.specs.Tracks.{smooth-by-classes}
 use Rattle.demands.specs.Conditions.{RoomSmooth, table, First}
 use Rattle.demands.specs.Refusals as refusals
 use Rattle.demands.specs.Refusals.{Blanked}
@@ -61,7 +61,7 @@ module _ (x : Model) (o : Offsets) (y : List Float) (w : CovParts) (w′ : MeanP
   -- demand 3: the values of finite readings reach no smoothed covariance either
   pub values : (y′ : List Float) → demand.Alike y y′ → {s : Outcome} {c : CovParts} {c′ : MeanParts} {sm″ sc″ : List Float} → Called x o y′ w w′ sm sc s c c′ sm″ sc″ → seen.Blind r s b c × (sc′ ≡ sc″)
   values y′ alike other =
-      let e = smooth-by-kinds x o y y′ (demand.alike-kinds y y′ alike) w w′ sc sm in (
+      let e = smooth-by-classes x o y y′ (demand.alike-kinds y y′ alike) w w′ sc sm in (
         seen.blind (call .filter) (other .filter) (ap (λ (z : SmoothedCov). z .filter) e),
         call .cov ∙ ap (λ (z : SmoothedCov). z .smoothed) e ∙ sym (other .cov),
       )

@@ -12,7 +12,7 @@ use lib.Ieee.{Float, nan, inf, fin, ne}
 use lib.Ieee.Compare.{differs-from-itself, nan-differs}
 use lib.Dec.{T}
 use Rattle.definition.specs.Run.{count}
-use Rattle.definition.specs.Inputs.{kindOf, isGap}
+use Rattle.definition.specs.Inputs.{classOf, isGap}
 use Rattle.laws.specs.Passes.{count-append, count-le}
 
 module _ {A : Type 0} (q : A → Bool) where
@@ -35,22 +35,22 @@ module _ {A : Type 0} (q : A → Bool) where
       length-take-at : (l : List A) (i : ℕ) → i ≤ length l → length (take i l) ≡ i
       length-take-at l i h = simp (lib.ListN.length-take) (omega arith)
 
-pub gap-yes : (x : Float) → ne x x ≡ true → isGap (kindOf x) ≡ true
-unfolding kindOf
-gap-yes x h = ap (λ (v : Float). isGap (kindOf v)) (differs-from-itself x (subst T (sym h) tt))
+pub gap-yes : (x : Float) → ne x x ≡ true → isGap (classOf x) ≡ true
+unfolding classOf
+gap-yes x h = ap (λ (v : Float). isGap (classOf v)) (differs-from-itself x (subst T (sym h) tt))
 
-pub gap-no : (x : Float) → ne x x ≡ false → isGap (kindOf x) ≡ false
-unfolding kindOf
+pub gap-no : (x : Float) → ne x x ≡ false → isGap (classOf x) ≡ false
+unfolding classOf
 gap-no nan h = absurd (false≢true (sym h ∙ nan-differs))
 gap-no (inf s) h = refl
 gap-no (fin s m e) h = refl
 
 abbrev pub gaps : List Float → List Bool
-gaps y = map isGap (map kindOf y)
+gaps y = map isGap (map classOf y)
 
 pub gaps-length : (y : List Float) → length (gaps y) ≡ length y
-gaps-length y = length-map (map kindOf y) isGap ∙ length-map y kindOf
+gaps-length y = length-map (map classOf y) isGap ∙ length-map y classOf
 
-pub gaps-at : (y : List Float) (i : ℕ) → getD (gaps y) i true ≡ isGap (kindOf (getD y i nan))
-unfolding kindOf
-gaps-at y i = List·getD-map isGap (map kindOf y) i (kindOf nan) ∙ ap isGap (List·getD-map kindOf y i nan)
+pub gaps-at : (y : List Float) (i : ℕ) → getD (gaps y) i true ≡ isGap (classOf (getD y i nan))
+unfolding classOf
+gaps-at y i = List·getD-map isGap (map classOf y) i (classOf nan) ∙ ap isGap (List·getD-map classOf y i nan)

@@ -12,7 +12,7 @@ use mir.Syntax.{w64}
 use Rattle.definition.specs.Dense.{symmetrise}
 use Rattle.definition.specs.Run.{scan, count, join}
 use Rattle.definition.specs.Cov.{System, Cov, CovPeriod, isLive, entered, stepped, ended, periodOf, period, covRun}
-use Rattle.definition.specs.Inputs.{Kind, isGap, gapRows, systemFrom, designFrom}
+use Rattle.definition.specs.Inputs.{Class, isGap, gapRows, systemFrom, designFrom}
 use Rattle.definition.specs.Parts.{predCov, predInf, filtCov, fStar, fInf, mStar, mInf, covBlock, kindBlock}
 use Rattle.definition.specs.Outcome.{covWritten, kindsWritten}
 use Rattle.laws.specs.Lists.{length-chunks}
@@ -64,7 +64,7 @@ next-fits a b = omega arith
 pub falls : (n i : ℕ) → i < n → n - (i + 1) < n - i
 falls n i h = omega arith
 
-module _ (p m : ℕ) (z zs h t r : List Float) (c : Cov) (ks : List Kind) (n : ℕ) where
+module _ (p m : ℕ) (z zs h t r : List Float) (c : Cov) (ks : List Class) (n : ℕ) where
   abbrev Y : System
   Y = systemFrom p m z zs h t r
 

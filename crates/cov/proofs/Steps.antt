@@ -12,7 +12,7 @@ use mir.Syntax.{w64}
 use Rattle.definition.specs.Dense.{symmetrise}
 use Rattle.definition.specs.Run.{scan}
 use Rattle.definition.specs.Cov.{Cov, elementOf, stepped}
-use Rattle.definition.specs.Inputs.{kindOf, isGap}
+use Rattle.definition.specs.Inputs.{classOf, isGap}
 use Rattle.dense.specs.Views.{vec, mat, rect}
 use Rattle.blocks.specs.Block.{Put}
 use Rattle.element.specs.Views.{fixedOf}
@@ -55,21 +55,21 @@ map-drop f (suc k) (x ∷ l) = map-drop f k l
 map-part : {A B : Type 0} (f : A → B) (k a : ℕ) (l : List A) → map f (take k (drop a l)) ≡ take k (drop a (map f l))
 map-part f k a l = map-take f k (drop a l) ∙ ap (take k) (map-drop f a l)
 
-gaps-part : (p t : ℕ) (y : List Float) → map isGap (map kindOf (take (t * p + p - t * p) (drop (t * p) y))) ≡ gapsAt p (map kindOf y) t
+gaps-part : (p t : ℕ) (y : List Float) → map isGap (map classOf (take (t * p + p - t * p) (drop (t * p) y))) ≡ gapsAt p (map classOf y) t
 gaps-part p t y =
     let e : t * p + p - t * p ≡ p = omega arith in
-    rw e (ap (map isGap) (map-part kindOf p (t * p) y) ∙ map-part isGap p (t * p) (map kindOf y))
+    rw e (ap (map isGap) (map-part classOf p (t * p) y) ∙ map-part isGap p (t * p) (map classOf y))
 
 module _ (p m t : ℕ) (h unres design ys star pinf root : List Float) (live : Bool) (z : List Float) where
   pub absorbed : {q* q∞ b′ : List Float} {ks : List ℕ} {fs fi ms mi : List Float} {k k′ : List ℕ} {fs₀ fs′ fi₀ fi′ ms₀ ms′ mi₀ mi′ : List Float} → length design ≡ p * m → vec (length design) z ≡ design
-      → Ran p m (scan (elementOf p m h (fixedOf p m live z star unres)) 0 (record { star = mat m star; pinf = mat m pinf; root = mat m root; taken = [] }) (map isGap (map kindOf (take (t * p + p - t * p) (drop (t * p) ys))))) ks fs fi ms mi q* q∞ b′
+      → Ran p m (scan (elementOf p m h (fixedOf p m live z star unres)) 0 (record { star = mat m star; pinf = mat m pinf; root = mat m root; taken = [] }) (map isGap (map classOf (take (t * p + p - t * p) (drop (t * p) ys))))) ks fs fi ms mi q* q∞ b′
       → Put t p ks k k′ → Put t p fs fs₀ fs′ → Put t p fi fi₀ fi′ → Put t (p * m) ms ms₀ ms′ → Put t (p * m) mi mi₀ mi′
-      → Absorbed p m t (absorbOf p m h design live (mat m unres) (gapsAt p (map kindOf ys) t) (mat m star) (mat m pinf) (mat m root)) q* q∞ b′ k k′ fs₀ fs′ fi₀ fi′ ms₀ ms′ mi₀ mi′
+      → Absorbed p m t (absorbOf p m h design live (mat m unres) (gapsAt p (map classOf ys) t) (mat m star) (mat m pinf) (mat m root)) q* q∞ b′ k k′ fs₀ fs′ fi₀ fi′ ms₀ ms′ mi₀ mi′
   unfolding absorbOf vec rect
   absorbed {q*} {q∞} {b′} {ks} {fs} {fi} {ms} {mi} {k} {k′} {fs₀} {fs′} {fi₀} {fi′} {ms₀} {ms′} {mi₀} {mi′} e ez r w1 w2 w3 w4 w5 =
       let zi : take (p * m) z ≡ design = rw e at ez in
       let s = subst (λ (g : List Bool). Ran p m (scan (elementOf p m h (record { diffuse = live; z = take (p * m) z; pre = mat m star; unres = mat m unres })) 0 (record { star = mat m star; pinf = mat m pinf; root = mat m root; taken = [] }) g) ks fs fi ms mi q* q∞ b′) (gaps-part p t ys) r in
-      let n = subst (λ (d : List Float). Ran p m (scan (elementOf p m h (record { diffuse = live; z = d; pre = mat m star; unres = mat m unres })) 0 (record { star = mat m star; pinf = mat m pinf; root = mat m root; taken = [] }) (gapsAt p (map kindOf ys) t)) ks fs fi ms mi q* q∞ b′) zi s in
+      let n = subst (λ (d : List Float). Ran p m (scan (elementOf p m h (record { diffuse = live; z = d; pre = mat m star; unres = mat m unres })) 0 (record { star = mat m star; pinf = mat m pinf; root = mat m root; taken = [] }) (gapsAt p (map classOf ys) t)) ks fs fi ms mi q* q∞ b′) zi s in
       record {
         kinds = wrote w1 (n .kinds);
         stars = wrote w2 (n .stars);

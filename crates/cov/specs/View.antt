@@ -11,7 +11,7 @@ use Rattle.definition.specs.Cov.{Cov, CovPeriod, Decision, Inner, isLive, enter
 use Rattle.definition.specs.Parts.{predCov, predInf, filtCov, fStar, fInf, mStar, mInf, covBlock, kindBlock, kindNo, mStarOf, mInfOf}
 use Rattle.definition.specs.Parts as parts
 use Rattle.definition.specs.Outcome.{covWritten, kindsWritten}
-use Rattle.definition.specs.Inputs.{Kind, isGap}
+use Rattle.definition.specs.Inputs.{Class, isGap}
 use Rattle.laws.specs.Passes.{Laid, over}
 use Rattle.dense.specs.Views.{mat}
 use Rattle.model.specs.Design.{DesignFits}
@@ -20,7 +20,7 @@ use Rattle.model.specs.Places.{NoiseFits, StartFits}
 -- ---- one period, in three steps; block t of a part, of k places, is replaced by what the step stores
 
 -- the gaps of period t
-abbrev pub gapsAt : ℕ → List Kind → ℕ → List Bool
+abbrev pub gapsAt : ℕ → List Class → ℕ → List Bool
 gapsAt p ks t = take p (drop (t * p) (map isGap ks))
 
 pub record Two (m t : ℕ) (pc pi : ℕ) : Type 0 where

@@ -4,21 +4,21 @@ ghost use mathlib.Core.List.{map};
 ghost use mathlib.Core.Bool.{not, cond};
 ghost use Prim.Native.Nat.{_≤_, _+_};
 ghost use lib.ListN.{length, take};
-ghost use Rattle.definition.specs.Inputs.{kindOf, isGap};
+ghost use Rattle.definition.specs.Inputs.{classOf, isGap};
 ghost use Rattle.definition.specs.Run.{count};
 ghost use Rattle.cov.specs.Counts.{isKept};
 
 // One more, unless x is NaN.
 fn and_heard(k: usize, x: f64) -> usize
     requires { ⌜ k ≤ 65536 ⌝ }
-    ensures { λ r. ⌜ r ≡ k + cond (not (isGap (kindOf x))) 1 0 ⌝ }
+    ensures { λ r. ⌜ r ≡ k + cond (not (isGap (classOf x))) 1 0 ⌝ }
 {
     if x != x { k } else { k + 1 }
 }
 
 pub fn heard(y: &[f64]) -> usize
     requires { ⌜ length (now y) ≤ 65536 ⌝ }
-    ensures { λ r. ⌜ r ≡ count not (map isGap (map kindOf (now (y .entry)))) ⌝ }
+    ensures { λ r. ⌜ r ≡ count not (map isGap (map classOf (now (y .entry)))) ⌝ }
 {
     let mut k = 0;
     for i in 0..y.len() {

@@ -5,7 +5,7 @@ ghost use mathlib.Core.List.{map};
 ghost use Prim.Native.Nat.{_≤_, _<_, _*_, _+_};
 ghost use lib.ListN.{length};
 ghost use Rattle.definition.specs.Cov.{covRun};
-ghost use Rattle.definition.specs.Inputs.{kindOf, gapRows, systemFrom, startFrom, noiseOf};
+ghost use Rattle.definition.specs.Inputs.{classOf, gapRows, systemFrom, startFrom, noiseOf};
 ghost use Rattle.dense.specs.Views.{mat};
 ghost use Rattle.period.specs.Views.{stateOf};
 ghost use Rattle.cov.specs.View.{gapsAt, Two, Entered, Five, absorbOf, Absorbed, Left, Periods, Room, LoopedTo, Ready, Rooms, Passed};
@@ -52,7 +52,7 @@ fn absorb(
     t: usize,
 )
     requires { ⌜ Five p m t (length (now design)) (length (now y)) (length (now kinds)) (length (now «f_star»)) (length (now «f_inf»)) (length (now «m_star»)) (length (now «m_inf»)) ⌝ }
-    ensures { λ _. ⌜ Absorbed p m t (absorbOf p m (mat p (now (hs .entry))) (now (design .entry)) live (mat m (now (unres .entry))) (gapsAt p (map kindOf (now (y .entry))) t)
+    ensures { λ _. ⌜ Absorbed p m t (absorbOf p m (mat p (now (hs .entry))) (now (design .entry)) live (mat m (now (unres .entry))) (gapsAt p (map classOf (now (y .entry))) t)
         (mat m (now (star .entry))) (mat m (now («p_inf» .entry))) (mat m (now (root .entry)))) (now (star .exit)) (now («p_inf» .exit)) (now (root .exit))
         (now (kinds .entry)) (now (kinds .exit)) (now («f_star» .entry)) (now («f_star» .exit)) (now («f_inf» .entry)) (now («f_inf» .exit)) (now («m_star» .entry)) (now («m_star» .exit)) (now («m_inf» .entry)) (now («m_inf» .exit)) ⌝ }
 {
@@ -151,7 +151,7 @@ fn cov_loop<'a>(
 ) -> usize
     requires { ⌜ Periods p m n listed (length (now z)) (length (now zs)) (length (now y)) × Room p m n (length (now «pred_cov»)) (length (now «pred_inf»)) (length (now «filt_cov»)) (length (now kinds)) (length (now «f_star»)) (length (now «f_inf»)) (length (now «m_star»)) (length (now «m_inf»)) ⌝ }
     ensures { λ dd. ⌜ LoopedTo p m n (covRun (systemFrom p m (now (z .entry)) (now (zs .entry)) (mat p (now (hs .entry))) (mat m (now (tr .entry))) (mat m (now (rqr .entry)))) 0
-        (stateOf m (now (star .entry)) (now («p_inf» .entry)) (now (root .entry)) (now (unres .entry)) live) (gapRows n p (map kindOf (now (y .entry)))))
+        (stateOf m (now (star .entry)) (now («p_inf» .entry)) (now (root .entry)) (now (unres .entry)) live) (gapRows n p (map classOf (now (y .entry)))))
         (now (star .exit)) (now («p_inf» .exit)) dd (now («pred_cov» .entry)) (now («pred_cov» .exit)) (now («pred_inf» .entry)) (now («pred_inf» .exit)) (now («filt_cov» .entry)) (now («filt_cov» .exit)) (now (kinds .entry)) (now (kinds .exit)) (now («f_star» .entry)) (now («f_star» .exit)) (now («f_inf» .entry)) (now («f_inf» .exit)) (now («m_star» .entry)) (now («m_star» .exit)) (now («m_inf» .entry)) (now («m_inf» .exit)) ⌝ }
 {
     let mut live = live;
@@ -211,7 +211,7 @@ pub fn cov_pass<'a>(
 ) -> usize
     requires { ⌜ Ready p m r n listed (length (now z)) (length (now zs)) (length (now h)) (length (now t)) (length (now rr)) (length (now q)) (length (now «p_star»)) (length (now flags)) (length (now y)) × Rooms p m n (length (now «pred_cov»)) (length (now «pred_inf»)) (length (now «filt_cov»)) (length (now kinds)) (length (now «f_star»)) (length (now «f_inf»)) (length (now «m_star»)) (length (now «m_inf»)) ⌝ }
     ensures { λ dd. ⌜ Passed p m n (covRun (systemFrom p m (now (z .entry)) (now (zs .entry)) (now (h .entry)) (now (t .entry)) (noiseOf m r (now (rr .entry)) (now (q .entry)))) 0
-        (startFrom m (now («p_star» .entry)) (now (flags .entry))) (gapRows n p (map kindOf (now (y .entry)))))
+        (startFrom m (now («p_star» .entry)) (now (flags .entry))) (gapRows n p (map classOf (now (y .entry)))))
         dd (now («pred_cov» .entry)) (now («pred_cov» .exit)) (now («pred_inf» .entry)) (now («pred_inf» .exit)) (now («filt_cov» .entry)) (now («filt_cov» .exit)) (now (kinds .entry)) (now (kinds .exit)) (now («f_star» .entry)) (now («f_star» .exit)) (now («f_inf» .entry)) (now («f_inf» .exit)) (now («m_star» .entry)) (now («m_star» .exit)) (now («m_inf» .entry)) (now («m_inf» .exit)) ⌝ }
 {
     let hs = dense::load64(h);

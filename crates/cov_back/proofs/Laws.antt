@@ -9,7 +9,7 @@ use lib.ListN.{length, getD, take, drop}
 use lib.Dec.{ltb}
 use lib.Ieee.{Float}
 use Rattle.definition.specs.Num.{at}
-use Rattle.definition.specs.Dense.{mul, tr, minus, quad, symmetrise, row}
+use Rattle.definition.specs.Dense.{mul, transposed, minus, quad, symmetrise, row}
 use Rattle.definition.specs.Run.{foldBack}
 use Rattle.definition.specs.Cov.{skipped}
 use Rattle.definition.specs.Smooth.{Ns, backN, backElement, elementsN, between, diffuseV, backV, stepNs, backCovOf}
@@ -77,7 +77,7 @@ module _ (m : ℕ) where
   unfolding between
   less v a n b e1 e2 e3 = cc
 
-  pub diffuse-less : (v p p∞ n0 n1 n2 : List Float) {a x x′ v′ v″ w : List Float} → a ≡ mul m p∞ n1 → x ≡ mul m a p → v′ ≡ minus m v x → x′ ≡ tr m x → v″ ≡ minus m v′ x′ → w ≡ minus m v″ (between m p∞ n2 p∞) → w ≡ diffuseV m p p∞ (record { n0 = n0; n1 = n1; n2 = n2 }) v
+  pub diffuse-less : (v p p∞ n0 n1 n2 : List Float) {a x x′ v′ v″ w : List Float} → a ≡ mul m p∞ n1 → x ≡ mul m a p → v′ ≡ minus m v x → x′ ≡ transposed m x → v″ ≡ minus m v′ x′ → w ≡ minus m v″ (between m p∞ n2 p∞) → w ≡ diffuseV m p p∞ (record { n0 = n0; n1 = n1; n2 = n2 }) v
   unfolding diffuseV between
   diffuse-less v p p∞ n0 n1 n2 e1 e2 e3 e4 e5 e6 = cc
 
@@ -92,7 +92,7 @@ module _ (m : ℕ) where
 
   -- ---- the step
 
-  pub by-t : (t n : List Float) {a b : List Float} → a ≡ mul m (tr m t) n → b ≡ mul m a t → b ≡ quad m t n t
+  pub by-t : (t n : List Float) {a b : List Float} → a ≡ mul m (transposed m t) n → b ≡ mul m a t → b ≡ quad m t n t
   unfolding quad
   by-t t n e g = cc
 

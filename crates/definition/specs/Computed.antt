@@ -48,7 +48,7 @@ unfolding Dense.dotAt Dense.dot Dense.axpyAt Dense.axpy Dense.overAt Dense.over 
 ofDense = tt
 
 unfoldable ofRoot : Unit {0}
-unfolding Root.cutRoot Root.isqrt Root.count Root.rootOf Root.sqrtIn
+unfolding Root.cutRoot Root.isqrt Root.smallestsIn Root.rootOf Root.sqrtIn
 ofRoot = tt
 
 unfoldable ofLog : Unit {0}
@@ -56,15 +56,15 @@ unfolding Log.coefficient Log.series Log.logOf Log.reduced Log.logCount Log.lnOf
 ofLog = tt
 
 unfoldable ofStar : Unit {0}
-unfolding Star.better Star.pivotTo Star.columnAt Star.column Star.leftAt Star.leftOf Star.grown Star.grow Star.growTo Star.seed Star.rootOf Star.loads Star.supportTo Star.onAt Star.on Star.subAt Star.sub Star.uTerm Star.uAt Star.uOf Star.fOf Star.projected Star.wTerm Star.wAt Star.wOf Star.shrunkAt Star.shrunk Star.downdate Star.replay Star.againOn Star.againOf
+unfolding Star.better Star.pivotTo Star.columnAt Star.column Star.leftAt Star.leftOf Star.grown Star.grow Star.growTo Star.seed Star.pivotedRoot Star.loads Star.supportTo Star.onAt Star.on Star.subAt Star.sub Star.uTerm Star.uAt Star.uOf Star.fOf Star.projected Star.wTerm Star.wAt Star.wOf Star.shrunkAt Star.shrunk Star.downdate Star.replay Star.againOn Star.againOf
 ofStar = tt
 
 unfoldable ofCov : Unit {0}
-unfolding Cov.sdAt Cov.sdOf Cov.fStarOf Cov.fInfOf Cov.diffuseTest Cov.scaledTest Cov.boundTerm Cov.bound Cov.against Cov.dust Cov.passes Cov.usualTest Cov.usually Cov.diffusely Cov.judge Cov.k1At Cov.k1Of Cov.rootLess Cov.apply Cov.verdict Cov.elementOf Cov.isLive Cov.entered Cov.stepStar Cov.stepInf Cov.stepped Cov.ended Cov.periodOf Cov.covRun
+unfolding Cov.sdAt Cov.sdOf Cov.fStarBy Cov.fInfBy Cov.diffuseTest Cov.scaledTest Cov.boundTerm Cov.bound Cov.against Cov.dust Cov.passes Cov.usualTest Cov.usually Cov.diffusely Cov.judge Cov.k1At Cov.k1Of Cov.rootLess Cov.apply Cov.verdict Cov.elementOf Cov.isLive Cov.entered Cov.stepStar Cov.stepInf Cov.stepped Cov.ended Cov.periodOf Cov.covRun
 ofCov = tt
 
 unfoldable ofMean : Unit {0}
-unfolding Mean.innovation Mean.told Mean.usualTerm Mean.diffuseTerm Mean.heed Mean.hear Mean.meanStep Mean.meanEnded Mean.meanPeriodOf Mean.meanRun
+unfolding Mean.innovation Mean.vOf Mean.usualTerm Mean.diffuseTerm Mean.heed Mean.hear Mean.meanStep Mean.meanEnded Mean.meanPeriodOf Mean.meanRun
 ofMean = tt
 
 unfoldable ofSmooth : Unit {0}
@@ -72,7 +72,7 @@ unfolding Smooth.lookOf Smooth.meanLookOf Smooth.lZeroAt Smooth.lZero Smooth.lOn
 ofSmooth = tt
 
 unfoldable ofInputs : Unit {0}
-unfolding Inputs.kindOf Inputs.gapRows Inputs.designFrom Inputs.noiseOf Inputs.noise Inputs.systemFrom Inputs.frameFrom Inputs.systemOf Inputs.frameOf Inputs.flagsBefore Inputs.startInfAt Inputs.startInf Inputs.startRootAt Inputs.startRoot Inputs.startFrom Inputs.startOf
+unfolding Inputs.classOf Inputs.gapRows Inputs.designFrom Inputs.noiseOf Inputs.noise Inputs.systemFrom Inputs.frameFrom Inputs.systemOf Inputs.frameOf Inputs.flagsBefore Inputs.startInfAt Inputs.startInf Inputs.startRootAt Inputs.startRoot Inputs.startFrom Inputs.startOf
 ofInputs = tt
 
 unfoldable ofRefusals : Unit {0}
@@ -84,7 +84,7 @@ unfolding Parts.kindBlock Parts.covBlock Parts.meanBlock
 ofParts = tt
 
 unfoldable ofOutcome : Unit {0}
-unfolding Outcome.kindsNeed Outcome.covNeed Outcome.meanNeed Outcome.smoothedCovNeed Outcome.smoothedMeanNeed Outcome.roomy Outcome.roomySmoothed Outcome.kindsWritten Outcome.covWritten Outcome.meanWritten Outcome.covOf Outcome.meanOf Outcome.countsOf Outcome.noInformation Outcome.fateOf Outcome.numberOf Outcome.after Outcome.countsIn Outcome.loglikIn Outcome.fate Outcome.covOutcome Outcome.meanOutcome Outcome.outcomeAt Outcome.outcome Outcome.smoothedCov Outcome.smoothedMean Outcome.smoothOutcomeAt Outcome.smoothOutcome
+unfolding Outcome.kindsNeed Outcome.covNeed Outcome.meanNeed Outcome.smoothedCovNeed Outcome.smoothedMeanNeed Outcome.roomy Outcome.roomySmoothed Outcome.kindsWritten Outcome.covWritten Outcome.meanWritten Outcome.covOf Outcome.meanOf Outcome.countsOf Outcome.noInformation Outcome.endingOf Outcome.numberOf Outcome.after Outcome.countsIn Outcome.loglikIn Outcome.ending Outcome.covOutcome Outcome.meanOutcome Outcome.outcomeAt Outcome.outcome Outcome.smoothedCov Outcome.smoothedMean Outcome.smoothOutcomeAt Outcome.smoothOutcome
 ofOutcome = tt
 
 unfoldable pub opened : Unit {0}

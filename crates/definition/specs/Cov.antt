@@ -74,11 +74,11 @@ unfoldable pub sdOf : ℕ → List Float → List Float
 sdOf m pre = tabulate m (sdAt m pre)
 
 -- F* = z' M* + h, F∞ = z' M∞
-unfoldable pub fStarOf : ℕ → List Float → Float → List Float → Float
-fStarOf m z h m* = max0 (dot m z m* ⊕ h)
+unfoldable pub fStarBy : ℕ → List Float → Float → List Float → Float
+fStarBy m z h m* = max0 (dot m z m* ⊕ h)
 
-unfoldable pub fInfOf : ℕ → List Float → List Float → Float
-fInfOf m z m∞ = max0 (dot m z m∞)
+unfoldable pub fInfBy : ℕ → List Float → List Float → Float
+fInfBy m z m∞ = max0 (dot m z m∞)
 
 -- the three tests: diffuse acceptance, F* against its scale, F* against the period's predicted P*
 unfoldable pub diffuseTest : ℕ → List Float → List Float → List Float → Float → Float → Bool
@@ -121,14 +121,14 @@ usually m z h live pre sd again fresh star f* m* = cond (usualTest m z h live pr
 unfoldable pub diffusely : ℕ → List Float → Float → List Float → List Float → Float → Bool → List Float → List Float → List Float → List Float → Float → List Float → Decision
 diffusely m z h pre sd again fresh unres star pinf root f* m* =
     let m∞ = matVec m pinf z in
-    let f∞ = fInfOf m z m∞ in
+    let f∞ = fInfBy m z m∞ in
     let u = matTVec m root z in
     cond (diffuseTest m z pinf unres f∞ (dot m u u)) (diffuse f* f∞ m* m∞) (usually m z h true pre sd again fresh star f* m*)
 
 unfoldable pub judge : ℕ → List Float → Float → Bool → List Float → List Float → Float → Bool → List Float → List Float → List Float → List Float → Decision
 judge m z h live pre sd again fresh unres star pinf root =
     let m* = matVec m star z in
-    let f* = fStarOf m z h m* in
+    let f* = fStarBy m z h m* in
     cond live (diffusely m z h pre sd again fresh unres star pinf root f* m*) (usually m z h false pre sd again fresh star f* m*)
 
 -- K1

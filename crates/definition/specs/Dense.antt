@@ -109,15 +109,15 @@ transpose r c a = matrix c r (transposeAt c a)
 abbrev pub mul : ℕ → List Float → List Float → List Float
 mul m a b = product m m m a b
 
-abbrev pub tr : ℕ → List Float → List Float
-tr m a = transpose m m a
+abbrev pub transposed : ℕ → List Float → List Float
+transposed m a = transpose m m a
 
 -- T P T' as (T P) T', and A' N B as (A' N) B (quad of smoother.rs; sandwich_t is A' N A)
 unfoldable pub sandwich : ℕ → List Float → List Float → List Float
-sandwich m t p = mul m (mul m t p) (tr m t)
+sandwich m t p = mul m (mul m t p) (transposed m t)
 
 unfoldable pub quad : ℕ → List Float → List Float → List Float → List Float
-quad m a n b = mul m (mul m (tr m a) n) b
+quad m a n b = mul m (mul m (transposed m a) n) b
 
 -- A + B and A - B
 unfoldable pub plusAt : ℕ → List Float → List Float → ℕ → ℕ → Float

@@ -8,7 +8,7 @@ use lib.Dec.{T}
 use lib.Ieee.{Float, binary64, neg, ofBits}
 use Rattle.definition.specs.Num.{0ᶠ, 1ᶠ, half, suspect-tol, _⊗_, zeros}
 use Rattle.definition.specs.Run.{join}
-use Rattle.definition.specs.Inputs.{Model, Offsets, Kind, gap, finite}
+use Rattle.definition.specs.Inputs.{Model, Offsets, Class, gap, finite}
 use Rattle.definition.specs.Refusals.{refusal}
 use Rattle.definition.specs.Parts.{kindNo}
 use Rattle.definition.specs.Outcome.{covOf, decisionsOf}
@@ -23,7 +23,7 @@ record Edge : Type 0 where
   t : List Float
   pStar : List Float
   flags : List ℕ
-  readings : List Kind
+  readings : List Class
 
 -- one disturbance that moves nothing; no intercepts; a start mean of 0
 abbrev modelOf : Edge → Model
@@ -52,7 +52,7 @@ came e =
 abbrev -1ᶠ : Float
 -1ᶠ = neg 1ᶠ
 
-abbrev both : List Kind
+abbrev both : List Class
 both = finite ∷ finite ∷ []
 
 -- F* = h at 1e-10 of its scale, 4 + h: the four terms of z P* z' cancel. Skipped

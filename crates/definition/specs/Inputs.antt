@@ -33,26 +33,26 @@ pub record Offsets : Type 0 where
   pub a1 : List Float
 
 -- all that the refusals and the covariances see of a reading
-pub data Kind : Type 0 where
-  gap infinite finite : Kind
+pub data Class : Type 0 where
+  gap infinite finite : Class
 
-unfoldable pub kindOf : Float → Kind
-kindOf nan = gap
-kindOf (inf s) = infinite
-kindOf (fin s m e) = finite
+unfoldable pub classOf : Float → Class
+classOf nan = gap
+classOf (inf s) = infinite
+classOf (fin s m e) = finite
 
-abbrev pub isGap : Kind → Bool
+abbrev pub isGap : Class → Bool
 isGap gap = true
 isGap infinite = false
 isGap finite = false
 
-abbrev pub isInfinity : Kind → Bool
+abbrev pub isInfinity : Class → Bool
 isInfinity gap = false
 isInfinity infinite = true
 isInfinity finite = false
 
 -- the readings by period: which are gaps
-unfoldable pub gapRows : ℕ → ℕ → List Kind → List (List Bool)
+unfoldable pub gapRows : ℕ → ℕ → List Class → List (List Bool)
 gapRows n p ks = chunks n p (map isGap ks)
 
 -- ---- the design of period t: the constant one, or entry t of the list, or the last once the list has run out

@@ -3,7 +3,7 @@ use Prim.Native.Nat.{ℕ, zero, suc, _+_, _-_, _*_, _^_}
 use mathlib.Core.Bool.{true, false, cond}
 use lib.IntN.{ℤ, pos, negsuc}
 use lib.Ieee.{Float, nan, inf, fin, binary64, minus, size, round, add, sub, mul, div, lt, ofInt, ofBits}
-use Rattle.definition.specs.Root.{count}
+use Rattle.definition.specs.Root.{smallestsIn}
 
 abbrev pub one : Float
 one = fin false 1 (pos 0)
@@ -53,7 +53,7 @@ lnOf (inf true) = nan
 lnOf (inf false) = inf false
 lnOf (fin s zero e) = inf true
 lnOf (fin true (suc m) e) = nan
-lnOf (fin false (suc m) e) = logCount (count binary64 (fin false (suc m) e))
+lnOf (fin false (suc m) e) = logCount (smallestsIn binary64 (fin false (suc m) e))
 
 -- ln 2π: the logarithm of twice 0x400921FB54442D18
 unfoldable pub lnTwoPi : Float

@@ -38,10 +38,10 @@ unfoldable pub innovation : ℕ → List Float → Float → List Float → Floa
 innovation m z d a reading = reading ⊖ d ⊖ dot m z a
 
 -- a skipped element's v is +0.0
-unfoldable pub told : ℕ → List Float → Float → List Float → Float → Decision → Float
-told m z d a reading skipped = 0ᶠ
-told m z d a reading (usual f m*) = innovation m z d a reading
-told m z d a reading (diffuse f f∞ m* m∞) = innovation m z d a reading
+unfoldable pub vOf : ℕ → List Float → Float → List Float → Float → Decision → Float
+vOf m z d a reading skipped = 0ᶠ
+vOf m z d a reading (usual f m*) = innovation m z d a reading
+vOf m z d a reading (diffuse f f∞ m* m∞) = innovation m z d a reading
 
 -- the likelihood less a half of ln 2π + ln F* + v² / F*, or of ln 2π + ln F∞
 unfoldable pub usualTerm : Float → Float → Float → Float
@@ -57,7 +57,7 @@ heed m s v (diffuse f f∞ m* m∞) = record { a = axpy m (s .a) v (over m m∞ 
 
 -- element i, by the period's design and all intercepts: its v, and the state after it
 unfoldable pub hear : ℕ → List Float → List Float → ℕ → Mean → Decision × Float → Float × Mean
-hear m design ds i s e = let v = told m (row m design i) (at ds i) (s .a) (e .1) (e .0) in (v, heed m s v (e .0))
+hear m design ds i s e = let v = vOf m (row m design i) (at ds i) (s .a) (e .1) (e .0) in (v, heed m s v (e .0))
 
 -- ---- one period: its decisions and its readings, then the step by T, and c added
 

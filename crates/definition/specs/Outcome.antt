@@ -12,7 +12,7 @@ use Rattle.definition.specs.Cov.{Cov, Decision, CovPeriod, covRun}
 use Rattle.definition.specs.Mean.{Mean, MeanPeriod, meanRun}
 use Rattle.definition.specs.Smooth.{smoothCov, smoothMean}
 use Rattle.definition.specs.Parts.{CovPart, predCov, predInf, filtCov, fStar, fInf, mStar, mInf, MeanPart, predMean, filtMean, innovations, kindBlock, covBlock, meanBlock, isNews}
-use Rattle.definition.specs.Inputs.{Model, Offsets, Kind, kindOf, isGap, isInfinity, systemOf, frameOf, startOf, gapRows}
+use Rattle.definition.specs.Inputs.{Model, Offsets, Class, classOf, isGap, isInfinity, systemOf, frameOf, startOf, gapRows}
 use Rattle.definition.specs.Refusals.{refusal}
 
 -- ---- the lent outputs
@@ -83,7 +83,7 @@ meanWritten r innovations = join (map (meanBlock innovations) (r .0))
 abbrev pub decisionsOf : List CovPeriod → List (List Decision)
 decisionsOf cs = map (λ c. c .decisions) cs
 
-unfoldable pub covOf : Model → List Kind → List CovPeriod × Cov
+unfoldable pub covOf : Model → List Class → List CovPeriod × Cov
 covOf x ks = covRun (systemOf x) 0 (startOf x) (gapRows (x .n) (x .p) ks)
 
 unfoldable pub meanOf : Model → Offsets → List CovPeriod → List Float → List MeanPeriod × Mean
@@ -97,7 +97,7 @@ pub record Counts : Type 0 where
   pub heard : ℕ
   pub news : ℕ
 
-unfoldable pub countsOf : List CovPeriod → List Kind → Counts
+unfoldable pub countsOf : List CovPeriod → List Class → Counts
 countsOf cs ks =
     record { dDiffuse = count (λ c. c .diffuse) cs; heard = count not (map isGap ks); news = count isNews (join (decisionsOf cs)) }
 
@@ -107,34 +107,34 @@ noInformation l = ltb 0 (l .heard) && eqb (l .news) 0
 
 -- ---- what becomes of a call: turned away by refusal 1 to 11, silent by refusal 12, or answered
 
-pub data Fate : Type 0 where
-  turned : ℕ → Fate
-  silent answered : Fate
+pub data Ending : Type 0 where
+  turned : ℕ → Ending
+  silent answered : Ending
 
-unfoldable pub fateOf : ℕ → Bool → Fate
-fateOf zero true = silent
-fateOf zero false = answered
-fateOf (suc k) b = turned (suc k)
+unfoldable pub endingOf : ℕ → Bool → Ending
+endingOf zero true = silent
+endingOf zero false = answered
+endingOf (suc k) b = turned (suc k)
 
 -- the refusal's number; 0 for an answer
-unfoldable pub numberOf : Fate → ℕ
+unfoldable pub numberOf : Ending → ℕ
 numberOf (turned k) = k
 numberOf silent = 12
 numberOf answered = 0
 
 -- a lent part afterwards: w is what the run writes, blank what refusal 12 writes, old what was lent
-unfoldable pub after : {A : Type 0} → Fate → List A → List A → List A → List A
+unfoldable pub after : {A : Type 0} → Ending → List A → List A → List A → List A
 after (turned k) w blank old = old
 after silent w blank old = lay blank old
 after answered w blank old = lay w old
 
 -- a refusal carries its number alone
-unfoldable pub countsIn : Fate → Counts → Counts
+unfoldable pub countsIn : Ending → Counts → Counts
 countsIn (turned k) l = record { dDiffuse = 0; heard = 0; news = 0 }
 countsIn silent l = record { dDiffuse = 0; heard = 0; news = 0 }
 countsIn answered l = l
 
-unfoldable pub loglikIn : Fate → Float → Float
+unfoldable pub loglikIn : Ending → Float → Float
 loglikIn (turned k) l = 0ᶠ
 loglikIn silent l = 0ᶠ
 loglikIn answered l = l
@@ -151,11 +151,11 @@ pub record MeanOutcome : Type 0 where
   pub parts : MeanParts
 
 module _ (x : Model) where
-  unfoldable pub fate : Offsets → List Kind → Bool → Fate
-  fate o ks room =
-      fateOf (refusal x o (length ks) (anyOf isInfinity ks) room) (noInformation (countsOf (covOf x ks .0) ks))
+  unfoldable pub ending : Offsets → List Class → Bool → Ending
+  ending o ks room =
+      endingOf (refusal x o (length ks) (anyOf isInfinity ks) room) (noInformation (countsOf (covOf x ks .0) ks))
 
-  unfoldable pub covOutcome : Fate → List Kind → CovParts → CovOutcome
+  unfoldable pub covOutcome : Ending → List Class → CovParts → CovOutcome
   covOutcome f ks b =
       let r = covOf x ks in
       record {
@@ -168,17 +168,17 @@ module _ (x : Model) where
             };
       }
 
-  unfoldable pub meanOutcome : Fate → Offsets → List Kind → List Float → MeanParts → MeanOutcome
+  unfoldable pub meanOutcome : Ending → Offsets → List Class → List Float → MeanParts → MeanOutcome
   meanOutcome f o ks y b =
       let r = meanOf x o (covOf x ks .0) y in
       record { loglik = loglikIn f (r .1 .loglik); parts = λ q. after f (meanWritten r q) (zeros (meanNeed x q)) (b q) }
 
   -- the filter's call
-  unfoldable pub outcomeAt : Offsets → List Kind → List Float → CovParts → MeanParts → CovOutcome × MeanOutcome
-  outcomeAt o ks y b b′ = let f = fate o ks (roomy x b b′) in (covOutcome f ks b, meanOutcome f o ks y b′)
+  unfoldable pub outcomeAt : Offsets → List Class → List Float → CovParts → MeanParts → CovOutcome × MeanOutcome
+  outcomeAt o ks y b b′ = let f = ending o ks (roomy x b b′) in (covOutcome f ks b, meanOutcome f o ks y b′)
 
   unfoldable pub outcome : Offsets → List Float → CovParts → MeanParts → CovOutcome × MeanOutcome
-  outcome o y b b′ = outcomeAt o (map kindOf y) y b b′
+  outcome o y b b′ = outcomeAt o (map classOf y) y b b′
 
 -- ---- the smoother's call: the same, with the smoothed covariances and means
 
@@ -191,20 +191,20 @@ pub record SmoothedMean : Type 0 where
   pub smoothed : List Float
 
 module _ (x : Model) where
-  unfoldable pub smoothedCov : Fate → List Kind → List Float → List Float
+  unfoldable pub smoothedCov : Ending → List Class → List Float → List Float
   smoothedCov f ks sc = after f (join (smoothCov (frameOf x) (covOf x ks .0))) (zeros (smoothedCovNeed x)) sc
 
-  unfoldable pub smoothedMean : Fate → Offsets → List Kind → List Float → List Float → List Float
+  unfoldable pub smoothedMean : Ending → Offsets → List Class → List Float → List Float → List Float
   smoothedMean f o ks y sm =
       let cs = covOf x ks .0 in
       after f (join (smoothMean (frameOf x) cs (meanOf x o cs y .0))) (zeros (smoothedMeanNeed x)) sm
 
-  unfoldable pub smoothOutcomeAt : Offsets → List Kind → List Float → CovParts → MeanParts → List Float → List Float → SmoothedCov × SmoothedMean
+  unfoldable pub smoothOutcomeAt : Offsets → List Class → List Float → CovParts → MeanParts → List Float → List Float → SmoothedCov × SmoothedMean
   smoothOutcomeAt o ks y b b′ sc sm =
-      let f = fate x o ks (roomySmoothed x b b′ sc sm) in (
+      let f = ending x o ks (roomySmoothed x b b′ sc sm) in (
         record { filter = covOutcome x f ks b; smoothed = smoothedCov f ks sc },
         record { filter = meanOutcome x f o ks y b′; smoothed = smoothedMean f o ks y sm },
       )
 
   unfoldable pub smoothOutcome : Offsets → List Float → CovParts → MeanParts → List Float → List Float → SmoothedCov × SmoothedMean
-  smoothOutcome o y b b′ sc sm = smoothOutcomeAt o (map kindOf y) y b b′ sc sm
+  smoothOutcome o y b b′ sc sm = smoothOutcomeAt o (map classOf y) y b b′ sc sm

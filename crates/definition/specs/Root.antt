@@ -17,8 +17,8 @@ unfoldable pub isqrt : ℕ → ℕ
 isqrt n = cutRoot (size n) n
 
 -- how many of the format's smallest values, 2 ^ -low, a finite value's magnitude is: a whole number of them, where the format holds the value
-unfoldable pub count : Format → Float → ℕ
-count f x = num x * 2 ^ low f / den x
+unfoldable pub smallestsIn : Format → Float → ℕ
+smallestsIn f x = num x * 2 ^ low f / den x
 
 -- The root of n smallest values, n above zero, rounded to nearest. It is the root of N = n * 2 ^ low, in smallest values.
 -- Of its whole part, which has (size N + 1) / 2 digits, the format keeps the `prec` leading digits, q, and drops k. So the result is q * 2 ^ k
@@ -37,7 +37,7 @@ sqrtIn f (inf true) = nan
 sqrtIn f (inf false) = inf false
 sqrtIn f (fin s zero e) = fin s zero e
 sqrtIn f (fin true (suc m) e) = nan
-sqrtIn f (fin false (suc m) e) = rootOf f (count f (fin false (suc m) e))
+sqrtIn f (fin false (suc m) e) = rootOf f (smallestsIn f (fin false (suc m) e))
 
 abbrev pub sqrtOf : Float → Float
 sqrtOf x = sqrtIn binary64 x

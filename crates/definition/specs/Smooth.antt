@@ -6,7 +6,7 @@ use mathlib.Core.List.{List, map}
 use lib.Dec.{eqb}
 use lib.Ieee.{Float, neg}
 use Rattle.definition.specs.Num.{_⊕_, _⊖_, _⊗_, _⊘_, 0ᶠ, 1ᶠ, tabulate, matrix, zeros, at}
-use Rattle.definition.specs.Dense.{axpy, scaled, matVec, matTVec, outerScaled, mul, tr, plus, minus, quad, symmetrise, row}
+use Rattle.definition.specs.Dense.{axpy, scaled, matVec, matTVec, outerScaled, mul, transposed, plus, minus, quad, symmetrise, row}
 use Rattle.definition.specs.Run.{scanBack, foldBack, pairs}
 use Rattle.definition.specs.Cov.{Decision, skipped, usual, diffuse, CovPeriod}
 use Rattle.definition.specs.Mean.{Frame, MeanPeriod}
@@ -86,7 +86,7 @@ unfoldable pub diffuseN2 : ℕ → List Float → Float → List Float → List 
 diffuseN2 m z f2 l0 l1 n =
     let a = plus m (outerScaled m z z f2) (quad m l0 (n .n2) l0) in
     let b = plus m a (quad m l0 (n .n1) l1) in
-    let c = plus m b (quad m l1 (tr m (n .n1)) l0) in
+    let c = plus m b (quad m l1 (transposed m (n .n1)) l0) in
     plus m c (quad m l1 (n .n0) l1)
 
 -- a usual element moves N1, to N1 L, in a diffuse period alone, and N2 never
@@ -141,7 +141,7 @@ between m a n b = mul m (mul m a n) b
 unfoldable pub diffuseV : ℕ → List Float → List Float → Ns → List Float → List Float
 diffuseV m p p∞ n v =
     let x = between m p∞ (n .n1) p in
-    minus m (minus m (minus m v x) (tr m x)) (between m p∞ (n .n2) p∞)
+    minus m (minus m (minus m v x) (transposed m x)) (between m p∞ (n .n2) p∞)
 
 unfoldable pub backV : ℕ → Bool → List Float → List Float → Ns → List Float
 backV m live p p∞ n =

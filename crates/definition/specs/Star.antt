@@ -65,8 +65,8 @@ pub record Root : Type 0 where
   pub rank : ℕ
   pub cols : List Float
 
-unfoldable pub rootOf : ℕ → List Float → Root
-rootOf k a = let g = growTo k (seed k a) k in record { rank = g .rank; cols = g .cols }
+unfoldable pub pivotedRoot : ℕ → List Float → Root
+pivotedRoot k a = let g = growTo k (seed k a) k in record { rank = g .rank; cols = g .cols }
 
 -- ---- the support: the states at which some row of the design is not 0, rows of gaps and of skipped elements included
 
@@ -140,7 +140,7 @@ module _ (p m : ℕ) (z h : List Float) (s : List ℕ) (k : ℕ) where
   replay r (i ∷ is) = replay (downdate k r (on k s (row m z i)) (ent p h i i)) is
 
 unfoldable pub againOn : ℕ → ℕ → List Float → List Float → List Float → ℕ → List ℕ → List ℕ → ℕ → Float
-againOn p m z h pre i taken s k = projected k (replay p m z h s k (rootOf k (sub m k s pre)) taken) (on k s (row m z i)) (ent p h i i)
+againOn p m z h pre i taken s k = projected k (replay p m z h s k (pivotedRoot k (sub m k s pre)) taken) (on k s (row m z i)) (ent p h i i)
 
 -- the root's F at element i, after the elements taken
 unfoldable pub againOf : ℕ → ℕ → List Float → List Float → List Float → ℕ → List ℕ → Float

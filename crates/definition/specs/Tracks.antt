@@ -8,27 +8,27 @@ use lib.Ieee.{Float, nan, inf, fin, isNan}
 use Rattle.definition.specs.Num.{0ᶠ, isFinite}
 use Rattle.definition.specs.Run.{count}
 use Rattle.definition.specs.Cov.{Inner, CovPeriod, skipped, apply}
-use Rattle.definition.specs.Mean.{Mean, told, heed, hear}
+use Rattle.definition.specs.Mean.{Mean, vOf, heed, hear}
 use Rattle.definition.specs.Smooth.{Ns, Rs, backN, backR}
-use Rattle.definition.specs.Inputs.{Model, Offsets, Kind, finite, kindOf, isGap}
+use Rattle.definition.specs.Inputs.{Model, Offsets, Class, finite, classOf, isGap}
 use Rattle.definition.specs.Outcome.{CovParts, MeanParts, countsOf, outcome, outcomeAt, smoothOutcome, smoothOutcomeAt}
 
 -- ---- the covariance half goes by the readings' kinds, and finite readings are of one kind
 
-pub finite-kind : (v : Float) → T (isFinite v) → kindOf v ≡ finite
-unfolding isFinite kindOf
-finite-kind nan h = absurd h
-finite-kind (inf s) h = absurd h
-finite-kind (fin s m e) h = refl
+pub finite-class : (v : Float) → T (isFinite v) → classOf v ≡ finite
+unfolding isFinite classOf
+finite-class nan h = absurd h
+finite-class (inf s) h = absurd h
+finite-class (fin s m e) h = refl
 
-module _ (x : Model) (o : Offsets) (y y′ : List Float) (alike : map kindOf y ≡ map kindOf y′) (b : CovParts) (b′ : MeanParts) where
-  pub by-kinds : outcome x o y b b′ .0 ≡ outcome x o y′ b b′ .0
+module _ (x : Model) (o : Offsets) (y y′ : List Float) (alike : map classOf y ≡ map classOf y′) (b : CovParts) (b′ : MeanParts) where
+  pub by-classes : outcome x o y b b′ .0 ≡ outcome x o y′ b b′ .0
   unfolding outcome outcomeAt
-  by-kinds = ap (λ (ks : List Kind). outcomeAt x o ks y b b′ .0) alike
+  by-classes = ap (λ (ks : List Class). outcomeAt x o ks y b b′ .0) alike
 
-  pub smooth-by-kinds : (sc sm : List Float) → smoothOutcome x o y b b′ sc sm .0 ≡ smoothOutcome x o y′ b b′ sc sm .0
+  pub smooth-by-classes : (sc sm : List Float) → smoothOutcome x o y b b′ sc sm .0 ≡ smoothOutcome x o y′ b b′ sc sm .0
   unfolding smoothOutcome smoothOutcomeAt
-  smooth-by-kinds sc sm = ap (λ (ks : List Kind). smoothOutcomeAt x o ks y b b′ sc sm .0) alike
+  smooth-by-classes sc sm = ap (λ (ks : List Class). smoothOutcomeAt x o ks y b b′ sc sm .0) alike
 
 -- ---- skipped: nothing moves (document 01, "One period forward"), neither forward nor back, and its v is +0.0 whatever was read
 
@@ -37,7 +37,7 @@ unfolding apply
 skip-stays m z i s = refl
 
 pub skip-unheard : (m : ℕ) (design ds : List Float) (i : ℕ) (s : Mean) (reading : Float) → hear m design ds i s (skipped, reading) ≡ (0ᶠ, s)
-unfolding hear told heed
+unfolding hear vOf heed
 skip-unheard m design ds i s reading = refl
 
 pub skip-stays-back : (m : ℕ) (live : Bool) (z : List Float) (n : Ns) → backN m live z n skipped ≡ n
@@ -50,17 +50,17 @@ skip-unheard-back m z r v = refl
 
 -- ---- heard counts the readings that are not NaN
 
-gap-is-nan : (v : Float) → isGap (kindOf v) ≡ isNan v
-unfolding kindOf isNan
+gap-is-nan : (v : Float) → isGap (classOf v) ≡ isNan v
+unfolding classOf isNan
 gap-is-nan nan = refl
 gap-is-nan (inf s) = refl
 gap-is-nan (fin s m e) = refl
 
-heard-list : (y : List Float) → count not (map isGap (map kindOf y)) ≡ count (λ (v : Float). not (isNan v)) y
+heard-list : (y : List Float) → count not (map isGap (map classOf y)) ≡ count (λ (v : Float). not (isNan v)) y
 unfolding count
 heard-list [] = refl
 heard-list (v ∷ y) = ap₂ (λ (g : Bool) (k : ℕ). cond (not g) 1 0 + k) (gap-is-nan v) (heard-list y)
 
-pub heard-is : (cs : List CovPeriod) (y : List Float) → countsOf cs (map kindOf y) .heard ≡ count (λ (v : Float). not (isNan v)) y
+pub heard-is : (cs : List CovPeriod) (y : List Float) → countsOf cs (map classOf y) .heard ≡ count (λ (v : Float). not (isNan v)) y
 unfolding countsOf
 heard-is cs y = heard-list y

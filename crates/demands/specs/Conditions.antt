@@ -6,7 +6,7 @@ use lib.Dec.{T}
 use lib.ListN.{length, getD}
 use lib.Ieee.{Float, nan, lt, eq}
 use Rattle.definition.specs.Num.{0ᶠ, isZero, isFinite, isInfinite, at, ent}
-use Rattle.definition.specs.Inputs.{Model, Offsets, kindOf, noise}
+use Rattle.definition.specs.Inputs.{Model, Offsets, classOf, noise}
 use Rattle.definition.specs.Parts.{CovPart, MeanPart}
 use Rattle.definition.specs.Outcome.{CovParts, MeanParts, Counts, kindsNeed, covNeed, meanNeed, smoothedCovNeed, smoothedMeanNeed, covOf, countsOf}
 use Rattle.demands.specs.Says.{_or_, Below, Within}
@@ -101,7 +101,7 @@ NonFiniteNoise x = Some (noise x) NotFinite
 
 -- 12: heard > 0 and news = 0, by the run
 abbrev pub ran : Model → List Float → Counts
-ran x y = countsOf (covOf x (map kindOf y) .0) (map kindOf y)
+ran x y = countsOf (covOf x (map classOf y) .0) (map classOf y)
 
 abbrev pub NoInformation : Model → List Float → Type 0
 NoInformation x y = (0 < ran x y .heard) × (ran x y .news ≡ 0)

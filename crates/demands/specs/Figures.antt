@@ -10,7 +10,7 @@ use lib.Ieee.{Float, nan, inf, binary64, ofInt, toBits}
 use Rattle.definition.specs.Num.{_⊘_, 0ᶠ, 1ᶠ, at}
 use Rattle.definition.specs.Log.{lnOf}
 use Rattle.definition.specs.Dense.{row, matVec}
-use Rattle.definition.specs.Cov.{Dust, clear, below, suspect, Fixed, Inner, fStarOf, sdOf, dust, elementOf}
+use Rattle.definition.specs.Cov.{Dust, clear, below, suspect, Fixed, Inner, fStarBy, sdOf, dust, elementOf}
 use Rattle.definition.specs.Inputs.{Model, Offsets, finite}
 use Rattle.definition.specs.Refusals.{refusal}
 use Rattle.definition.specs.Parts.{predCov, predInf, filtCov, fStar, fInf, predMean, filtMean, innovations, kindNo}
@@ -159,7 +159,7 @@ secondOf x =
     let f : Fixed = record { diffuse = false; z = x .zOnce; pre = x .pStar; unres = 0ᶠ ∷ [] } in
     let s : Inner = record { star = x .pStar; pinf = 0ᶠ ∷ []; root = 0ᶠ ∷ []; taken = [] } in
     let after = elementOf 2 1 (x .h) f 0 s false .1 in
-    let f* = fStarOf 1 z 0ᶠ (matVec 1 (after .star) z) in
+    let f* = fStarBy 1 z 0ᶠ (matVec 1 (after .star) z) in
     dustNo (dust 1 z 0ᶠ (x .pStar) (sdOf 1 (x .pStar)) false f*) ∷ map kindNo (join (decisionsOf (covOf x (finite ∷ finite ∷ []) .0)))
 
 -- ---- the table

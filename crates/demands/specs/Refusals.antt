@@ -11,10 +11,10 @@ use lib.ListN.{length, getD, drop, replicate, length-map, length-replicate}
 use lib.Ieee.{Float, nan, inf, fin, lt, eq}
 use Rattle.definition.specs.Num.{0ᶠ, isZero, isFinite, isInfinite, at, ent}
 use Rattle.definition.specs.Run.{anyOf}
-use Rattle.definition.specs.Inputs.{Model, Offsets, kindOf, isInfinity, isFlagged, noise}
+use Rattle.definition.specs.Inputs.{Model, Offsets, classOf, isInfinity, isFlagged, noise}
 use Rattle.definition.specs.Refusals.{outside, designFits, inputsFit, badLength, badSystem, badStart, negativeAt, negative, notPsd, offAt, offRow, offDiagonal, shapeAt, shapeRow, shapeOf, startShape, drivenAt, drivenRow, mixedDriven, notFinite, firstOf, tests, refusal}
 use Rattle.definition.specs.Parts.{CovPart, predCov, predInf, filtCov, fStar, fInf, mStar, mInf, MeanPart, predMean, filtMean, innovations}
-use Rattle.definition.specs.Outcome.{CovParts, MeanParts, CovOutcome, MeanOutcome, SmoothedCov, SmoothedMean, Fate, turned, silent, fateOf, numberOf, fate, after, kindsNeed, covNeed, meanNeed, smoothedCovNeed, smoothedMeanNeed, roomy, roomySmoothed, noInformation, covOutcome, meanOutcome, outcome, outcomeAt, smoothedCov, smoothedMean, smoothOutcome, smoothOutcomeAt}
+use Rattle.definition.specs.Outcome.{CovParts, MeanParts, CovOutcome, MeanOutcome, SmoothedCov, SmoothedMean, Ending, turned, silent, endingOf, numberOf, ending, after, kindsNeed, covNeed, meanNeed, smoothedCovNeed, smoothedMeanNeed, roomy, roomySmoothed, noInformation, covOutcome, meanOutcome, outcome, outcomeAt, smoothedCov, smoothedMean, smoothOutcome, smoothOutcomeAt}
 use Rattle.laws.specs.Any.{of-map, of-cong}
 use Rattle.laws.specs.ReadBack.{AllOf}
 use Rattle.laws.specs.Numbered.{refusal-le}
@@ -44,7 +44,7 @@ says-listed pm once list =
     (λ h. (((h .none, h .whole), h .some), h .few))
     (says-and (says-and (says-and (says-eq once 0) (says-eq list (list / pm * pm))) (says-not (says-eq (list / pm) 0))) (says-le (list / pm) 4096))
 
-says-lengths : (x : Model) (o : Offsets) (y : List Float) (room : Bool) (Room : Type 0) → Says room Room → Says (badLength x o (length (map kindOf y)) room) (Lengths x o y Room → ⊥)
+says-lengths : (x : Model) (o : Offsets) (y : List Float) (room : Bool) (Room : Type 0) → Says room Room → Says (badLength x o (length (map classOf y)) room) (Lengths x o y Room → ⊥)
 unfolding badLength inputsFit designFits
 says-lengths x o y room Room s =
     let is : (a b : ℕ) → Says (eqb a b) (a ≡ b) = says-eq in
@@ -65,11 +65,11 @@ says-lengths x o y room Room s =
       a1 = h .0 .0 .0 .0 .1;
       pStar = h .0 .0 .0 .1;
       flags = h .0 .0 .1;
-      readings = sym (length-map y kindOf) ∙ h .0 .1;
+      readings = sym (length-map y classOf) ∙ h .0 .1;
       room = h .1;
     })
     (λ h.
-    (((((((((((h .z, h .h), h .t), h .rr), h .q), h .c), h .d), h .a1), h .pStar), h .flags), length-map y kindOf ∙ h .readings), h .room))
+    (((((((((((h .z, h .h), h .t), h .rr), h .q), h .c), h .d), h .a1), h .pStar), h .flags), length-map y classOf ∙ h .readings), h .room))
     (says-and
     (says-and
     (says-and
@@ -87,7 +87,7 @@ says-lengths x o y room Room s =
     (is (length (o .a1)) (x .m)))
     (is (length (x .pStar)) (x .m * x .m)))
     (is (length (x .flags)) (x .m)))
-    (is (length (map kindOf y)) (x .n * x .p)))
+    (is (length (map classOf y)) (x .n * x .p)))
     s))
 
 says-system : (x : Model) → Says (badSystem x) (NonFiniteSystem x)
@@ -135,15 +135,15 @@ says-shape x o =
     (says-below (λ j. says-misshapen x i j) (x .m)))
     (x .m))
 
-infinite-is : (v : Float) → isInfinity (kindOf v) ≡ isInfinite v
-unfolding kindOf isInfinite
+infinite-is : (v : Float) → isInfinity (classOf v) ≡ isInfinite v
+unfolding classOf isInfinite
 infinite-is nan = refl
 infinite-is (inf s) = refl
 infinite-is (fin s m e) = refl
 
-says-infinite : (y : List Float) → Says (anyOf isInfinity (map kindOf y)) (InfiniteReading y)
+says-infinite : (y : List Float) → Says (anyOf isInfinity (map classOf y)) (InfiniteReading y)
 says-infinite y =
-    says-of (of-map isInfinity kindOf y ∙ of-cong (λ (v : Float). isInfinity (kindOf v)) isInfinite y infinite-is) (says-within (λ v. says-itself (isInfinite v)) y nan)
+    says-of (of-map isInfinity classOf y ∙ of-cong (λ (v : Float). isInfinity (classOf v)) isInfinite y infinite-is) (says-within (λ v. says-itself (isInfinite v)) y nan)
 
 says-driven : (x : Model) → Says (mixedDriven (x .m) (x .t) (x .flags)) (MixedDriven x)
 unfolding mixedDriven drivenRow drivenAt
@@ -197,27 +197,27 @@ first-from (b ∷ bs) (c ∷ es) s k e = ⊎-elim (λ h. here (b .1) (s .0 .1) (
     there true t h e = absurd (h (t .to tt))
     there false t h e = e
 
--- the fate's number is that of the first test, 12 being judged last
-last : (es : List (ℕ × Bool)) (q : Bool) → AllOf (λ e. 0 < e .0) es → numberOf (fateOf (firstOf es) q) ≡ firstOf (es ++ ((12, q) ∷ []))
-unfolding firstOf fateOf numberOf
+-- the ending's number is that of the first test, 12 being judged last
+last : (es : List (ℕ × Bool)) (q : Bool) → AllOf (λ e. 0 < e .0) es → numberOf (endingOf (firstOf es) q) ≡ firstOf (es ++ ((12, q) ∷ []))
+unfolding firstOf endingOf numberOf
 last [] true h = refl
 last [] false h = refl
 last (e ∷ es) q h = pick (e .1) (e .0) (h .0) (last es q (h .1))
   where
-    pick : (t : Bool) (j : ℕ) → 0 < j → numberOf (fateOf (firstOf es) q) ≡ firstOf (es ++ ((12, q) ∷ [])) → numberOf (fateOf (cond t j (firstOf es)) q) ≡ cond t j (firstOf (es ++ ((12, q) ∷ [])))
+    pick : (t : Bool) (j : ℕ) → 0 < j → numberOf (endingOf (firstOf es) q) ≡ firstOf (es ++ ((12, q) ∷ [])) → numberOf (endingOf (cond t j (firstOf es)) q) ≡ cond t j (firstOf (es ++ ((12, q) ∷ [])))
     pick true zero l ih = absurd (omega arith)
     pick true (suc j) l ih = refl
     pick false j l ih = ih
 
 module _ (x : Model) (o : Offsets) (y : List Float) (room : Bool) (Room : Type 0) (s : Says room Room) where
   abbrev all : List (ℕ × Bool)
-  all = tests x o (length (map kindOf y)) (anyOf isInfinity (map kindOf y)) room ++ ((12, noInformation (ran x y)) ∷ [])
+  all = tests x o (length (map classOf y)) (anyOf isInfinity (map classOf y)) room ++ ((12, noInformation (ran x y)) ∷ [])
 
-  number-is : numberOf (fate x o (map kindOf y) room) ≡ firstOf all
-  unfolding fate refusal tests
+  number-is : numberOf (ending x o (map classOf y) room) ≡ firstOf all
+  unfolding ending refusal tests
   number-is =
       last
-      (tests x o (length (map kindOf y)) (anyOf isInfinity (map kindOf y)) room)
+      (tests x o (length (map classOf y)) (anyOf isInfinity (map classOf y)) room)
       (noInformation (ran x y))
       (omega arith, (omega arith, (omega arith, (omega arith, (omega arith, (omega arith, (omega arith, (omega arith, (omega arith, (omega arith, (omega arith, tt)))))))))))
 
@@ -261,7 +261,7 @@ module _ (x : Model) (o : Offsets) (y : List Float) (room : Bool) (Room : Type 0
     ),
   )
 
-  first-is : (k : ℕ) → (numberOf (fate x o (map kindOf y) room) ≡ k) ↔ First k (table x o y Room)
+  first-is : (k : ℕ) → (numberOf (ending x o (map classOf y) room) ≡ k) ↔ First k (table x o y Room)
   first-is k =
       (λ e. first-to all (table x o y Room) reads k (sym number-is ∙ e), λ h. number-is ∙ first-from all (table x o y Room) reads k h)
 
@@ -324,16 +324,16 @@ says-room-smooth x b b′ sc sm =
     (λ h. ((h .filter, h .covs), h .means))
     (says-and (says-and (says-room x b b′) (says-le (smoothedCovNeed x) (length sc))) (says-le (smoothedMeanNeed x) (length sm)))
 
--- ---- the fate by its number
+-- ---- the ending by its number
 
-early : (r : ℕ) (q : Bool) (k : ℕ) → 0 < k → k < 12 → numberOf (fateOf r q) ≡ k → fateOf r q ≡ turned k
-unfolding fateOf numberOf
+early : (r : ℕ) (q : Bool) (k : ℕ) → 0 < k → k < 12 → numberOf (endingOf r q) ≡ k → endingOf r q ≡ turned k
+unfolding endingOf numberOf
 early zero true k a b e = absurd (omega arith)
 early zero false k a b e = absurd (omega arith)
 early (suc r) q k a b e = ap turned e
 
-twelfth : (r : ℕ) (q : Bool) → r ≤ 11 → numberOf (fateOf r q) ≡ 12 → fateOf r q ≡ silent
-unfolding fateOf numberOf
+twelfth : (r : ℕ) (q : Bool) → r ≤ 11 → numberOf (endingOf r q) ≡ 12 → endingOf r q ≡ silent
+unfolding endingOf numberOf
 twelfth zero true l e = refl
 twelfth zero false l e = absurd (omega arith)
 twelfth (suc r) q l e = absurd (omega arith)
@@ -342,10 +342,10 @@ twelfth (suc r) q l e = absurd (omega arith)
 abbrev pub Blanked : {A : Type 0} → ℕ → A → List A → List A → Type 0
 Blanked k blank old now = now ≡ replicate k blank ++ drop k old
 
-blanks : {A : Type 0} (f : Fate) (w old : List A) (k : ℕ) (blank : A) → f ≡ silent → Blanked k blank old (after f w (replicate k blank) old)
+blanks : {A : Type 0} (f : Ending) (w old : List A) (k : ℕ) (blank : A) → f ≡ silent → Blanked k blank old (after f w (replicate k blank) old)
 unfolding after
 blanks f w old k blank e =
-    ap (λ (f : Fate). after f w (replicate k blank) old) e ∙ ap (λ (j : ℕ). replicate k blank ++ drop j old) (length-replicate k blank)
+    ap (λ (f : Ending). after f w (replicate k blank) old) e ∙ ap (λ (j : ℕ). replicate k blank ++ drop j old) (length-replicate k blank)
 
 -- ---- the filter's call
 
@@ -361,22 +361,22 @@ module _ (x : Model) (o : Offsets) (y : List Float) (b : CovParts) (b′ : MeanP
 
   -- 1 to 11 write nothing
   pub keeps : (k : ℕ) → 0 < k → k < 12 → outcome x o y b b′ .0 .refused ≡ k → (outcome x o y b b′ .0 .parts ≡ b) × (outcome x o y b b′ .1 .parts ≡ b′)
-  unfolding outcome outcomeAt covOutcome meanOutcome fate after
+  unfolding outcome outcomeAt covOutcome meanOutcome ending after
   keeps k l u e =
       let f = early _ _ k l u e in (
-        ap (λ (f : Fate). covOutcome x f (map kindOf y) b .parts) f,
-        ap (λ (f : Fate). meanOutcome x f o (map kindOf y) y b′ .parts) f,
+        ap (λ (f : Ending). covOutcome x f (map classOf y) b .parts) f,
+        ap (λ (f : Ending). meanOutcome x f o (map classOf y) y b′ .parts) f,
       )
 
   -- 12 sets the needed stretch of every output to +0.0 and every record to skipped
   pub blanked : outcome x o y b b′ .0 .refused ≡ 12 → Blank x b b′ (outcome x o y b b′)
-  unfolding outcome outcomeAt covOutcome meanOutcome fate
+  unfolding outcome outcomeAt covOutcome meanOutcome ending
   blanked e =
       let f = twelfth _ _ (refusal-le x o _ _ _) e in
       record {
-        kinds = blanks (fate x o (map kindOf y) (roomy x b b′)) _ (b .kinds) (kindsNeed x) 0 f;
-        covs = λ q. blanks (fate x o (map kindOf y) (roomy x b b′)) _ (b .part q) (covNeed x q) 0ᶠ f;
-        means = λ q. blanks (fate x o (map kindOf y) (roomy x b b′)) _ (b′ q) (meanNeed x q) 0ᶠ f;
+        kinds = blanks (ending x o (map classOf y) (roomy x b b′)) _ (b .kinds) (kindsNeed x) 0 f;
+        covs = λ q. blanks (ending x o (map classOf y) (roomy x b b′)) _ (b .part q) (covNeed x q) 0ᶠ f;
+        means = λ q. blanks (ending x o (map classOf y) (roomy x b b′)) _ (b′ q) (meanNeed x q) 0ᶠ f;
       }
 
 -- ---- the smoother's call
@@ -391,23 +391,23 @@ module _ (x : Model) (o : Offsets) (y : List Float) (b : CovParts) (b′ : MeanP
 
   pub keeps-smooth : (k : ℕ) → 0 < k → k < 12 → ended .0 .filter .refused ≡ k
       → (ended .0 .filter .parts ≡ b) × (ended .1 .filter .parts ≡ b′) × (ended .0 .smoothed ≡ sc) × (ended .1 .smoothed ≡ sm)
-  unfolding smoothOutcome smoothOutcomeAt covOutcome meanOutcome smoothedCov smoothedMean fate after
+  unfolding smoothOutcome smoothOutcomeAt covOutcome meanOutcome smoothedCov smoothedMean ending after
   keeps-smooth k l u e =
       let f = early _ _ k l u e in (
-        ap (λ (f : Fate). covOutcome x f (map kindOf y) b .parts) f,
-        ap (λ (f : Fate). meanOutcome x f o (map kindOf y) y b′ .parts) f,
-        ap (λ (f : Fate). smoothedCov x f (map kindOf y) sc) f,
-        ap (λ (f : Fate). smoothedMean x f o (map kindOf y) y sm) f,
+        ap (λ (f : Ending). covOutcome x f (map classOf y) b .parts) f,
+        ap (λ (f : Ending). meanOutcome x f o (map classOf y) y b′ .parts) f,
+        ap (λ (f : Ending). smoothedCov x f (map classOf y) sc) f,
+        ap (λ (f : Ending). smoothedMean x f o (map classOf y) y sm) f,
       )
 
   pub blanked-smooth : ended .0 .filter .refused ≡ 12
       → Blank x b b′ (ended .0 .filter, ended .1 .filter)
       × Blanked (smoothedCovNeed x) 0ᶠ sc (ended .0 .smoothed)
       × Blanked (smoothedMeanNeed x) 0ᶠ sm (ended .1 .smoothed)
-  unfolding smoothOutcome smoothOutcomeAt covOutcome meanOutcome smoothedCov smoothedMean fate
+  unfolding smoothOutcome smoothOutcomeAt covOutcome meanOutcome smoothedCov smoothedMean ending
   blanked-smooth e =
       let f = twelfth _ _ (refusal-le x o _ _ _) e in
-      let g = fate x o (map kindOf y) (roomySmoothed x b b′ sc sm) in (
+      let g = ending x o (map classOf y) (roomySmoothed x b b′ sc sm) in (
         record {
           kinds = blanks g _ (b .kinds) (kindsNeed x) 0 f;
           covs = λ q. blanks g _ (b .part q) (covNeed x q) 0ᶠ f;

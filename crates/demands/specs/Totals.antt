@@ -14,9 +14,9 @@ use Rattle.definition.specs.Num.{_⊕_, _⊗_, _>ᶠ_, 0ᶠ, rank-tol, zeros, s
 use Rattle.definition.specs.Dense.{sqTerm, sqTo, frobSq}
 use Rattle.definition.specs.Run.{scan, count, join}
 use Rattle.definition.specs.Cov.{System, Cov, CovPeriod, isLive, entered, ended, periodOf, period, covRun}
-use Rattle.definition.specs.Inputs.{Model, Offsets, kindOf, systemOf, startOf, gapRows, systemFrom}
+use Rattle.definition.specs.Inputs.{Model, Offsets, classOf, systemOf, startOf, gapRows, systemFrom}
 use Rattle.definition.specs.Parts.{kindNo}
-use Rattle.definition.specs.Outcome.{CovParts, MeanParts, CovOutcome, Counts, Fate, answered, fateOf, numberOf, fate, after, countsIn, kindsNeed, kindsWritten, covOf, countsOf, decisionsOf, roomy, roomySmoothed, covOutcome, outcome, outcomeAt, smoothOutcome, smoothOutcomeAt}
+use Rattle.definition.specs.Outcome.{CovParts, MeanParts, CovOutcome, Counts, Ending, answered, endingOf, numberOf, ending, after, countsIn, kindsNeed, kindsWritten, covOf, countsOf, decisionsOf, roomy, roomySmoothed, covOutcome, outcome, outcomeAt, smoothOutcome, smoothOutcomeAt}
 use Rattle.definition.specs.Computed.{opened}
 use Rattle.definition.specs.Tracks.{heard-is}
 use Rattle.laws.specs.Lists.{length-join, length-chunks, place-lt}
@@ -26,7 +26,7 @@ use Rattle.demands.specs.Unheard.{answered-by, readings-fit, noPeriod}
 
 -- the periods of a call's run, as the covariance track leaves them: each says whether it is diffuse
 abbrev pub periodsOf : Model → List Float → List CovPeriod
-periodsOf x y = covOf x (map kindOf y) .0
+periodsOf x y = covOf x (map classOf y) .0
 
 pub record Totals (x : Model) (y : List Float) (c : CovOutcome) : Type 0 where
   pub heard : c .counts .heard ≡ count (λ (v : Float). not (isNan v)) y
@@ -89,53 +89,53 @@ all-shown y (g ∷ gs) t c = (period-shown y t c g, all-shown y gs (suc t) (peri
 
 -- ---- the counts
 
-none-refused : (r : ℕ) (q : Bool) → numberOf (fateOf r q) ≡ 0 → fateOf r q ≡ answered
-unfolding fateOf numberOf
+none-refused : (r : ℕ) (q : Bool) → numberOf (endingOf r q) ≡ 0 → endingOf r q ≡ answered
+unfolding endingOf numberOf
 none-refused zero true e = absurd (omega arith)
 none-refused zero false e = refl
 none-refused (suc r) q e = absurd (omega arith)
 
-module _ (x : Model) (o : Offsets) (y : List Float) (b : CovParts) (room : Bool) (ok : fate x o (map kindOf y) room ≡ answered) where
-  fit : length (map kindOf y) ≡ x .n * x .p
-  unfolding fate
+module _ (x : Model) (o : Offsets) (y : List Float) (b : CovParts) (room : Bool) (ok : ending x o (map classOf y) room ≡ answered) where
+  fit : length (map classOf y) ≡ x .n * x .p
+  unfolding ending
   fit = readings-fit x o _ _ _ (answered-by _ _ ok .0)
 
-  counted : countsIn (fate x o (map kindOf y) room) (countsOf (periodsOf x y) (map kindOf y)) ≡ countsOf (periodsOf x y) (map kindOf y)
+  counted : countsIn (ending x o (map classOf y) room) (countsOf (periodsOf x y) (map classOf y)) ≡ countsOf (periodsOf x y) (map classOf y)
   unfolding countsIn
-  counted = ap (λ (f : Fate). countsIn f (countsOf (periodsOf x y) (map kindOf y))) ok
+  counted = ap (λ (f : Ending). countsIn f (countsOf (periodsOf x y) (map classOf y))) ok
 
-  written : length (kindsWritten (covOf x (map kindOf y))) ≡ kindsNeed x
+  written : length (kindsWritten (covOf x (map classOf y))) ≡ kindsNeed x
   unfolding kindsWritten kindsNeed covOf
   written =
       let cs = periodsOf x y in
-      let each = each-many (x .p) (systemOf x .m) cs (run-whole (systemOf x) (startOf x) (map kindOf y) (x .n) (x .p) fit) in
+      let each = each-many (x .p) (systemOf x .m) cs (run-whole (systemOf x) (startOf x) (map classOf y) (x .n) (x .p) fit) in
       ap length (kinds-join cs)
       ∙ length-map (join (decisionsOf cs)) kindNo
       ∙ length-join (x .p) (decisionsOf cs) each
-      ∙ ap (λ (k : ℕ). k * x .p) (length-map cs _ ∙ run-length (systemOf x) (startOf x) (map kindOf y) (x .n) (x .p))
+      ∙ ap (λ (k : ℕ). k * x .p) (length-map cs _ ∙ run-length (systemOf x) (startOf x) (map classOf y) (x .n) (x .p))
 
-  news-is : countsOf (periodsOf x y) (map kindOf y) .news ≡ count (λ (k : ℕ). not (eqb k 0)) (kindsWritten (covOf x (map kindOf y)))
+  news-is : countsOf (periodsOf x y) (map classOf y) .news ≡ count (λ (k : ℕ). not (eqb k 0)) (kindsWritten (covOf x (map classOf y)))
   unfolding countsOf kindsWritten
   news-is =
       sym (kinds-count (λ (k : ℕ). not (eqb k 0)) (periodsOf x y))
 
-  rows : length (gapRows (x .n) (x .p) (map kindOf y)) ≡ x .n
+  rows : length (gapRows (x .n) (x .p) (map classOf y)) ≡ x .n
   unfolding gapRows
   rows = length-chunks (x .n) (x .p) _
 
-  diffuse-first : (t : ℕ) → t < x .n → ltb t (countsOf (periodsOf x y) (map kindOf y) .dDiffuse) ≡ getD (periodsOf x y) t noPeriod .diffuse
+  diffuse-first : (t : ℕ) → t < x .n → ltb t (countsOf (periodsOf x y) (map classOf y) .dDiffuse) ≡ getD (periodsOf x y) t noPeriod .diffuse
   unfolding countsOf covOf covRun
   diffuse-first t h =
-      first-ones (period (systemOf x)) (period-first (systemOf x)) noPeriod (gapRows (x .n) (x .p) (map kindOf y)) 0 (startOf x) t (rw rows h)
+      first-ones (period (systemOf x)) (period-first (systemOf x)) noPeriod (gapRows (x .n) (x .p) (map classOf y)) 0 (startOf x) t (rw rows h)
 
   run-shown : AllOf (λ (c : CovPeriod). c .diffuse ≡ (frobSq (x .m) (c .predInf) >ᶠ rank-tol)) (periodsOf x y)
   unfolding covOf covRun systemOf systemFrom
-  run-shown = all-shown (systemOf x) (gapRows (x .n) (x .p) (map kindOf y)) 0 (startOf x)
+  run-shown = all-shown (systemOf x) (gapRows (x .n) (x .p) (map classOf y)) 0 (startOf x)
 
-  total : Totals x y (covOutcome x (fate x o (map kindOf y) room) (map kindOf y) b)
+  total : Totals x y (covOutcome x (ending x o (map classOf y) room) (map classOf y) b)
   unfolding covOutcome countsOf after
   total =
-      let w = kindsWritten (covOf x (map kindOf y)) in
+      let w = kindsWritten (covOf x (map classOf y)) in
       record {
         heard = ap (λ (l : Counts). l .heard) counted ∙ heard-is (periodsOf x y) y;
         news =
@@ -144,7 +144,7 @@ module _ (x : Model) (o : Offsets) (y : List Float) (b : CovParts) (room : Bool)
             ∙ ap
             (count (λ (k : ℕ). not (eqb k 0)))
             (sym
-            (ap (λ (f : Fate). take (kindsNeed x) (after f w (replicate (kindsNeed x) 0) (b .kinds))) ok
+            (ap (λ (f : Ending). take (kindsNeed x) (after f w (replicate (kindsNeed x) 0) (b .kinds))) ok
             ∙ take-at w (drop (length w) (b .kinds)) (kindsNeed x) written));
         dDiffuse = ap (λ (l : Counts). l .dDiffuse) counted;
         shown = run-shown;
@@ -153,9 +153,9 @@ module _ (x : Model) (o : Offsets) (y : List Float) (b : CovParts) (room : Bool)
 
 module _ (x : Model) (o : Offsets) (y : List Float) (b : CovParts) (b′ : MeanParts) where
   pub totals : outcome x o y b b′ .0 .refused ≡ 0 → Totals x y (outcome x o y b b′ .0)
-  unfolding outcome outcomeAt covOutcome fate
+  unfolding outcome outcomeAt covOutcome ending
   totals e = total x o y b (roomy x b b′) (none-refused _ _ e)
 
   pub totals-smooth : (sc sm : List Float) → smoothOutcome x o y b b′ sc sm .0 .filter .refused ≡ 0 → Totals x y (smoothOutcome x o y b b′ sc sm .0 .filter)
-  unfolding smoothOutcome smoothOutcomeAt covOutcome fate
+  unfolding smoothOutcome smoothOutcomeAt covOutcome ending
   totals-smooth sc sm e = total x o y b (roomySmoothed x b b′ sc sm) (none-refused _ _ e)

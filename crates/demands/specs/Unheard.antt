@@ -13,11 +13,11 @@ use Rattle.definition.specs.Run.{scan, pairs, chunks, join, count, anyOf, lay}
 use Rattle.definition.specs.Dense.{row}
 use Rattle.definition.specs.Cov.{System, Cov, Fixed, Inner, CovPeriod, Decision, skipped, usual, diffuse, verdict, apply, elementOf, isLive, entered, ended, periodOf, period, covRun}
 use Rattle.definition.specs.Mean.{Frame, Shift, Mean, MeanPeriod, hear, meanEnded, meanPeriodOf, meanPeriod, meanRun}
-use Rattle.definition.specs.Inputs.{Model, Offsets, Kind, gap, finite, kindOf, isGap, isInfinity, systemOf, frameOf, startOf, gapRows}
+use Rattle.definition.specs.Inputs.{Model, Offsets, Class, gap, finite, classOf, isGap, isInfinity, systemOf, frameOf, startOf, gapRows}
 use Rattle.definition.specs.Refusals.{refusal, tests, inputsFit, badLength}
 use Rattle.definition.specs.Parts.{kindNo, kindBlock}
-use Rattle.definition.specs.Outcome.{answered, fateOf, fate, kindsWritten, covOf, meanOf, countsOf, decisionsOf, noInformation}
-use Rattle.definition.specs.Tracks.{finite-kind, skip-unheard}
+use Rattle.definition.specs.Outcome.{answered, endingOf, ending, kindsWritten, covOf, meanOf, countsOf, decisionsOf, noInformation}
+use Rattle.definition.specs.Tracks.{finite-class, skip-unheard}
 use Rattle.laws.specs.Lists.{scan-set, map-set, pairs-set, pairs-at, chunks-set, length-chunks, chunks-each, Each, join-at, length-join, each-at, place-lt, count-set, anyOf-set}
 use Rattle.laws.specs.ReadBack.{getD-map-in, kinds-join, each-many}
 use Rattle.laws.specs.Shapes.{run-whole, run-length}
@@ -120,8 +120,8 @@ within [] k h = absurd h
 within (v ∷ y) zero h = omega arith
 within (v ∷ y) (suc k) h = let ih = within y k h in omega arith
 
-pub answered-by : (r : ℕ) (quiet : Bool) → fateOf r quiet ≡ answered → (r ≡ 0) × (quiet ≡ false)
-unfolding fateOf
+pub answered-by : (r : ℕ) (quiet : Bool) → endingOf r quiet ≡ answered → (r ≡ 0) × (quiet ≡ false)
+unfolding endingOf
 answered-by zero true e = absurd (let z : _≡_ {A = ℕ} 0 1 = cc in omega arith)
 answered-by zero false e = (refl, refl)
 answered-by (suc r) quiet e = absurd (let z : _≡_ {A = ℕ} 0 1 = cc in omega arith)
@@ -164,31 +164,31 @@ module _
     (inT : t < x .n)
     (inI : i < x .p)
     (read : T (isFinite (at y (t * x .p + i))))
-    (ok : fate x o (map kindOf y) room ≡ answered)
-    (skip : getD (lay (kindsWritten (covOf x (map kindOf y))) old) (t * x .p + i) 9 ≡ 0)
+    (ok : ending x o (map classOf y) room ≡ answered)
+    (skip : getD (lay (kindsWritten (covOf x (map classOf y))) old) (t * x .p + i) 9 ≡ 0)
   where
-    passed : (refusal x o (length (map kindOf y)) (anyOf isInfinity (map kindOf y)) room ≡ 0) × (noInformation (countsOf (covOf x (map kindOf y) .0) (map kindOf y)) ≡ false)
-    unfolding fate
+    passed : (refusal x o (length (map classOf y)) (anyOf isInfinity (map classOf y)) room ≡ 0) × (noInformation (countsOf (covOf x (map classOf y) .0) (map classOf y)) ≡ false)
+    unfolding ending
     passed = answered-by _ _ ok
 
-    fit : length (map kindOf y) ≡ x .n * x .p
+    fit : length (map classOf y) ≡ x .n * x .p
     fit = readings-fit x o _ _ _ (passed .0)
 
-    periods : length (covOf x (map kindOf y) .0) ≡ x .n
+    periods : length (covOf x (map classOf y) .0) ≡ x .n
     unfolding covOf
-    periods = run-length (systemOf x) (startOf x) (map kindOf y) (x .n) (x .p)
+    periods = run-length (systemOf x) (startOf x) (map classOf y) (x .n) (x .p)
 
-    each : Each (x .p) (decisionsOf (covOf x (map kindOf y) .0))
+    each : Each (x .p) (decisionsOf (covOf x (map classOf y) .0))
     unfolding covOf
-    each = each-many (x .p) (systemOf x .m) (covOf x (map kindOf y) .0) (run-whole (systemOf x) (startOf x) (map kindOf y) (x .n) (x .p) fit)
+    each = each-many (x .p) (systemOf x .m) (covOf x (map classOf y) .0) (run-whole (systemOf x) (startOf x) (map classOf y) (x .n) (x .p) fit)
 
-    many : length (decisionsOf (covOf x (map kindOf y) .0)) ≡ x .n
-    many = length-map (covOf x (map kindOf y) .0) _ ∙ periods
+    many : length (decisionsOf (covOf x (map classOf y) .0)) ≡ x .n
+    many = length-map (covOf x (map classOf y) .0) _ ∙ periods
 
-    skip-at : getD (getD (decisionsOf (covOf x (map kindOf y) .0)) t []) i noDecision ≡ skipped
+    skip-at : getD (getD (decisionsOf (covOf x (map classOf y) .0)) t []) i noDecision ≡ skipped
     unfolding kindsWritten
     skip-at =
-        let cs = covOf x (map kindOf y) .0 in
+        let cs = covOf x (map classOf y) .0 in
         let ds = decisionsOf cs in
         let k = t * x .p + i in
         let long : k < length (join ds) = rw (length-join (x .p) ds each, many) (place-lt (x .n) (x .p) t i inT inI) in
@@ -197,27 +197,27 @@ module _
         skips _ (ap kindNo (sym (join-at (x .p) ds t i noDecision each (rw many inT) inI)) ∙ sym (getD-map-in kindNo (join ds) k noDecision 9 long) ∙ e)
 
     -- whatever stands there, the means are the same
-    pub deaf : (v : Float) → meanOf x o (covOf x (map kindOf y) .0) (set y (t * x .p + i) v) ≡ meanOf x o (covOf x (map kindOf y) .0) y
+    pub deaf : (v : Float) → meanOf x o (covOf x (map classOf y) .0) (set y (t * x .p + i) v) ≡ meanOf x o (covOf x (map classOf y) .0) y
     unfolding meanOf
     deaf v =
-        let ds = decisionsOf (covOf x (map kindOf y) .0) in
+        let ds = decisionsOf (covOf x (map classOf y) .0) in
         let rows = chunks (x .n) (x .p) y in
         let sh : Shift = record { c = o .c; d = o .d } in
         let s : Mean = record { a = o .a1; loglik = 0ᶠ } in
         let n : length rows ≡ x .n = length-chunks (x .n) (x .p) y in
-        let l : length (getD rows t []) ≡ x .p = each-at (x .p) rows t (chunks-each (x .n) (x .p) y (sym (length-map y kindOf) ∙ fit)) (rw n inT) in
+        let l : length (getD rows t []) ≡ x .p = each-at (x .p) rows t (chunks-each (x .n) (x .p) y (sym (length-map y classOf) ∙ fit)) (rw n inT) in
         let l′ : length (getD ds t []) ≡ x .p = each-at (x .p) ds t each (rw many inT) in
         ap (λ (r : List (List Float)). meanRun (frameOf x) sh 0 s (pairs ds r)) (chunks-set (x .n) (x .p) y t i v inI)
         ∙ deaf-run (frameOf x) sh ds rows t i noDecision v s skip-at (rw many inT) (rw n inT) (rw l′ inI) (rw l inI)
 
     -- a gap there: the same covariances
-    abbrev pub muted : List Kind
-    muted = set (map kindOf y) (t * x .p + i) gap
+    abbrev pub muted : List Class
+    muted = set (map classOf y) (t * x .p + i) gap
 
-    pub quiet : covOf x muted ≡ covOf x (map kindOf y)
+    pub quiet : covOf x muted ≡ covOf x (map classOf y)
     unfolding covOf gapRows
     quiet =
-        let ks = map kindOf y in
+        let ks = map classOf y in
         let gs = chunks (x .n) (x .p) (map isGap ks) in
         let e = getD-map-in (λ (c : CovPeriod). c .decisions) (covOf x ks .0) t noPeriod [] (rw periods inT) in
         ap
@@ -225,33 +225,33 @@ module _
         (ap (chunks (x .n) (x .p)) (map-set isGap ks (t * x .p + i) gap) ∙ chunks-set (x .n) (x .p) (map isGap ks) t i true inI)
         ∙ quiet-run (systemOf x) gs t i noDecision noPeriod (startOf x) (sym (ap (λ (l : List Decision). getD l i noDecision) e) ∙ skip-at)
 
-    seen : getD (map kindOf y) (t * x .p + i) gap ≡ finite
-    unfolding kindOf
-    seen = List·getD-map kindOf y (t * x .p + i) nan ∙ finite-kind (at y (t * x .p + i)) read
+    seen : getD (map classOf y) (t * x .p + i) gap ≡ finite
+    unfolding classOf
+    seen = List·getD-map classOf y (t * x .p + i) nan ∙ finite-class (at y (t * x .p + i)) read
 
     -- another finite number there is of the same kind
-    pub same-kinds : (v : Float) → T (isFinite v) → map kindOf (set y (t * x .p + i) v) ≡ map kindOf y
-    same-kinds v h = map-set-same kindOf y (t * x .p + i) v nan (finite-kind v h ∙ sym (finite-kind (at y (t * x .p + i)) read))
+    pub same-kinds : (v : Float) → T (isFinite v) → map classOf (set y (t * x .p + i) v) ≡ map classOf y
+    same-kinds v h = map-set-same classOf y (t * x .p + i) v nan (finite-class v h ∙ sym (finite-class (at y (t * x .p + i)) read))
 
     -- one reading less is heard
-    pub one-less : suc (countsOf (covOf x (map kindOf y) .0) muted .heard) ≡ countsOf (covOf x (map kindOf y) .0) (map kindOf y) .heard
+    pub one-less : suc (countsOf (covOf x (map classOf y) .0) muted .heard) ≡ countsOf (covOf x (map classOf y) .0) (map classOf y) .heard
     unfolding countsOf
     one-less =
-        let ks = map kindOf y in
+        let ks = map classOf y in
         let k = t * x .p + i in
         ap (λ (l : List Bool). suc (count not l)) (map-set isGap ks k gap)
         ∙ count-set not (map isGap ks) k true true (rw (length-map, fit) (place-lt (x .n) (x .p) t i inT inI)) (ap not (List·getD-map isGap ks k gap ∙ ap isGap seen)) refl
 
-    news-informs : 0 < countsOf (covOf x (map kindOf y) .0) (map kindOf y) .news → noInformation (countsOf (covOf x (map kindOf y) .0) muted) ≡ false
+    news-informs : 0 < countsOf (covOf x (map classOf y) .0) (map classOf y) .news → noInformation (countsOf (covOf x (map classOf y) .0) muted) ≡ false
     unfolding noInformation countsOf
-    news-informs h = informed (ltb 0 (countsOf (covOf x (map kindOf y) .0) muted .heard)) (countsOf (covOf x (map kindOf y) .0) muted .news) h
+    news-informs h = informed (ltb 0 (countsOf (covOf x (map classOf y) .0) muted .heard)) (countsOf (covOf x (map classOf y) .0) muted .news) h
 
     -- and the call is answered still, as long as there is news
-    pub answered-still : 0 < countsOf (covOf x (map kindOf y) .0) (map kindOf y) .news → fate x o muted room ≡ answered
-    unfolding fate fateOf
+    pub answered-still : 0 < countsOf (covOf x (map classOf y) .0) (map classOf y) .news → ending x o muted room ≡ answered
+    unfolding ending endingOf
     answered-still news =
-        let ks = map kindOf y in
+        let ks = map classOf y in
         let k = t * x .p + i in
         let r : refusal x o (length muted) (anyOf isInfinity muted) room ≡ 0 =
         ap₂ (λ (l : ℕ) (q : Bool). refusal x o l q room) (length-set ks k gap) (anyOf-set isInfinity ks k gap gap (sym (ap isInfinity seen))) ∙ passed .0 in
-        ap₂ fateOf r (ap (λ (c : List CovPeriod × Cov). noInformation (countsOf (c .0) muted)) quiet ∙ news-informs news)
+        ap₂ endingOf r (ap (λ (c : List CovPeriod × Cov). noInformation (countsOf (c .0) muted)) quiet ∙ news-informs news)

@@ -16,10 +16,10 @@ use Rattle.definition.specs.Run.{join, count, anyOf, lay}
 use Rattle.definition.specs.Cov.{Cov, CovPeriod, diffuse}
 use Rattle.definition.specs.Mean.{Mean, MeanPeriod}
 use Rattle.definition.specs.Smooth.{smoothCov, smoothMean}
-use Rattle.definition.specs.Inputs.{Model, Offsets, Kind, gap, kindOf, isGap, isInfinity, frameOf}
+use Rattle.definition.specs.Inputs.{Model, Offsets, Class, gap, classOf, isGap, isInfinity, frameOf}
 use Rattle.definition.specs.Parts.{predCov, predInf, filtCov, fStar, fInf, mStar, mInf, isNews}
-use Rattle.definition.specs.Outcome.{CovParts, MeanParts, CovOutcome, MeanOutcome, SmoothedCov, SmoothedMean, Counts, Fate, turned, silent, answered, fate, after, countsIn, numberOf, roomy, roomySmoothed, kindsWritten, kindsNeed, covNeed, covWritten, meanWritten, meanNeed, smoothedCovNeed, smoothedMeanNeed, loglikIn, covOf, meanOf, countsOf, decisionsOf, covOutcome, meanOutcome, outcome, outcomeAt, smoothedCov, smoothedMean, smoothOutcome, smoothOutcomeAt}
-use Rattle.definition.specs.Tracks.{finite-kind, by-kinds, smooth-by-kinds}
+use Rattle.definition.specs.Outcome.{CovParts, MeanParts, CovOutcome, MeanOutcome, SmoothedCov, SmoothedMean, Counts, Ending, turned, silent, answered, ending, after, countsIn, numberOf, roomy, roomySmoothed, kindsWritten, kindsNeed, covNeed, covWritten, meanWritten, meanNeed, smoothedCovNeed, smoothedMeanNeed, loglikIn, covOf, meanOf, countsOf, decisionsOf, covOutcome, meanOutcome, outcome, outcomeAt, smoothedCov, smoothedMean, smoothOutcome, smoothOutcomeAt}
+use Rattle.definition.specs.Tracks.{finite-class, by-classes, smooth-by-classes}
 use Rattle.laws.specs.Lists.{map-set}
 use Rattle.demands.specs.Unheard.{deaf, same-kinds, quiet, one-less, answered-still, within, readings-fit, answered-by}
 
@@ -58,29 +58,29 @@ all-same c c′ e =
       mInfs = ap (λ (c : CovOutcome). c .parts .part mInf) e;
     }
 
-pub alike-kinds : (y y′ : List Float) → Alike y y′ → map kindOf y ≡ map kindOf y′
-unfolding kindOf
+pub alike-kinds : (y y′ : List Float) → Alike y y′ → map classOf y ≡ map classOf y′
+unfolding classOf
 alike-kinds y y′ l =
     ext-getD
     gap
-    (map kindOf y)
-    (map kindOf y′)
-    (length-map y kindOf ∙ l .many ∙ sym (length-map y′ kindOf))
+    (map classOf y)
+    (map classOf y′)
+    (length-map y classOf ∙ l .many ∙ sym (length-map y′ classOf))
     (λ k h.
-    List·getD-map kindOf y k nan
-    ∙ ⊎-elim (λ e. ap kindOf e) (λ e. finite-kind (at y k) (e .0) ∙ sym (finite-kind (at y′ k) (e .1))) (l .each k (rw length-map at h))
-    ∙ sym (List·getD-map kindOf y′ k nan))
+    List·getD-map classOf y k nan
+    ∙ ⊎-elim (λ e. ap classOf e) (λ e. finite-class (at y k) (e .0) ∙ sym (finite-class (at y′ k) (e .1))) (l .each k (rw length-map at h))
+    ∙ sym (List·getD-map classOf y′ k nan))
 
 module _ (x : Model) (o : Offsets) (y y′ : List Float) (alike : Alike y y′) (b : CovParts) (b′ : MeanParts) where
   pub values : Same (outcome x o y b b′ .0) (outcome x o y′ b b′ .0)
-  values = all-same _ _ (by-kinds x o y y′ (alike-kinds y y′ alike) b b′)
+  values = all-same _ _ (by-classes x o y y′ (alike-kinds y y′ alike) b b′)
 
   -- and with them the smoothed covariances
   pub values-smooth : (sc sm : List Float)
       → Same (smoothOutcome x o y b b′ sc sm .0 .filter) (smoothOutcome x o y′ b b′ sc sm .0 .filter)
       × (smoothOutcome x o y b b′ sc sm .0 .smoothed ≡ smoothOutcome x o y′ b b′ sc sm .0 .smoothed)
   values-smooth sc sm =
-      let e = smooth-by-kinds x o y y′ (alike-kinds y y′ alike) b b′ sc sm in (all-same _ _ (ap (λ (c : SmoothedCov). c .filter) e), ap (λ (c : SmoothedCov). c .smoothed) e)
+      let e = smooth-by-classes x o y y′ (alike-kinds y y′ alike) b b′ sc sm in (all-same _ _ (ap (λ (c : SmoothedCov). c .filter) e), ap (λ (c : SmoothedCov). c .smoothed) e)
 
 -- ---- the second half
 
@@ -99,73 +99,73 @@ pub record OneLess (c c′ : CovOutcome) : Type 0 where
   pub parts : c′ .parts ≡ c .parts
 
 -- news tells of an answer
-news-answers : (f : Fate) (l : Counts) → 0 < countsIn f l .news → f ≡ answered
+news-answers : (f : Ending) (l : Counts) → 0 < countsIn f l .news → f ≡ answered
 unfolding countsIn
 news-answers (turned k) l h = absurd (omega arith)
 news-answers silent l h = absurd (omega arith)
 news-answers answered l h = refl
 
 -- the lent covariance parts after a run r
-abbrev partsFrom : Model → Fate → List CovPeriod × Cov → CovParts → CovParts
+abbrev partsFrom : Model → Ending → List CovPeriod × Cov → CovParts → CovParts
 partsFrom x f r b =
     record {
       kinds = after f (kindsWritten r) (replicate (kindsNeed x) 0) (b .kinds);
       part = λ q. after f (covWritten (x .m) r q) (zeros (covNeed x q)) (b .part q);
     }
 
--- period t, element i, in a call with this much room: what becomes of the outcome's halves, f being the call's fate
-module _ (x : Model) (o : Offsets) (y : List Float) (b : CovParts) (room : Bool) (t i : ℕ) (inT : t < x .n) (inI : i < x .p) (h : NoNews y (covOutcome x (fate x o (map kindOf y) room) (map kindOf y) b) (t * x .p + i)) where
-  ok : fate x o (map kindOf y) room ≡ answered
+-- period t, element i, in a call with this much room: what becomes of the outcome's halves, f being the call's ending
+module _ (x : Model) (o : Offsets) (y : List Float) (b : CovParts) (room : Bool) (t i : ℕ) (inT : t < x .n) (inI : i < x .p) (h : NoNews y (covOutcome x (ending x o (map classOf y) room) (map classOf y) b) (t * x .p + i)) where
+  ok : ending x o (map classOf y) room ≡ answered
   unfolding covOutcome
-  ok = news-answers (fate x o (map kindOf y) room) (countsOf (covOf x (map kindOf y) .0) (map kindOf y)) (h .news)
+  ok = news-answers (ending x o (map classOf y) room) (countsOf (covOf x (map classOf y) .0) (map classOf y)) (h .news)
 
-  real-skip : getD (lay (kindsWritten (covOf x (map kindOf y))) (b .kinds)) (t * x .p + i) 9 ≡ 0
+  real-skip : getD (lay (kindsWritten (covOf x (map classOf y))) (b .kinds)) (t * x .p + i) 9 ≡ 0
   unfolding covOutcome after
   real-skip =
       subst
-      (λ (f : Fate). getD (after f (kindsWritten (covOf x (map kindOf y))) (replicate (kindsNeed x) 0) (b .kinds)) (t * x .p + i) 9 ≡ 0)
+      (λ (f : Ending). getD (after f (kindsWritten (covOf x (map classOf y))) (replicate (kindsNeed x) 0) (b .kinds)) (t * x .p + i) 9 ≡ 0)
       ok
       (h .skip)
 
-  real-news : 0 < countsOf (covOf x (map kindOf y) .0) (map kindOf y) .news
+  real-news : 0 < countsOf (covOf x (map classOf y) .0) (map classOf y) .news
   unfolding covOutcome countsIn
-  real-news = subst (λ (f : Fate). 0 < countsIn f (countsOf (covOf x (map kindOf y) .0) (map kindOf y)) .news) ok (h .news)
+  real-news = subst (λ (f : Ending). 0 < countsIn f (countsOf (covOf x (map classOf y) .0) (map classOf y)) .news) ok (h .news)
 
-  -- another finite number, or whatever, leaves the mean run; a gap leaves the fate and the covariance run
-  means : (v : Float) → meanOf x o (covOf x (map kindOf y) .0) (set y (t * x .p + i) v) ≡ meanOf x o (covOf x (map kindOf y) .0) y
+  -- another finite number, or whatever, leaves the mean run; a gap leaves the ending and the covariance run
+  means : (v : Float) → meanOf x o (covOf x (map classOf y) .0) (set y (t * x .p + i) v) ≡ meanOf x o (covOf x (map classOf y) .0) y
   means = deaf x o y room (b .kinds) t i inT inI (h .read) ok real-skip
 
-  kinds : (v : Float) → T (isFinite v) → map kindOf (set y (t * x .p + i) v) ≡ map kindOf y
+  kinds : (v : Float) → T (isFinite v) → map classOf (set y (t * x .p + i) v) ≡ map classOf y
   kinds = same-kinds x o y room (b .kinds) t i inT inI (h .read) ok real-skip
 
-  gap-kinds : map kindOf (set y (t * x .p + i) nan) ≡ set (map kindOf y) (t * x .p + i) gap
-  unfolding kindOf
-  gap-kinds = map-set kindOf y (t * x .p + i) nan
+  gap-kinds : map classOf (set y (t * x .p + i) nan) ≡ set (map classOf y) (t * x .p + i) gap
+  unfolding classOf
+  gap-kinds = map-set classOf y (t * x .p + i) nan
 
-  gap-fate : fate x o (map kindOf (set y (t * x .p + i) nan)) room ≡ fate x o (map kindOf y) room
+  gap-fate : ending x o (map classOf (set y (t * x .p + i) nan)) room ≡ ending x o (map classOf y) room
   gap-fate =
-      ap (λ (ks : List Kind). fate x o ks room) gap-kinds
+      ap (λ (ks : List Class). ending x o ks room) gap-kinds
       ∙ answered-still x o y room (b .kinds) t i inT inI (h .read) ok real-skip real-news
       ∙ sym ok
 
-  gap-run : covOf x (map kindOf (set y (t * x .p + i) nan)) ≡ covOf x (map kindOf y)
+  gap-run : covOf x (map classOf (set y (t * x .p + i) nan)) ≡ covOf x (map classOf y)
   gap-run = ap (covOf x) gap-kinds ∙ quiet x o y room (b .kinds) t i inT inI (h .read) ok real-skip
 
-  gap-means : meanOf x o (covOf x (map kindOf (set y (t * x .p + i) nan)) .0) (set y (t * x .p + i) nan) ≡ meanOf x o (covOf x (map kindOf y) .0) y
+  gap-means : meanOf x o (covOf x (map classOf (set y (t * x .p + i) nan)) .0) (set y (t * x .p + i) nan) ≡ meanOf x o (covOf x (map classOf y) .0) y
   gap-means = ap (λ (r : List CovPeriod × Cov). meanOf x o (r .0) (set y (t * x .p + i) nan)) gap-run ∙ means nan
 
-  gap-covs : OneLess (covOutcome x (fate x o (map kindOf y) room) (map kindOf y) b) (covOutcome x (fate x o (map kindOf (set y (t * x .p + i) nan)) room) (map kindOf (set y (t * x .p + i) nan)) b)
+  gap-covs : OneLess (covOutcome x (ending x o (map classOf y) room) (map classOf y) b) (covOutcome x (ending x o (map classOf (set y (t * x .p + i) nan)) room) (map classOf (set y (t * x .p + i) nan)) b)
   unfolding covOutcome countsIn countsOf
   gap-covs =
-      let ks = map kindOf y in
-      let gs = map kindOf (set y (t * x .p + i) nan) in
-      let counted : (f : Fate) (l : Counts) → f ≡ answered → countsIn f l ≡ l = λ f l e. ap (λ (f : Fate). countsIn f l) e in
-      let old = counted (fate x o ks room) (countsOf (covOf x ks .0) ks) ok in
-      let new = counted (fate x o gs room) (countsOf (covOf x gs .0) gs) (gap-fate ∙ ok) in
+      let ks = map classOf y in
+      let gs = map classOf (set y (t * x .p + i) nan) in
+      let counted : (f : Ending) (l : Counts) → f ≡ answered → countsIn f l ≡ l = λ f l e. ap (λ (f : Ending). countsIn f l) e in
+      let old = counted (ending x o ks room) (countsOf (covOf x ks .0) ks) ok in
+      let new = counted (ending x o gs room) (countsOf (covOf x gs .0) gs) (gap-fate ∙ ok) in
       record {
         heard =
             ap (λ (l : Counts). suc (l .heard)) new
-            ∙ ap (λ (ks : List Kind). suc (count not (map isGap ks))) gap-kinds
+            ∙ ap (λ (ks : List Class). suc (count not (map isGap ks))) gap-kinds
             ∙ one-less x o y room (b .kinds) t i inT inI (h .read) ok real-skip
             ∙ sym (ap (λ (l : Counts). l .heard) old);
         news =
@@ -179,19 +179,19 @@ module _ (x : Model) (o : Offsets) (y : List Float) (b : CovParts) (room : Bool)
         refusals = ap numberOf gap-fate;
         parts =
             ap₂
-            (λ (f : Fate) (r : List CovPeriod × Cov). partsFrom x f r b)
+            (λ (f : Ending) (r : List CovPeriod × Cov). partsFrom x f r b)
             gap-fate
             gap-run;
       }
 
 -- a place is some element of some period
-module _ (x : Model) (o : Offsets) (y : List Float) (b : CovParts) (room : Bool) (k : ℕ) (h : NoNews y (covOutcome x (fate x o (map kindOf y) room) (map kindOf y) b) k) where
+module _ (x : Model) (o : Offsets) (y : List Float) (b : CovParts) (room : Bool) (k : ℕ) (h : NoNews y (covOutcome x (ending x o (map classOf y) room) (map classOf y) b) k) where
   in-range : k < x .n * x .p
-  unfolding covOutcome fate
+  unfolding covOutcome ending
   in-range =
-      let e = answered-by _ _ (news-answers (fate x o (map kindOf y) room) (countsOf (covOf x (map kindOf y) .0) (map kindOf y)) (h .news)) in
-      let n = readings-fit x o (length (map kindOf y)) (anyOf isInfinity (map kindOf y)) room (e .0) in
-      let l : length y ≡ x .n * x .p = sym (length-map y kindOf) ∙ n in
+      let e = answered-by _ _ (news-answers (ending x o (map classOf y) room) (countsOf (covOf x (map classOf y) .0) (map classOf y)) (h .news)) in
+      let n = readings-fit x o (length (map classOf y)) (anyOf isInfinity (map classOf y)) room (e .0) in
+      let l : length y ≡ x .n * x .p = sym (length-map y classOf) ∙ n in
       omega (arith, within y k (h .read))
 
 place : (n p k : ℕ) → k < n * p → (k / p < n) × (k % p < p)
@@ -212,12 +212,12 @@ module _ (x : Model) (o : Offsets) (y : List Float) (b : CovParts) (b′ : MeanP
   unfolding outcome outcomeAt meanOutcome
   at-element t i inT inI h =
       let room = roomy x b b′ in
-      let f = fate x o (map kindOf y) room in
-      let made : Fate → List MeanPeriod × Mean → MeanOutcome = λ f r. record { loglik = loglikIn f (r .1 .loglik); parts = λ q. after f (meanWritten r q) (zeros (meanNeed x q)) (b′ q) } in
+      let f = ending x o (map classOf y) room in
+      let made : Ending → List MeanPeriod × Mean → MeanOutcome = λ f r. record { loglik = loglikIn f (r .1 .loglik); parts = λ q. after f (meanWritten r q) (zeros (meanNeed x q)) (b′ q) } in
       record {
         number = λ v fv.
-            ap (λ (ks : List Kind). outcomeAt x o ks (set y (t * x .p + i) v) b b′) (kinds x o y b room t i inT inI h v fv)
-            ∙ ap (λ (r : List MeanPeriod × Mean). (covOutcome x f (map kindOf y) b, made f r)) (means x o y b room t i inT inI h v);
+            ap (λ (ks : List Class). outcomeAt x o ks (set y (t * x .p + i) v) b b′) (kinds x o y b room t i inT inI h v fv)
+            ∙ ap (λ (r : List MeanPeriod × Mean). (covOutcome x f (map classOf y) b, made f r)) (means x o y b room t i inT inI h v);
         gapCov = gap-covs x o y b room t i inT inI h;
         gapMean = ap₂ made (gap-fate x o y b room t i inT inI h) (gap-means x o y b room t i inT inI h);
       }
@@ -245,25 +245,25 @@ module _ (x : Model) (o : Offsets) (y : List Float) (b : CovParts) (b′ : MeanP
   unfolding smoothOutcome smoothOutcomeAt meanOutcome smoothedCov smoothedMean
   at-element-smooth t i inT inI h =
       let room = roomySmoothed x b b′ sc sm in
-      let f = fate x o (map kindOf y) room in
-      let made : Fate → List CovPeriod → List MeanPeriod × Mean → SmoothedMean =
+      let f = ending x o (map classOf y) room in
+      let made : Ending → List CovPeriod → List MeanPeriod × Mean → SmoothedMean =
       λ f cs r. record {
         filter = record { loglik = loglikIn f (r .1 .loglik); parts = λ q. after f (meanWritten r q) (zeros (meanNeed x q)) (b′ q) };
         smoothed = after f (join (smoothMean (frameOf x) cs (r .0))) (zeros (smoothedMeanNeed x)) sm;
       } in
-      let cs = covOf x (map kindOf y) .0 in
+      let cs = covOf x (map classOf y) .0 in
       record {
         number = λ v fv.
-            ap (λ (ks : List Kind). smoothOutcomeAt x o ks (set y (t * x .p + i) v) b b′ sc sm) (kinds x o y b room t i inT inI h v fv)
-            ∙ ap (λ (r : List MeanPeriod × Mean). (record { filter = covOutcome x f (map kindOf y) b; smoothed = smoothedCov x f (map kindOf y) sc }, made f cs r)) (means x o y b room t i inT inI h v);
+            ap (λ (ks : List Class). smoothOutcomeAt x o ks (set y (t * x .p + i) v) b b′ sc sm) (kinds x o y b room t i inT inI h v fv)
+            ∙ ap (λ (r : List MeanPeriod × Mean). (record { filter = covOutcome x f (map classOf y) b; smoothed = smoothedCov x f (map classOf y) sc }, made f cs r)) (means x o y b room t i inT inI h v);
         gapCov = gap-covs x o y b room t i inT inI h;
         gapSmoothed =
             ap₂
-            (λ (f : Fate) (r : List CovPeriod × Cov). after f (join (smoothCov (frameOf x) (r .0))) (zeros (smoothedCovNeed x)) sc)
+            (λ (f : Ending) (r : List CovPeriod × Cov). after f (join (smoothCov (frameOf x) (r .0))) (zeros (smoothedCovNeed x)) sc)
             (gap-fate x o y b room t i inT inI h)
             (gap-run x o y b room t i inT inI h);
         gapMean =
-            ap₂ (λ (f : Fate) (r : List CovPeriod × Cov). made f (r .0) (meanOf x o (r .0) (set y (t * x .p + i) nan))) (gap-fate x o y b room t i inT inI h) (gap-run x o y b room t i inT inI h)
+            ap₂ (λ (f : Ending) (r : List CovPeriod × Cov). made f (r .0) (meanOf x o (r .0) (set y (t * x .p + i) nan))) (gap-fate x o y b room t i inT inI h) (gap-run x o y b room t i inT inI h)
             ∙ ap (made f cs) (means x o y b room t i inT inI h nan);
       }
 

@@ -24,7 +24,7 @@ use Rattle.definition.specs.Cov.{
   usually,
   diffusely,
   judge,
-  fStarOf,
+  fStarBy,
   apply,
   verdict,
   elementOf,
@@ -114,7 +114,7 @@ judged-known m z h live pre sd sd′ again true unres star pinf root f m* k = re
 judged-known m z h live pre sd sd′ again false unres star pinf root f m* k = rw (k refl)
 
 judged-is : (m : ℕ) (z : List Float) (h : Float) (live : Bool) (pre sd : List Float) (again : Float) (fresh : Bool) (unres star pinf root : List Float) {f : Float} {m* : List Float}
-    → m* ≡ matVec m star z → f ≡ fStarOf m z h m* → judgedBy m z h live pre sd again fresh unres star pinf root f m* ≡ judge m z h live pre sd again fresh unres star pinf root
+    → m* ≡ matVec m star z → f ≡ fStarBy m z h m* → judgedBy m z h live pre sd again fresh unres star pinf root f m* ≡ judge m z h live pre sd again fresh unres star pinf root
 unfolding judgedBy judge
 judged-is m z h live pre sd again fresh unres star pinf root e1 e2 = rw (e2, e1)
 
@@ -147,7 +147,7 @@ module _ (p m : ℕ) (hs : List Float) (fix : Fixed) (fresh : Bool) (i : ℕ) {g
   went-gap e e1 e2 e3 w = λ taken k. did m i [] skipped taken step.Passed b b′ (gap-is p m hs fix i (innerOf m b taken) e) (moved-none m i [] b b′ e1 e2 e3 w)
 
   module _ {z : List Float} {h f : Float} (a c : List Float) {sd : List Float} (r : Step) (e : gap ≡ false) (ez : z ≡ row m (fix .z) i) (eh : h ≡ ent p hs i i) (ek : fresh ≡ false → sd ≡ sdOf m (fix .pre))
-      (ea : vec m a ≡ matVec m (mat m (b .star)) z) (ef : f ≡ fStarOf m z h (vec m a)) where
+      (ea : vec m a ≡ matVec m (mat m (b .star)) z) (ef : f ≡ fStarBy m z h (vec m a)) where
     abbrev Judges : Finding → Type 0
     Judges d = Judged m z h (fix .diffuse) (fix .pre) sd fresh (fix .unres) (mat m (b .star)) (mat m (b .pinf)) (mat m (b .root)) f c d
 
@@ -197,7 +197,7 @@ module _ (p m : ℕ) (hs design pre : List Float) (i : ℕ) (gap : Bool) (star :
       (λ taken k w. (w, k))
 
   module _ {z : List Float} {h f : Float} {a sd : List Float} {t : Bool} (e : gap ≡ false) (ez : z ≡ row m (rect p m design) i) (eh : h ≡ ent p hs i i) (ek : sd ≡ sdOf m (mat m pre))
-      (ea : a ≡ matVec m (mat m star) z) (ef : f ≡ fStarOf m z h a) (et : t ≡ usualTest m z h false (mat m pre) sd (projectedAt root z h) false (mat m star) f) where
+      (ea : a ≡ matVec m (mat m star) z) (ef : f ≡ fStarBy m z h a) (et : t ≡ usualTest m z h false (mat m pre) sd (projectedAt root z h) false (mat m star) f) where
     decided : (d : Decision) → d ≡ cond t (usual f a) skipped → (p∞ b unres : List Float) (taken : List ℕ) → none-yet taken ≡ false → Holds p m (rect p m design) hs (mat m pre) taken root
         → (d, apply m z i (innerOf m (books star p∞ b n) taken) d) ≡ elementOf p m hs (fixedOf p m false design pre unres) i (innerOf m (books star p∞ b n) taken) gap
     unfolding judge usually

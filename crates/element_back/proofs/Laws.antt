@@ -4,7 +4,7 @@ use Prim.Native.Nat.{ℕ, _*_}
 use mathlib.Core.Bool.{Bool, cond}
 use mathlib.Core.List.{List}
 use lib.Ieee.{Float, binary64}
-use Rattle.definition.specs.Dense.{outerScaled, plus, plusAt, quad, mul, tr}
+use Rattle.definition.specs.Dense.{outerScaled, plus, plusAt, quad, mul, transposed}
 use Rattle.definition.specs.Cov.{usual, diffuse}
 use Rattle.laws.specs.Lists.{tab-cong}
 use Rattle.laws.specs.Swap.{add-swap}
@@ -16,7 +16,7 @@ unfolding plus plusAt
 plus-swap m a b = tab-cong (m * m) 0 _ _ (λ k u v. add-swap binary64 _ _)
 
 module _ (m : ℕ) (z : List Float) where
-  pub usual-n0 : (g : Float) (l n0 ln q s r : List Float) → ln ≡ mul m (tr m l) n0 → q ≡ mul m ln l → s ≡ outerScaled m z z g → r ≡ plus m q s → r ≡ usualN0 m z g l n0
+  pub usual-n0 : (g : Float) (l n0 ln q s r : List Float) → ln ≡ mul m (transposed m l) n0 → q ≡ mul m ln l → s ≡ outerScaled m z z g → r ≡ plus m q s → r ≡ usualN0 m z g l n0
   unfolding usualN0 quad
   usual-n0 _ _ _ _ q s _ a b c d = let e = plus-swap m q s in cc
 
@@ -28,7 +28,7 @@ module _ (m : ℕ) (z : List Float) where
   unfolding diffuseN1
   diffuse-n1 _ _ _ _ _ _ _ _ _ e1 e2 e3 = cc
 
-  pub diffuse-n2 : (f2 : Float) (l0 l1 a b c t s0 s1 s2 s3 r : List Float) → s0 ≡ outerScaled m z z f2 → s1 ≡ plus m s0 (quad m l0 c l0) → s2 ≡ plus m s1 (quad m l0 b l1) → t ≡ tr m b → s3 ≡ plus m s2 (quad m l1 t l0) → r ≡ plus m s3 (quad m l1 a l1) → r ≡ diffuseN2 m z f2 l0 l1 (record { n0 = a; n1 = b; n2 = c })
+  pub diffuse-n2 : (f2 : Float) (l0 l1 a b c t s0 s1 s2 s3 r : List Float) → s0 ≡ outerScaled m z z f2 → s1 ≡ plus m s0 (quad m l0 c l0) → s2 ≡ plus m s1 (quad m l0 b l1) → t ≡ transposed m b → s3 ≡ plus m s2 (quad m l1 t l0) → r ≡ plus m s3 (quad m l1 a l1) → r ≡ diffuseN2 m z f2 l0 l1 (record { n0 = a; n1 = b; n2 = c })
   unfolding diffuseN2
   diffuse-n2 _ _ _ _ _ _ _ _ _ _ _ _ e1 e2 e3 e4 e5 e6 = cc
 

@@ -7,8 +7,8 @@ use mathlib.Core.List.{List, map}
 use lib.ListN.{length}
 use lib.Ieee.{Float}
 use Rattle.definition.specs.Run.{anyOf}
-use Rattle.definition.specs.Inputs.{Model, Offsets, Kind, kindOf, isInfinity}
-use Rattle.definition.specs.Outcome.{CovParts, MeanParts, Fate, turned, silent, answered, fate, roomy, outcome, outcomeAt}
+use Rattle.definition.specs.Inputs.{Model, Offsets, Class, classOf, isInfinity}
+use Rattle.definition.specs.Outcome.{CovParts, MeanParts, Ending, turned, silent, answered, ending, roomy, outcome, outcomeAt}
 use Rattle.laws.specs.Accepted.{accepted}
 use Rattle.model.specs.Lengths.{Room, by-room}
 use Rattle.mean.specs.declared.Answer.{Answer}
@@ -19,14 +19,14 @@ use Rattle.filter.specs.Blanked.{Blanked}
 use Rattle.filter.specs.Ends as ends
 use Rattle.filter.specs.Ends.{Checked}
 
-abbrev kinds : List Float → List Kind
-kinds y = map kindOf y
+abbrev kinds : List Float → List Class
+kinds y = map classOf y
 
 module _ {x : Model} {o : Offsets} {y : List Float} {w : CovParts} {w′ : MeanParts} {k : ℕ} where
   pub checked : {room : Bool} → k ≡ ends.number x o y room → Room x o (length y) (anyOf isInfinity (kinds y)) w w′ room → Checked x o y w w′ k
   checked e h = record { number = e ∙ by-room x o (length y) (anyOf isInfinity (kinds y)) w w′ h }
 
-by-fate : (x : Model) (o : Offsets) (y : List Float) (w : CovParts) (w′ : MeanParts) (f : Fate) → fate x o (kinds y) (roomy x w w′) ≡ f → outcome x o y w w′ ≡ ends.End x o y w w′ f
+by-fate : (x : Model) (o : Offsets) (y : List Float) (w : CovParts) (w′ : MeanParts) (f : Ending) → ending x o (kinds y) (roomy x w w′) ≡ f → outcome x o y w w′ ≡ ends.End x o y w w′ f
 unfolding outcome outcomeAt
 by-fate x o y w w′ f e = ap (ends.End x o y w w′) e
 

@@ -8,9 +8,9 @@ use lib.ListN.{length, replicate, length-map, length-replicate}
 use lib.Ieee.{Float}
 use Rattle.definition.specs.Num.{0ᶠ, zeros}
 use Rattle.definition.specs.Run.{anyOf}
-use Rattle.definition.specs.Inputs.{Model, Offsets, Kind, kindOf, isInfinity}
+use Rattle.definition.specs.Inputs.{Model, Offsets, Class, classOf, isInfinity}
 use Rattle.definition.specs.Refusals.{refusal}
-use Rattle.definition.specs.Outcome.{CovParts, MeanParts, CovOutcome, MeanOutcome, Fate, turned, silent, answered, fateOf, fate, numberOf, after, countsIn, loglikIn, kindsNeed, covNeed, meanNeed, covOf, countsOf, noInformation, covOutcome, meanOutcome, roomy}
+use Rattle.definition.specs.Outcome.{CovParts, MeanParts, CovOutcome, MeanOutcome, Ending, turned, silent, answered, endingOf, ending, numberOf, after, countsIn, loglikIn, kindsNeed, covNeed, meanNeed, covOf, countsOf, noInformation, covOutcome, meanOutcome, roomy}
 use Rattle.laws.specs.Passes.{lay-again}
 use Rattle.mean.specs.declared.Answer.{Answer}
 use Rattle.forward.specs.View.{Ran}
@@ -22,24 +22,24 @@ pub none : {k c : ℕ} → k ≤ 0 → k ≡ c → 0 ≡ c
 none h e = omega arith
 
 module _ (x : Model) (o : Offsets) (y : List Float) where
-  abbrev kinds : List Kind
-  kinds = map kindOf y
+  abbrev kinds : List Class
+  kinds = map classOf y
 
   -- refusals 1 to 11; `room`: every output is as long as needed
   abbrev pub number : Bool → ℕ
   number room = refusal x o (length y) (anyOf isInfinity kinds) room
 
-  pub by-number : (room : Bool) (k : ℕ) → k ≡ number room → fate x o kinds room ≡ fateOf k (noInformation (countsOf (covOf x kinds .0) kinds))
-  unfolding fate
+  pub by-number : (room : Bool) (k : ℕ) → k ≡ number room → ending x o kinds room ≡ endingOf k (noInformation (countsOf (covOf x kinds .0) kinds))
+  unfolding ending
   by-number room k e = rw (length-map, ← e) refl
 
-  pub is-turned : (room : Bool) (k : ℕ) → suc k ≡ number room → fate x o kinds room ≡ turned (suc k)
-  unfolding fateOf
+  pub is-turned : (room : Bool) (k : ℕ) → suc k ≡ number room → ending x o kinds room ≡ turned (suc k)
+  unfolding endingOf
   is-turned room k e = by-number room (suc k) e
 
   -- w and w′ are the parts as they were lent
   module _ (w : CovParts) (w′ : MeanParts) where
-    abbrev pub End : Fate → CovOutcome × MeanOutcome
+    abbrev pub End : Ending → CovOutcome × MeanOutcome
     End f = (covOutcome x f kinds w, meanOutcome x f o kinds y w′)
 
     pub turned-away : (k : ℕ) → Promise (End (turned (suc k))) (Refused (suc k)) w w′
@@ -47,16 +47,16 @@ module _ (x : Model) (o : Offsets) (y : List Float) where
     turned-away k = record { answer = refl; kinds = refl; cov = λ q. refl; mean = λ q. refl }
 
     module _ {a : Answer} {b : CovParts} {b′ : MeanParts} (r : Ran x o y a w b w′ b′) where
-      ended : (room t : Bool) → 0 ≡ number room → isSilent (a .heard) (a .news) ≡ t → fate x o kinds room ≡ fateOf 0 t
+      ended : (room t : Bool) → 0 ≡ number room → isSilent (a .heard) (a .news) ≡ t → ending x o kinds room ≡ endingOf 0 t
       unfolding isSilent noInformation
-      ended room t e h = by-number room 0 e ∙ ap (fateOf 0) (rw (r .answer) at h)
+      ended room t e h = by-number room 0 e ∙ ap (endingOf 0) (rw (r .answer) at h)
 
-      pub is-silent : (room : Bool) → 0 ≡ number room → isSilent (a .heard) (a .news) ≡ true → fate x o kinds room ≡ silent
-      unfolding fateOf
+      pub is-silent : (room : Bool) → 0 ≡ number room → isSilent (a .heard) (a .news) ≡ true → ending x o kinds room ≡ silent
+      unfolding endingOf
       is-silent room e h = ended room true e h
 
-      pub is-answered : (room : Bool) → 0 ≡ number room → isSilent (a .heard) (a .news) ≡ false → fate x o kinds room ≡ answered
-      unfolding fateOf
+      pub is-answered : (room : Bool) → 0 ≡ number room → isSilent (a .heard) (a .news) ≡ false → ending x o kinds room ≡ answered
+      unfolding endingOf
       is-answered room e h = ended room false e h
 
       pub answered-so : Promise (End answered) (Answered a) b b′

@@ -13,13 +13,13 @@ use lib.Ieee.{Float, nan, inf, binary64, odd, ofFields, ofBits, toBits, fits, is
 use lib.Ieee.Exact.{HasValue, odd-sign}
 use lib.Ieee.Positive.{positive, value-pos}
 use lib.Ieee.Bits.{ofBits-toBits}
-use Rattle.definition.specs.Root.{count}
+use Rattle.definition.specs.Root.{smallestsIn}
 use Rattle.laws.specs.Squares.{pow-lt-back}
 use Rattle.laws.specs.RootLaws.{count-val, positive-cases}
 use Rattle.float.specs.Inner.{Parted}
 
--- ---- the count of a value
-count-of : (x : Float) (s : Bool) (a : ℕ) → T (positive x) → HasValue x s a (2 ^ 1074) → (s ≡ false) × (count binary64 x ≡ a) × (0 < a)
+-- ---- how many smallest values a value is
+count-of : (x : Float) (s : Bool) (a : ℕ) → T (positive x) → HasValue x s a (2 ^ 1074) → (s ≡ false) × (smallestsIn binary64 x ≡ a) × (0 < a)
 count-of x s a p v =
     let plus : s ≡ false = positive-cases (λ (x : Float). HasValue x s a (2 ^ 1074) → s ≡ false) (λ m e. λ v. sym (v .0)) x p v in
     (plus, count-val binary64 x s a v, value-pos x a (2 ^ 1074) p (pow-pos 1074) (subst (λ (t : Bool). HasValue x t a (2 ^ 1074)) plus v))
@@ -32,7 +32,7 @@ Says (suc y) t n = (suc y < 2047) × (n ≡ (2 ^ 52 + t) * 2 ^ y)
 not-top : (y : ℕ) → y < 2048 → T (not (eqb y 2047)) → y < 2047
 not-top y h n = lt-of-le-ne (le-of-suc-le-suc h) (λ (e : y ≡ 2047). T-not (eqb y 2047) n (subst (λ (z : ℕ). T (eqb z 2047)) (sym e) tt))
 
-fields : (s : Bool) (y t : ℕ) (x : Float) → y < 2048 → T (positive x) → ofFields binary64 s y t ≡ x → (s ≡ false) × Says y t (count binary64 x) × (0 < count binary64 x)
+fields : (s : Bool) (y t : ℕ) (x : Float) → y < 2048 → T (positive x) → ofFields binary64 s y t ≡ x → (s ≡ false) × Says y t (smallestsIn binary64 x) × (0 < smallestsIn binary64 x)
 unfolding ofFields
 fields s zero t x Y p e =
     let v : HasValue x s (t * 1) (2 ^ 1074) = subst (λ (z : Float). HasValue z s (t * 1) (2 ^ 1074)) e (odd-sign 53 s t 0 1074) in
@@ -40,7 +40,7 @@ fields s zero t x Y p e =
     (c .0, c .1 ∙ mul-one t, subst (λ (n : ℕ). 0 < n) (sym (c .1)) (c .2))
 fields s (suc y) t x Y p e = go (eqb (suc y) 2047) (eqb t 0) refl e
   where
-    go : (b d : Bool) → eqb (suc y) 2047 ≡ b → cond b (cond d (inf s) nan) (odd 53 s (2 ^ 52 + t) y 1074) ≡ x → (s ≡ false) × ((suc y < 2047) × (count binary64 x ≡ (2 ^ 52 + t) * 2 ^ y)) × (0 < count binary64 x)
+    go : (b d : Bool) → eqb (suc y) 2047 ≡ b → cond b (cond d (inf s) nan) (odd 53 s (2 ^ 52 + t) y 1074) ≡ x → (s ≡ false) × ((suc y < 2047) × (smallestsIn binary64 x ≡ (2 ^ 52 + t) * 2 ^ y)) × (0 < smallestsIn binary64 x)
     go true true q e = absurd (subst (λ (z : Float). T (positive z)) (sym e) p)
     go true false q e = absurd (subst (λ (z : Float). T (positive z)) (sym e) p)
     go false d q e =
@@ -53,8 +53,8 @@ field-lt b = omega arith
 
 pub record Read (x : Float) (b : ℕ) : Type 0 where
   pub sign : b < 2 ^ 63
-  pub says : Says (b / 2 ^ 52) (b % 2 ^ 52) (count binary64 x)
-  pub some : 0 < count binary64 x
+  pub says : Says (b / 2 ^ 52) (b % 2 ^ 52) (smallestsIn binary64 x)
+  pub some : 0 < smallestsIn binary64 x
 
 read-of : (x : Float) (b : ℕ) → T (positive x) → ofBits binary64 b ≡ x → Read x b
 unfolding ofBits
@@ -63,7 +63,7 @@ read-of x b p e =
     let h : b < 2 ^ 63 = nleb→lt (2 ^ 63) b (subst (λ (c : Bool). T (not c)) (sym (f .0)) tt) in
     record {
       sign = h;
-      says = subst (λ (y : ℕ). Says y (b % 2 ^ 52) (count binary64 x)) (ap (λ (z : ℕ). z / 2 ^ 52) (mod-eq-of-lt h)) (f .1);
+      says = subst (λ (y : ℕ). Says y (b % 2 ^ 52) (smallestsIn binary64 x)) (ap (λ (z : ℕ). z / 2 ^ 52) (mod-eq-of-lt h)) (f .1);
       some = f .2;
     }
 
@@ -82,7 +82,7 @@ shift j h = sym (pow-add 2 (52 - j) j) ∙ ap (λ (x : ℕ). 2 ^ x) (back j h)
     back : (j : ℕ) → j < 52 → 52 - j + j ≡ 52
     back j h = omega arith
 
-low-parts : (x : Float) (b s j : ℕ) → count binary64 x ≡ b → 2 ^ j ≤ b → b < 2 ^ suc j → j < 52 → s ≡ 52 - j → Parted x (b * 2 ^ s % 2 ^ 64) (52 - s)
+low-parts : (x : Float) (b s j : ℕ) → smallestsIn binary64 x ≡ b → 2 ^ j ≤ b → b < 2 ^ suc j → j < 52 → s ≡ 52 - j → Parted x (b * 2 ^ s % 2 ^ 64) (52 - s)
 low-parts x b s j n lo hi J e =
     let least : 2 ^ 52 ≤ b * 2 ^ (52 - j) = subst (λ (y : ℕ). y ≤ b * 2 ^ (52 - j)) (mul-comm (2 ^ j) (2 ^ (52 - j)) ∙ shift j J) (mul-le-mul-right (2 ^ (52 - j)) lo) in
     let most : b * 2 ^ (52 - j) < 2 ^ 53 = subst (λ (y : ℕ). b * 2 ^ (52 - j) < 2 ^ y) (up-to j J) (shl-lt (suc j) (52 - j) hi) in
@@ -112,15 +112,15 @@ says-low (suc y) t n e s = absurd (none y e)
 
 -- how far to shift
 pub by : (x : Float) (b : ℕ) → Read x b → b / 2 ^ 52 ≡ 0 → (11 ≤ leadingZeros 64 b) × (leadingZeros 64 b - 11 ≤ 52)
-by x b r e = let n = says-low (b / 2 ^ 52) (b % 2 ^ 52) (count binary64 x) e (r .says) in let l = lead b (omega (arith, r .some)) e in (omega arith, omega arith)
+by x b r e = let n = says-low (b / 2 ^ 52) (b % 2 ^ 52) (smallestsIn binary64 x) e (r .says) in let l = lead b (omega (arith, r .some)) e in (omega arith, omega arith)
 
 pub parted-low : (x : Float) (b : ℕ) → Read x b → b / 2 ^ 52 ≡ 0 → Parted x (b * 2 ^ (leadingZeros 64 b - 11) % 2 ^ 64) (52 - (leadingZeros 64 b - 11))
 parted-low x b r e =
-    let n = says-low (b / 2 ^ 52) (b % 2 ^ 52) (count binary64 x) e (r .says) in
+    let n = says-low (b / 2 ^ 52) (b % 2 ^ 52) (smallestsIn binary64 x) e (r .says) in
     let l = lead b (omega (arith, r .some)) e in
     low-parts x b (leadingZeros 64 b - 11) (l .0) (omega arith) (l .2) (l .3) (l .4) (omega arith)
 
-says-high : (x : Float) (y t : ℕ) → (y ≡ 0 → ⊥) → t < 2 ^ 52 → Says y t (count binary64 x) → Parted x (t + 2 ^ 52) (y + 51)
+says-high : (x : Float) (y t : ℕ) → (y ≡ 0 → ⊥) → t < 2 ^ 52 → Says y t (smallestsIn binary64 x) → Parted x (t + 2 ^ 52) (y + 51)
 says-high x zero t n h s = absurd (n refl)
 says-high x (suc y) t n h s = record {
   least = omega arith;

@@ -17,7 +17,7 @@ use mir.Val.{toZ, ofZ, SFits}
 use mir.Facts.{toZ-pos}
 use mir.ValLaws.{toZ-ofZ}
 use Rattle.definition.specs.Num.{0ᶠ}
-use Rattle.definition.specs.Root.{count}
+use Rattle.definition.specs.Root.{smallestsIn}
 use Rattle.definition.specs.Log.{half, lnOf, logOf, logCount, reduced}
 use Rattle.laws.specs.Squares.{size-exact}
 use Rattle.laws.specs.RootLaws.{positive-cases}
@@ -39,9 +39,9 @@ round-digits d lo hi =
     ∙ ap (λ (x : ℕ). units binary64 false (nearest x (compare (d * 2 ^ 1074 % 2 ^ 1074 * 2) (2 ^ 1074))) 1022) (mul-div-cancel d (pow-pos 1074))
     ∙ ap (λ (x : ℕ). units binary64 false (nearest d (compare (x * 2) (2 ^ 1074))) 1022) (mul-mod-left d (2 ^ 1074))
 
-ln-positive : (x : Float) → T (positive x) → lnOf x ≡ logCount (count binary64 x)
+ln-positive : (x : Float) → T (positive x) → lnOf x ≡ logCount (smallestsIn binary64 x)
 unfolding lnOf
-ln-positive = positive-cases (λ (x : Float). lnOf x ≡ logCount (count binary64 x)) (λ m e. refl)
+ln-positive = positive-cases (λ (x : Float). lnOf x ≡ logCount (smallestsIn binary64 x)) (λ m e. refl)
 
 below-middle : (j : ℕ) (s : Float) → lt s (ofBits binary64 0x3FF8000000000000) ≡ true → logOf (minus j 1074) s ≡ reduced j s
 unfolding reduced ofBits
@@ -53,7 +53,7 @@ from-middle j s h = sym (ap (λ (b : Bool). cond b (logOf (minus j 1074) s) (log
 
 module _ {x : Float} {d j : ℕ} (a : Parted x d j) where
   abbrev n : ℕ
-  n = count binary64 x
+  n = smallestsIn binary64 x
 
   digits : size n ≡ suc j
   digits =

@@ -10,7 +10,7 @@ use lib.Pow.{pow-pos, pow-add, pow-mono, shl-lt}
 use lib.Ieee.Positive.{positive}
 use lib.Ieee.{Float, inf, binary64, ofBits, div}
 use Rattle.definition.specs.Num.{0ᶠ}
-use Rattle.definition.specs.Root.{count, sqrtIn, sqrtOf}
+use Rattle.definition.specs.Root.{smallestsIn, sqrtIn, sqrtOf}
 use Rattle.laws.specs.Squares.{IsRoot, NearRoot, next-sq, by-next, by-last, sq-lt-back, four-two, near-least, near-most, near-half}
 use Rattle.laws.specs.RootLaws.{root-at, sqrt-positive}
 use Rattle.float.specs.Inner.{Beside, Parted}
@@ -135,7 +135,7 @@ module _ {x : Float} {d j : ℕ} (a : Parted x d j) where
       let k = j / 2 + 485 in
       let J = a .small in
       bits-units r k (r-range h .0) (r-range h .1) (omega arith)
-      ∙ sym (root-at binary64 52 (count binary64 x) (d * 2 ^ (j % 2) * 2 ^ 52) k r refl (squared (count binary64 x) d j (a .value)) (mul-le-mul-right (2 ^ 52) m-least) (mul-lt-mul-of-pos-right m-most (pow-pos 52)) (unshifted h))
+      ∙ sym (root-at binary64 52 (smallestsIn binary64 x) (d * 2 ^ (j % 2) * 2 ^ 52) k r refl (squared (smallestsIn binary64 x) d j (a .value)) (mul-le-mul-right (2 ^ 52) m-least) (mul-lt-mul-of-pos-right m-most (pow-pos 52)) (unshifted h))
       ∙ sym (sqrt-positive binary64 x p)
 
 -- ---- the other values

@@ -7,7 +7,7 @@ use lib.Dec.{T, ltb}
 use lib.ListN.{getD}
 use lib.Ieee.{Float, nan, binary64, ofBits, round}
 use Rattle.definition.specs.Num.{tabFrom, tabulate}
-use Rattle.definition.specs.Root.{count}
+use Rattle.definition.specs.Root.{smallestsIn}
 use Rattle.definition.specs.Log.{coefficient}
 use Rattle.laws.specs.Lists.{vector-at}
 
@@ -27,13 +27,13 @@ entry k h = ap (λ (l : List Float). getD l k nan) rule ∙ vector-at 12 k coeff
 -- ---- the same rule with no word of rounding: 1 / (2 * i + 1) lies between the numbers half way from the entry to the value before it and to the value after it
 between : ℕ → ℕ → Bool
 between i b =
-    ltb ((count binary64 (ofBits binary64 (b - 1)) + count binary64 (ofBits binary64 b)) * (2 * i + 1)) (2 * 2 ^ 1074)
-    && ltb (2 * 2 ^ 1074) ((count binary64 (ofBits binary64 b) + count binary64 (ofBits binary64 (b + 1))) * (2 * i + 1))
+    ltb ((smallestsIn binary64 (ofBits binary64 (b - 1)) + smallestsIn binary64 (ofBits binary64 b)) * (2 * i + 1)) (2 * 2 ^ 1074)
+    && ltb (2 * 2 ^ 1074) ((smallestsIn binary64 (ofBits binary64 b) + smallestsIn binary64 (ofBits binary64 (b + 1))) * (2 * i + 1))
 
 every : ℕ → List ℕ → Bool
 every i [] = true
 every i (b ∷ bs) = between i b && every (suc i) bs
 
 nearest-all : T (every 0 patterns)
-unfolding every patterns between count ofBits
+unfolding every patterns between smallestsIn ofBits
 nearest-all = tt

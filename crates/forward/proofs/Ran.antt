@@ -13,7 +13,7 @@ use Rattle.definition.specs.Run.{count, join}
 use Rattle.definition.specs.Cov.{Cov, CovPeriod, covRun}
 use Rattle.definition.specs.Mean.{Mean, MeanPeriod, meanRun}
 use Rattle.definition.specs.Parts.{CovPart, predCov, predInf, filtCov, fStar, fInf, mStar, mInf, MeanPart, predMean, filtMean, innovations, isNews, kindBlock}
-use Rattle.definition.specs.Inputs.{Model, Offsets, kindOf, isGap, gapRows, noise, noiseOf, systemFrom, systemOf, startFrom, startOf, frameFrom}
+use Rattle.definition.specs.Inputs.{Model, Offsets, classOf, isGap, gapRows, noise, noiseOf, systemFrom, systemOf, startFrom, startOf, frameFrom}
 use Rattle.definition.specs.Outcome.{CovParts, MeanParts, kindsNeed, covNeed, meanNeed, kindsWritten, covWritten, meanWritten, decisionsOf, covOf, meanOf, countsOf, roomy}
 use Rattle.laws.specs.Accepted.{Roomy, room-of, as-long}
 use Rattle.laws.specs.Flat.{flatIn, decisionRows}
@@ -89,10 +89,10 @@ news-are k r ks₀ ks l =
 module _ (x : Model) (y : List Float) where
   -- the covariance pass's run
   abbrev covRan : List CovPeriod × Cov
-  covRan = covRun (systemFrom (x .p) (x .m) (x .zOnce) (x .zList) (x .h) (x .t) (noiseOf (x .m) (x .r) (x .rr) (x .q))) 0 (startFrom (x .m) (x .pStar) (x .flags)) (gapRows (x .n) (x .p) (map kindOf y))
+  covRan = covRun (systemFrom (x .p) (x .m) (x .zOnce) (x .zList) (x .h) (x .t) (noiseOf (x .m) (x .r) (x .rr) (x .q))) 0 (startFrom (x .m) (x .pStar) (x .flags)) (gapRows (x .n) (x .p) (map classOf y))
 
   abbrev run : List CovPeriod × Cov
-  run = covOf x (map kindOf y)
+  run = covOf x (map classOf y)
 
   cov-run : covRan ≡ run
   unfolding covOf systemOf noise startOf
@@ -102,7 +102,7 @@ module _ (x : Model) (y : List Float) where
       → decisionRows (x .n) (x .p) (x .m) (flatIn k a b c d) ≡ decisionsOf (run .0)
   unfolding covOf systemOf systemFrom kindsWritten covWritten
   rows ly {k} {k₀} {a} {a₀} {b} {b₀} {c} {c₀} {d} {d₀} lk la lb lc ld =
-      same (lk .is) (la .is) (lb .is) (lc .is) (ld .is) ∙ rows-back (x .p) (x .m) (run .0) (run-whole (systemOf x) (startOf x) (map kindOf y) (x .n) (x .p) (length-map y kindOf ∙ ly)) (x .n) _ _ _ _ _ (run-length (systemOf x) (startOf x) (map kindOf y) (x .n) (x .p))
+      same (lk .is) (la .is) (lb .is) (lc .is) (ld .is) ∙ rows-back (x .p) (x .m) (run .0) (run-whole (systemOf x) (startOf x) (map classOf y) (x .n) (x .p) (length-map y classOf ∙ ly)) (x .n) _ _ _ _ _ (run-length (systemOf x) (startOf x) (map classOf y) (x .n) (x .p))
     where
       same : {k k′ : List ℕ} {a a′ b b′ c c′ d d′ : List Float} → k ≡ k′ → a ≡ a′ → b ≡ b′ → c ≡ c′ → d ≡ d′ → decisionRows (x .n) (x .p) (x .m) (flatIn k a b c d) ≡ decisionRows (x .n) (x .p) (x .m) (flatIn k′ a′ b′ c′ d′)
       same e1 e2 e3 e4 e5 = cc
@@ -143,7 +143,7 @@ module _ (x : Model) (o : Offsets) (y : List Float) (dd heard news : ℕ) (a : A
   mean-part c filtMean = c .fm
   mean-part c innovations = c .vs
 
-  pub ran : length y ≡ x .n * x .p → CovPassed (covRan x y) → heard ≡ count not (map isGap (map kindOf y)) → news ≡ count isKept (take (x .n * x .p) ks) → MeanPassed meanRan → Ran x o y a (covParts pc₀ pi₀ fc₀ ks₀ fs₀ fi₀ ms₀ mi₀) (covParts pc pi fc ks fs fi ms mi) (meanParts pm₀ fm₀ vs₀) (meanParts pm fm vs)
+  pub ran : length y ≡ x .n * x .p → CovPassed (covRan x y) → heard ≡ count not (map isGap (map classOf y)) → news ≡ count isKept (take (x .n * x .p) ks) → MeanPassed meanRan → Ran x o y a (covParts pc₀ pi₀ fc₀ ks₀ fs₀ fi₀ ms₀ mi₀) (covParts pc pi fc ks fs fi ms mi) (meanParts pm₀ fm₀ vs₀) (meanParts pm fm vs)
   unfolding countsOf
   ran ly cp eh en mp =
       let c : CovPassed (run x y) = subst CovPassed (cov-run x y) cp in

@@ -4,7 +4,7 @@ use Prim.Native.Nat.{ℕ}
 use mathlib.Core.List.{List, map}
 use lib.Ieee.{Float}
 use Rattle.definition.specs.Parts.{CovPart, predCov, predInf, filtCov, fStar, fInf, mStar, mInf, MeanPart, predMean, filtMean, innovations}
-use Rattle.definition.specs.Inputs.{Model, Offsets, kindOf}
+use Rattle.definition.specs.Inputs.{Model, Offsets, classOf}
 use Rattle.definition.specs.Outcome.{CovParts, MeanParts, Counts, kindsNeed, covNeed, meanNeed, kindsWritten, covWritten, meanWritten, covOf, meanOf, countsOf, roomy}
 use Rattle.laws.specs.Passes.{Laid}
 use Rattle.laws.specs.Accepted.{Accepted}
@@ -40,7 +40,7 @@ pub record Fit (x : Model) (o : Offsets) (y : ℕ) (w : CovParts) (w′ : MeanPa
   pub accepted : Accepted x o y (roomy x w w′)
 
 pub record Ran (x : Model) (o : Offsets) (y : List Float) (a : Answer) (w b : CovParts) (w′ b′ : MeanParts) : Type 0 where
-  pub answer : a ≡ answerIn (countsOf (covOf x (map kindOf y) .0) (map kindOf y)) (meanOf x o (covOf x (map kindOf y) .0) y .1 .loglik)
-  pub kinds : Laid (kindsNeed x) (kindsWritten (covOf x (map kindOf y))) (w .kinds) (b .kinds)
-  pub cov : (q : CovPart) → Laid (covNeed x q) (covWritten (x .m) (covOf x (map kindOf y)) q) (w .part q) (b .part q)
-  pub mean : (q : MeanPart) → Laid (meanNeed x q) (meanWritten (meanOf x o (covOf x (map kindOf y) .0) y) q) (w′ q) (b′ q)
+  pub answer : a ≡ answerIn (countsOf (covOf x (map classOf y) .0) (map classOf y)) (meanOf x o (covOf x (map classOf y) .0) y .1 .loglik)
+  pub kinds : Laid (kindsNeed x) (kindsWritten (covOf x (map classOf y))) (w .kinds) (b .kinds)
+  pub cov : (q : CovPart) → Laid (covNeed x q) (covWritten (x .m) (covOf x (map classOf y)) q) (w .part q) (b .part q)
+  pub mean : (q : MeanPart) → Laid (meanNeed x q) (meanWritten (meanOf x o (covOf x (map classOf y) .0) y) q) (w′ q) (b′ q)

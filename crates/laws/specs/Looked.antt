@@ -10,7 +10,7 @@ use Rattle.definition.specs.Run.{count, join}
 use Rattle.definition.specs.Cov.{System, Cov, CovPeriod, period, covRun}
 use Rattle.definition.specs.Smooth.{lookOf}
 use Rattle.definition.specs.Parts.{predCov, predInf, fStar, fInf, mStar, mInf, covBlock}
-use Rattle.definition.specs.Inputs.{Model, Kind, gapRows, systemFrom, systemOf, startInf, startFrom, startOf}
+use Rattle.definition.specs.Inputs.{Model, Class, gapRows, systemFrom, systemOf, startInf, startFrom, startOf}
 use Rattle.definition.specs.Outcome.{kindsWritten, covWritten, covOf}
 use Rattle.laws.specs.Flat.{looks}
 use Rattle.laws.specs.Lists.{length-tab, length-scan}
@@ -23,7 +23,7 @@ nowhere : CovPeriod
 nowhere = record { diffuse = false; pred = []; predInf = []; decisions = []; filt = [] }
 
 -- the run over any system, from a state of the right sizes
-module _ (y : System) (c : Cov) (ks : List Kind) (n p : ℕ) (sized : Sized (y .m) c) (gaps : length ks ≡ n * p) where
+module _ (y : System) (c : Cov) (ks : List Class) (n p : ℕ) (sized : Sized (y .m) c) (gaps : length ks ≡ n * p) where
   whole : AllOf (λ c. Whole p (y .m) (c .decisions)) (covRun y 0 c (gapRows n p ks) .0)
   whole = run-whole y c ks n p gaps
 
@@ -60,7 +60,7 @@ unfolding startOf startFrom startInf
 start-sized x e = record { star = e; pinf = length-tab (x .m * x .m) 0 _ }
 
 -- the same of a call's run
-pub looked : (x : Model) (ks : List Kind) (dd : ℕ) {pc₀ pc pi₀ pi fs₀ fs fi₀ fi ms₀ ms mi₀ mi : List Float} {kinds₀ kinds : List ℕ} {k0 k1 k2 k3 k4 k5 k6 : ℕ} → length (x .pStar) ≡ x .m * x .m → length ks ≡ x .n * x .p → dd ≡ count (λ c. c .diffuse) (covOf x ks .0)
+pub looked : (x : Model) (ks : List Class) (dd : ℕ) {pc₀ pc pi₀ pi fs₀ fs fi₀ fi ms₀ ms mi₀ mi : List Float} {kinds₀ kinds : List ℕ} {k0 k1 k2 k3 k4 k5 k6 : ℕ} → length (x .pStar) ≡ x .m * x .m → length ks ≡ x .n * x .p → dd ≡ count (λ c. c .diffuse) (covOf x ks .0)
     → Laid k0 (covWritten (x .m) (covOf x ks) predCov) pc₀ pc
     → Laid k1 (covWritten (x .m) (covOf x ks) predInf) pi₀ pi
     → Laid k2 (kindsWritten (covOf x ks)) kinds₀ kinds

@@ -17,7 +17,7 @@ use lib.Ieee.Fits.{two, reach, and-l, and-r, up-pos, down-pos, odd-fits}
 use lib.Ieee.Exact.{HasValue, units-val}
 use lib.Ieee.Positive.{positive, positive-of-value}
 use lib.Ieee.Bits.{ofBits-toBits}
-use Rattle.definition.specs.Root.{isqrt, count, rootOf, sqrtIn}
+use Rattle.definition.specs.Root.{isqrt, smallestsIn, rootOf, sqrtIn}
 use Rattle.laws.specs.Squares.{NearRoot, Cmp, cmp, next-sq, twice-sq, by-next, by-last, sq-lt, sq-lt-back, four-two, four-pos, isqrt-is, near-is, one-near, near-least, near-most, pow-lt-back, size-above}
 
 -- ---- the statement
@@ -37,7 +37,7 @@ unsigned (fin s m e) = not s
 pub record Rounded (f : Format) (x r : Float) : Type 0 where
   pub held : T (fits f r)
   pub above : T (positive r)
-  pub nearer : (y : Float) → T (fits f y) → T (unsigned y) → Nearer (count f x * 2 ^ low f) (count f r) (count f y)
+  pub nearer : (y : Float) → T (fits f y) → T (unsigned y) → Nearer (smallestsIn f x * 2 ^ low f) (smallestsIn f r) (smallestsIn f y)
 
 -- what is finite and above zero has one form
 pub positive-cases : (P : Float → Type 0) → ((m : ℕ) (e : ℤ) → P (fin false (suc m) e)) → (x : Float) → T (positive x) → P x
@@ -123,8 +123,8 @@ whole-some : (f : Format) (m : ℕ) (e : ℤ) → Held f m e → Whole f (m * up
 whole-some f m (pos i) h = whole-up f m i (h .short) (h .small)
 whole-some f m (negsuc i) h = whole-down f m (suc i) (h .short) (h .deep) (h .small)
 
-whole : (f : Format) (y : Float) → T (fits f y) → T (unsigned y) → Whole f (count f y)
-unfolding count
+whole : (f : Format) (y : Float) → T (fits f y) → T (unsigned y) → Whole f (smallestsIn f y)
+unfolding smallestsIn
 whole f nan t u = absurd u
 whole f (inf s) t u = absurd u
 whole f (fin s zero e) t u =
@@ -243,8 +243,8 @@ module _ (p v r k Y : ℕ) (least : 2 ^ (p + p) ≤ v) (near : NearRoot v r) (gr
 
 -- ---- the theorem
 
-pub count-val : (f : Format) (x : Float) (s : Bool) (a : ℕ) → HasValue x s a (2 ^ low f) → count f x ≡ a
-unfolding count
+pub count-val : (f : Format) (x : Float) (s : Bool) (a : ℕ) → HasValue x s a (2 ^ low f) → smallestsIn f x ≡ a
+unfolding smallestsIn
 count-val f nan s a v = absurd v
 count-val f (inf t) s a v = absurd v
 count-val f (fin t m e) s a v = ap (λ (y : ℕ). y / down e) (v .1) ∙ mul-div-cancel a (down-pos e)
@@ -267,9 +267,9 @@ one-less binary32 = refl
 one-less binary64 = refl
 
 -- what is above zero is at least one smallest value
-count-pos : (f : Format) (x : Float) → T (fits f x) → T (positive x) → 0 < count f x
-unfolding count
-count-pos f x t p = positive-cases (λ (x : Float). T (fits f x) → 0 < count f x) some x p t
+count-pos : (f : Format) (x : Float) → T (fits f x) → T (positive x) → 0 < smallestsIn f x
+unfolding smallestsIn
+count-pos f x t p = positive-cases (λ (x : Float). T (fits f x) → 0 < smallestsIn f x) some x p t
   where
     some : (m : ℕ) (e : ℤ) → T (fits f (fin false (suc m) e)) → 0 < suc m * up e * 2 ^ low f / down e
     some m e t =
@@ -353,14 +353,14 @@ module _ (f : Format) (p n : ℕ) (P : prec f ≡ suc p) (some : 0 < n) (w : Who
   root-above : T (positive (rootOf f n))
   root-above = positive-of-value (rootOf f n) (r * 2 ^ k) (2 ^ low f) value (mul-pos (lt-of-lt-of-le (pow-pos p) (near-least v (2 ^ p) r (le-trans (le-of-eq (sym (pow-add 2 p p))) v-least) near)) (pow-pos k))
 
-  root-nearer : (y : Float) → T (fits f y) → T (unsigned y) → Nearer N (count f (rootOf f n)) (count f y)
+  root-nearer : (y : Float) → T (fits f y) → T (unsigned y) → Nearer N (smallestsIn f (rootOf f n)) (smallestsIn f y)
   root-nearer y t u =
-      subst (λ (M : ℕ). Nearer M (count f (rootOf f n)) (count f y)) (sym split)
-      (subst (λ (R : ℕ). Nearer (v * 4 ^ k) R (count f y)) (sym (count-val f (rootOf f n) false (r * 2 ^ k) value)) (nearer p v r k (count f y) v-least near (multiple f p k (count f y) P (whole f y t u))))
+      subst (λ (M : ℕ). Nearer M (smallestsIn f (rootOf f n)) (smallestsIn f y)) (sym split)
+      (subst (λ (R : ℕ). Nearer (v * 4 ^ k) R (smallestsIn f y)) (sym (count-val f (rootOf f n) false (r * 2 ^ k) value)) (nearer p v r k (smallestsIn f y) v-least near (multiple f p k (smallestsIn f y) P (whole f y t u))))
 
-pub sqrt-positive : (f : Format) (x : Float) → T (positive x) → sqrtIn f x ≡ rootOf f (count f x)
+pub sqrt-positive : (f : Format) (x : Float) → T (positive x) → sqrtIn f x ≡ rootOf f (smallestsIn f x)
 unfolding sqrtIn
-sqrt-positive f = positive-cases (λ (x : Float). sqrtIn f x ≡ rootOf f (count f x)) (λ m e. refl)
+sqrt-positive f = positive-cases (λ (x : Float). sqrtIn f x ≡ rootOf f (smallestsIn f x)) (λ m e. refl)
 
 pub correctly-rounded : (f : Format) (x : Float) → T (fits f x) → T (positive x) → Rounded f x (sqrtIn f x)
 correctly-rounded f x t u =
@@ -368,7 +368,7 @@ correctly-rounded f x t u =
     let w = whole f x t (no-sign x u) in
     let p = prec f - 1 in
     subst (Rounded f x) (sym (sqrt-positive f x u))
-    (record { held = root-held f p (count f x) (one-less f) some w; above = root-above f p (count f x) (one-less f) some w; nearer = root-nearer f p (count f x) (one-less f) some w })
+    (record { held = root-held f p (smallestsIn f x) (one-less f) some w; above = root-above f p (smallestsIn f x) (one-less f) some w; nearer = root-nearer f p (smallestsIn f x) (one-less f) some w })
 
 -- ---- there is one such value only
 
@@ -376,11 +376,11 @@ correctly-rounded f x t u =
 abbrev pattern : Format → ℕ → ℕ
 pattern f n = 0 + (size n - prec f) * hid f + n / 2 ^ (size n - prec f)
 
-bits : (f : Format) (x : Float) → T (positive x) → toBits f x ≡ pattern f (count f x)
-unfolding toBits count
-bits f = positive-cases (λ (x : Float). toBits f x ≡ pattern f (count f x)) (λ m e. refl)
+bits : (f : Format) (x : Float) → T (positive x) → toBits f x ≡ pattern f (smallestsIn f x)
+unfolding toBits smallestsIn
+bits f = positive-cases (λ (x : Float). toBits f x ≡ pattern f (smallestsIn f x)) (λ m e. refl)
 
-same-count : (f : Format) (x y : Float) → T (fits f x) → T (fits f y) → T (positive x) → T (positive y) → count f x ≡ count f y → x ≡ y
+same-count : (f : Format) (x y : Float) → T (fits f x) → T (fits f y) → T (positive x) → T (positive y) → smallestsIn f x ≡ smallestsIn f y → x ≡ y
 same-count f x y t u p q e = sym (ofBits-toBits f x t) ∙ ap (ofBits f) (bits f x p ∙ ap (pattern f) e ∙ sym (bits f y q)) ∙ ofBits-toBits f y u
 
 -- if the root is nearer to each of two than to the other, neither is less
@@ -395,4 +395,4 @@ only-one f x r t a b =
     let rt = a .nearer t (b .held) (no-sign t (b .above)) in
     let tr = b .nearer r (a .held) (no-sign r (a .above)) in
     same-count f r t (a .held) (b .held) (a .above) (b .above)
-    (le-antisymm (no-less (count f x * 2 ^ low f) (count f r) (count f t) rt tr) (no-less (count f x * 2 ^ low f) (count f t) (count f r) tr rt))
+    (le-antisymm (no-less (smallestsIn f x * 2 ^ low f) (smallestsIn f r) (smallestsIn f t) rt tr) (no-less (smallestsIn f x * 2 ^ low f) (smallestsIn f t) (smallestsIn f r) tr rt))

@@ -12,8 +12,8 @@ use borrow.Author.Tests.{lt-ltb, le-ltb, ltb-true, ltb-false}
 use Rattle.definition.specs.Num.{0ᶠ, zeros}
 use Rattle.definition.specs.Dense.{dot, matVec, matTVec, symmetrise}
 use Rattle.definition.specs.Run.{scan, chunks, count}
-use Rattle.definition.specs.Cov.{System, Cov, Fixed, Inner, Decision, skipped, usual, diffuse, CovPeriod, usually, usualTest, diffusely, diffuseTest, fStarOf, fInfOf, judge, verdict, elementOf, isLive, entered, ended, stepped, stepStar, stepInf, periodOf, period, covRun}
-use Rattle.definition.specs.Inputs.{Kind, isGap, gapRows}
+use Rattle.definition.specs.Cov.{System, Cov, Fixed, Inner, Decision, skipped, usual, diffuse, CovPeriod, usually, usualTest, diffusely, diffuseTest, fStarBy, fInfBy, judge, verdict, elementOf, isLive, entered, ended, stepped, stepStar, stepInf, periodOf, period, covRun}
+use Rattle.definition.specs.Inputs.{Class, isGap, gapRows}
 use Rattle.laws.specs.Lists.{Each, chunks-each, length-tab, length-scan, length-chunks}
 use Rattle.laws.specs.ReadBack.{AllOf, Shaped, Whole, scan-all}
 
@@ -41,7 +41,7 @@ diffusely-shaped : (m : ℕ) (z : List Float) (h : Float) (pre sd : List Float) 
 unfolding diffusely
 diffusely-shaped m z h pre sd again fresh unres star pinf root f m* e =
     let m∞ = matVec m pinf z in
-    let f∞ = fInfOf m z m∞ in
+    let f∞ = fInfBy m z m∞ in
     let u = matTVec m root z in
     cond-shaped
     m
@@ -56,7 +56,7 @@ judge-shaped : (m : ℕ) (z : List Float) (h : Float) (live : Bool) (pre sd : Li
 unfolding judge
 judge-shaped m z h live pre sd again fresh unres star pinf root =
     let m* = matVec m star z in
-    let f = fStarOf m z h m* in
+    let f = fStarBy m z h m* in
     let e = matVec-long m star z in
     cond-shaped
     m
@@ -87,7 +87,7 @@ each-all : (p : ℕ) (gs : List (List Bool)) → Each p gs → AllOf (λ g. leng
 each-all p [] h = tt
 each-all p (g ∷ gs) h = (h .0, each-all p gs (h .1))
 
-module _ (y : System) (c : Cov) (ks : List Kind) (n p : ℕ) where
+module _ (y : System) (c : Cov) (ks : List Class) (n p : ℕ) where
   pub run-whole : length ks ≡ n * p → AllOf (λ c. Whole p (y .m) (c .decisions)) (covRun y 0 c (gapRows n p ks) .0)
   unfolding covRun gapRows
   run-whole e = scan-all (period y) (λ g. length g ≡ p) (λ c. Whole p (y .m) (c .decisions)) (λ t c g h. period-whole y p t c g h) (chunks n p (map isGap ks)) 0 c (each-all p (chunks n p (map isGap ks)) (chunks-each n p (map isGap ks) (length-map ks isGap ∙ e)))

@@ -12,7 +12,7 @@ use Rattle.definition.specs.Num.{_⊕_, _⊗_, _⊘_, 0ᶠ, at, tabulate}
 use Rattle.definition.specs.Dense.{axpy, axpyAt, over, overAt, row}
 use Rattle.definition.specs.Run.{scan, pairs}
 use Rattle.definition.specs.Cov.{Decision, skipped}
-use Rattle.definition.specs.Mean.{Mean, told, heed, usualTerm, diffuseTerm, hear, meanStep, meanEnded, meanPeriodOf}
+use Rattle.definition.specs.Mean.{Mean, vOf, heed, usualTerm, diffuseTerm, hear, meanStep, meanEnded, meanPeriodOf}
 use Rattle.laws.specs.Lists.{tab-at, tab-cong, vector-at, length-tab, pairs-at, scan-next}
 use Rattle.laws.specs.Flat.{Flat, decisionOf, readBack, decisionsAt, blockAt, kind-diffuse}
 use Rattle.laws.specs.Backward.{part-block, part-row}
@@ -58,18 +58,18 @@ followed-at i k design gains {m} hd hg h = rw (part-row i m design hd, part-bloc
 -- what is heard of element i by the record at place k: v, and the state after it
 module _ (m : ℕ) (r : Flat) (design ds : List Float) (i k : ℕ) (a : List Float) (l x : Float) where
   pub heard-none : getD (r .kinds) k 0 ≡ 0 → _≡_ (0ᶠ, meanIn m a l) (hear m design ds i (meanIn m a l) (readBack m r k, x))
-  unfolding hear readBack decisionOf told heed
+  unfolding hear readBack decisionOf vOf heed
   heard-none e = rw e refl
 
   module _ {v l′ : Float} {a′ : List Float} where
     pub heard-usual : getD (r .kinds) k 0 ≡ 1 → Followed m (row m design i) (at ds i) x (blockAt m (r .mStars) k) (at (r .fStars) k) a a′ v → l′ ≡ usualTerm l (at (r .fStars) k) v
         → _≡_ (v, meanIn m a′ l′) (hear m design ds i (meanIn m a l) (readBack m r k, x))
-    unfolding hear readBack decisionOf told heed blockAt
+    unfolding hear readBack decisionOf vOf heed blockAt
     heard-usual e h el = rw (e, h .moved, el, h .is) refl
 
     pub heard-diffuse : (getD (r .kinds) k 0 ≡ 0 → ⊥) → (getD (r .kinds) k 0 ≡ 1 → ⊥) → Followed m (row m design i) (at ds i) x (blockAt m (r .mInfs) k) (at (r .fInfs) k) a a′ v → l′ ≡ diffuseTerm l (at (r .fInfs) k)
         → _≡_ (v, meanIn m a′ l′) (hear m design ds i (meanIn m a l) (readBack m r k, x))
-    unfolding hear readBack told heed blockAt
+    unfolding hear readBack vOf heed blockAt
     heard-diffuse n o h el = rw (kind-diffuse (getD (r .kinds) k 0) (at (r .fStars) k) (at (r .fInfs) k) (blockAt m (r .mStars) k) (blockAt m (r .mInfs) k) n o, h .moved, el, h .is) refl
 
 -- ---- the elements of a period, in order

@@ -11,7 +11,7 @@ use Rattle.definition.specs.Cov.{Decision, CovPeriod}
 use Rattle.definition.specs.Mean.{Frame, Shift, Mean, MeanPeriod, hear, meanStep, meanEnded, meanPeriodOf, meanPeriod, meanRun}
 use Rattle.definition.specs.Smooth.{meanLookOf}
 use Rattle.definition.specs.Parts.{predMean, innovations, meanBlock}
-use Rattle.definition.specs.Inputs.{Model, Offsets, Kind, systemFrom, systemOf, frameFrom, frameOf, startOf}
+use Rattle.definition.specs.Inputs.{Model, Offsets, Class, systemFrom, systemOf, frameFrom, frameOf, startOf}
 use Rattle.definition.specs.Outcome.{decisionsOf, covOf, meanOf, meanWritten}
 use Rattle.laws.specs.Flat.{meanLooks}
 use Rattle.laws.specs.Lists.{Each, length-tab, length-scan, length-chunks, chunks-each}
@@ -43,7 +43,7 @@ module _ (y : Frame) (x : Shift) (p : ℕ) where
 
 -- ---- a call's run
 
-module _ (x : Model) (o : Offsets) (ks : List Kind) (y : List Float) (gaps : length ks ≡ x .n * x .p) (readings : length y ≡ x .n * x .p) where
+module _ (x : Model) (o : Offsets) (ks : List Class) (y : List Float) (gaps : length ks ≡ x .n * x .p) (readings : length y ≡ x .n * x .p) where
   cov-whole : AllOf (λ c. Whole (x .p) (x .m) (c .decisions)) (covOf x ks .0)
   unfolding covOf systemOf systemFrom
   cov-whole = run-whole (systemOf x) (startOf x) ks (x .n) (x .p) gaps

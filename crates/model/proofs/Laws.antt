@@ -11,7 +11,7 @@ use lib.Ieee.{Float, nan, inf, fin}
 use Rattle.definition.specs.Num.{isInfinite}
 use Rattle.definition.specs.Run.{anyOf}
 use Rattle.definition.specs.Dense.{product, transpose, symmetrise}
-use Rattle.definition.specs.Inputs.{isInfinity, kindOf, noiseOf, startInf, startRoot, startFrom}
+use Rattle.definition.specs.Inputs.{isInfinity, classOf, noiseOf, startInf, startRoot, startFrom}
 use Rattle.laws.specs.Lists.{place-lt}
 use Rattle.laws.specs.Any.{of-cong, of-map}
 use Rattle.laws.specs.Accepted.{InRange}
@@ -34,14 +34,14 @@ pub product-some : {a b : ℕ} → 0 < a → 0 < b → 0 < a * b
 product-some {a} {b} h g = mul-le-mul {n₁ = 1} {m₁ = 1} {n₂ = a} {m₂ = b} h g
 
 -- an infinite reading, by its kind
-infinite-kind : (x : Float) → isInfinite x ≡ isInfinity (kindOf x)
-unfolding isInfinite kindOf
+infinite-kind : (x : Float) → isInfinite x ≡ isInfinity (classOf x)
+unfolding isInfinite classOf
 infinite-kind nan = refl
 infinite-kind (inf s) = refl
 infinite-kind (fin s m e) = refl
 
-pub infinite-kinds : (y : List Float) → anyOf isInfinite y ≡ anyOf isInfinity (map kindOf y)
-infinite-kinds y = of-cong isInfinite (λ (x : Float). isInfinity (kindOf x)) y infinite-kind ∙ sym (of-map isInfinity kindOf y)
+pub infinite-kinds : (y : List Float) → anyOf isInfinite y ≡ anyOf isInfinity (map classOf y)
+infinite-kinds y = of-cong isInfinite (λ (x : Float). isInfinity (classOf x)) y infinite-kind ∙ sym (of-map isInfinity classOf y)
 
 -- sizes in range: their products are small
 pub record Small (p m r n : ℕ) : Type 0 where

@@ -6,7 +6,7 @@ ghost use Prim.Native.Nat.{_<_};
 ghost use lib.ListN.{length};
 ghost use Rattle.definition.specs.Num.{ent};
 ghost use Rattle.definition.specs.Run.{anyOf, anyTo};
-ghost use Rattle.definition.specs.Inputs.{isFlagged, isInfinity, kindOf};
+ghost use Rattle.definition.specs.Inputs.{isFlagged, isInfinity, classOf};
 ghost use Rattle.definition.specs.Refusals.{
   notFinite,
   negative,
@@ -49,7 +49,7 @@ pub fn bad_start(c: &[f64], d: &[f64], a1: &[f64], p_star: &[f64]) -> bool
 }
 
 pub fn any_infinite(y: &[f64]) -> bool
-    ensures { λ r. ⌜ r ≡ anyOf isInfinity (map kindOf (now (y .entry))) ⌝ }
+    ensures { λ r. ⌜ r ≡ anyOf isInfinity (map classOf (now (y .entry))) ⌝ }
 {
     let mut found = false;
     for i in 0..y.len() {

@@ -4,7 +4,7 @@ ghost use mathlib.Core.List.{map};
 ghost use Prim.Native.Nat.{_<_, _≤_, _-_, _*_, _/_, min};
 ghost use lib.ListN.{length};
 ghost use Rattle.definition.specs.Run.{anyOf};
-ghost use Rattle.definition.specs.Inputs.{designFrom, noiseOf, startFrom, isInfinity, kindOf};
+ghost use Rattle.definition.specs.Inputs.{designFrom, noiseOf, startFrom, isInfinity, classOf};
 ghost use Rattle.definition.specs.Refusals.{notFinite, refusal};
 ghost use Rattle.dense.specs.Views.{mat};
 ghost use Rattle.model.specs.Given.{modelOf, offsetsOf};
@@ -38,7 +38,7 @@ pub fn refusal(
     y: &[f64],
     room: bool,
 ) -> u8
-    ensures { λ k. ⌜ k ≡ refusal (modelOf p m r n (now (z .entry)) (now (zs .entry)) (now (h .entry)) (now (t .entry)) (now (rr .entry)) (now (q .entry)) (now («p_star» .entry)) (now (flags .entry))) (offsetsOf (now (c .entry)) (now (d .entry)) (now (a1 .entry))) (length (now (y .entry))) (anyOf isInfinity (map kindOf (now (y .entry)))) room ⌝ }
+    ensures { λ k. ⌜ k ≡ refusal (modelOf p m r n (now (z .entry)) (now (zs .entry)) (now (h .entry)) (now (t .entry)) (now (rr .entry)) (now (q .entry)) (now («p_star» .entry)) (now (flags .entry))) (offsetsOf (now (c .entry)) (now (d .entry)) (now (a1 .entry))) (length (now (y .entry))) (anyOf isInfinity (map classOf (now (y .entry)))) room ⌝ }
 {
     if lengths::outside(p, m, r, n) {
         return 1;

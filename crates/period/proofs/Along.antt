@@ -11,7 +11,7 @@ use lib.Seq.{take-all}
 use lib.Ieee.{Float, nan, inf, fin, isNan}
 use Rattle.definition.specs.Dense.{row}
 use Rattle.definition.specs.Run.{scan, join}
-use Rattle.definition.specs.Inputs.{kindOf, isGap}
+use Rattle.definition.specs.Inputs.{classOf, isGap}
 use Rattle.definition.specs.Cov.{Inner, Fixed, Decision, skipped, usual, diffuse, elementOf, none-yet}
 use Rattle.definition.specs.Parts as parts
 use Rattle.definition.specs.Parts.{kindNo, mStarOf, mInfOf}
@@ -28,18 +28,18 @@ use Rattle.period.specs.Views.{Ran, gapsOf, stopsOf, pastOf, upTo, Flats
 
 -- ---- the readings: a NaN is a gap
 
-gap-is : (x : Float) → isNan x ≡ isGap (kindOf x)
-unfolding kindOf isNan
+gap-is : (x : Float) → isNan x ≡ isGap (classOf x)
+unfolding classOf isNan
 gap-is nan = refl
 gap-is (inf s) = refl
 gap-is (fin s m e) = refl
 
 pub gaps-at : (y : List Float) (i : ℕ) → getD (gapsOf y) i true ≡ isNan (getD y i nan)
-unfolding kindOf
-gaps-at y i = List·getD-map isGap (map kindOf y) i (kindOf nan) ∙ ap isGap (List·getD-map kindOf y i nan) ∙ sym (gap-is (getD y i nan))
+unfolding classOf
+gaps-at y i = List·getD-map isGap (map classOf y) i (classOf nan) ∙ ap isGap (List·getD-map classOf y i nan) ∙ sym (gap-is (getD y i nan))
 
 gaps-long : (y : List Float) → length (gapsOf y) ≡ length y
-gaps-long y = length-map (map kindOf y) isGap ∙ length-map y kindOf
+gaps-long y = length-map (map classOf y) isGap ∙ length-map y classOf
 
 -- ---- the records
 

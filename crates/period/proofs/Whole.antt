@@ -7,7 +7,7 @@ use native.Mathlib.Nat.{le-of-suc-le-suc, not-suc-le-zero}
 use lib.ListN.{take, replicate}
 use lib.Ieee.{Float}
 use Rattle.definition.specs.Num.{_>ᶠ_, rank-tol}
-use Rattle.definition.specs.Dense.{mul, tr, plus, sandwich, symmetrise, frobSq}
+use Rattle.definition.specs.Dense.{mul, transposed, plus, sandwich, symmetrise, frobSq}
 use Rattle.definition.specs.Num.{zeros}
 use Rattle.dense.specs.Views.{vec, mat, rect}
 use Rattle.definition.specs.Cov.{Cov, isLive, entered, stepStar, stepInf, stepped}
@@ -40,7 +40,7 @@ module _ (m : ℕ) (p : List Float) where
   entered-no e = e
 
 module _ (m : ℕ) (t p : List Float) {a c : List Float} where
-  pub by-t : a ≡ mul m t p → c ≡ mul m a (tr m t) → c ≡ sandwich m t p
+  pub by-t : a ≡ mul m t p → c ≡ mul m a (transposed m t) → c ≡ sandwich m t p
   unfolding sandwich
   by-t e g = cc
 

@@ -7,7 +7,7 @@ use lib.Dec.{eqb}
 use lib.ListN.{take, length}
 use lib.Ieee.{Float}
 use Rattle.definition.specs.Run.{scan, join}
-use Rattle.definition.specs.Inputs.{kindOf, isGap}
+use Rattle.definition.specs.Inputs.{classOf, isGap}
 use Rattle.definition.specs.Cov.{Decision, Inner, Fixed, Cov, elementOf, entered, isLive, none-yet}
 use Rattle.definition.specs.Parts as parts
 use Rattle.definition.specs.Parts.{kindNo, mStarOf, mInfOf}
@@ -46,7 +46,7 @@ pub record Begun (m : ℕ) (live : Bool) (p∞ q∞ : List Float) (r : Bool) : T
 -- ---- the stretches
 
 abbrev pub gapsOf : List Float → List Bool
-gapsOf ys = map isGap (map kindOf ys)
+gapsOf ys = map isGap (map classOf ys)
 
 -- element i of a period of p, with n readings
 pub record Sizes (p m i n : ℕ) : Type 0 where

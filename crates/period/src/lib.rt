@@ -10,7 +10,7 @@ ghost use Rattle.definition.specs.Num.{zeros};
 ghost use Rattle.definition.specs.Run.{scan};
 ghost use Rattle.definition.specs.Dense.{sandwich};
 ghost use Rattle.definition.specs.Cov.{elementOf, isLive, stepStar, stepInf, stepped};
-ghost use Rattle.definition.specs.Inputs.{kindOf, isGap};
+ghost use Rattle.definition.specs.Inputs.{classOf, isGap};
 ghost use Rattle.dense.specs.Views.{mat};
 ghost use Rattle.star.specs.Views.{Sound};
 ghost use Rattle.element.specs.Views.{notes, books, fixedOf, Known};
@@ -310,7 +310,7 @@ pub fn elements(
 )
     requires { ⌜ (p ≤ 8) × ((m ≤ 8) × (length (now ys) ≡ p)) ⌝ }
     ensures { λ _. ⌜ Ran p m (scan (elementOf p m (mat p (now (hs .entry))) (fixedOf p m live (now (design .entry)) (now (pre .entry)) (now (unres .entry)))) 0
-        (startOf m (now (star .entry)) (now («p_inf» .entry)) (now (root .entry))) (map isGap (map kindOf (now (ys .entry)))))
+        (startOf m (now (star .entry)) (now («p_inf» .entry)) (now (root .entry))) (map isGap (map classOf (now (ys .entry)))))
         (now (kinds .exit)) (now (fs .exit)) (now (fi .exit)) (now (ms .exit)) (now (mi .exit)) (now (star .exit)) (now («p_inf» .exit)) (now (root .exit)) ⌝ }
 {
     let none = [0.0; 8];

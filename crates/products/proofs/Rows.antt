@@ -7,7 +7,7 @@ use native.Mathlib.Numerals.{add-one}
 use lib.Ieee.{Float}
 use lib.ListN.{replicate}
 use Rattle.definition.specs.Num.{0ᶠ, tabulate, at, ent, sumTo}
-use Rattle.definition.specs.Dense.{productTerm, productAt, tr}
+use Rattle.definition.specs.Dense.{productTerm, productAt, transposed}
 use Rattle.laws.specs.Lists.{vector-at, tab-cong}
 use Rattle.dense.specs.Views.{vec}
 use Rattle.products.specs.Rows.{rowMoreAt, rowTo}
@@ -34,5 +34,5 @@ module _ (m : ℕ) (a b : List Float) (i : ℕ) where
   pub row-entry : (j : ℕ) (r : List Float) {v : Float} → j < m → vec m r ≡ tabulate m (productAt m m a b i) → v ≡ at (vec m r) j → v ≡ productAt m m a b i j
   row-entry j r h e q = q ∙ ap (λ (y : List Float). at y j) e ∙ vector-at m j (productAt m m a b i) h
 
-pub turned : (m i l : ℕ) (a : List Float) {x : Float} → i < m → l < m → x ≡ ent m a l i → x ≡ ent m (tr m a) i l
+pub turned : (m i l : ℕ) (a : List Float) {x : Float} → i < m → l < m → x ≡ ent m a l i → x ≡ ent m (transposed m a) i l
 turned m i l a hi hl e = e ∙ sym (transpose-at m m i l a hi hl)

@@ -2,7 +2,7 @@
 ghost use mathlib.Core.Path.{_≡_};
 ghost use Prim.Native.Nat.{_≤_, _<_};
 ghost use Rattle.definition.specs.Num.{tabulate};
-ghost use Rattle.definition.specs.Dense.{product, productAt, mul, tr, transpose, sandwich, quad};
+ghost use Rattle.definition.specs.Dense.{product, productAt, mul, transposed, transpose, sandwich, quad};
 ghost use Rattle.dense.specs.Views.{vec, mat, rect};
 ghost use Rattle.dense.specs.Places.{Sizes, Entry};
 ghost use Rattle.products.specs.Rows.{rowMoreAt};
@@ -182,7 +182,7 @@ fn product_row(a: &[f64; 64], b: &[f64; 64], m: usize, i: usize) -> [f64; 8]
 // Row i of A' B.
 fn t_product_row(a: &[f64; 64], b: &[f64; 64], m: usize, i: usize) -> [f64; 8]
     requires { ⌜ (m ≤ 8) × (i < m) ⌝ }
-    ensures { λ r. ⌜ vec m r ≡ tabulate m (productAt m m (tr m (mat m (now (a .entry)))) (mat m (now (b .entry))) i) ⌝ }
+    ensures { λ r. ⌜ vec m r ≡ tabulate m (productAt m m (transposed m (mat m (now (a .entry)))) (mat m (now (b .entry))) i) ⌝ }
 {
     let mut r = [0.0; 8];
     for l in 0..m {
@@ -206,7 +206,7 @@ fn product_rows(out: &mut [f64; 64], a: &[f64; 64], b: &[f64; 64], m: usize)
 
 fn t_product_rows(out: &mut [f64; 64], a: &[f64; 64], b: &[f64; 64], m: usize)
     requires { ⌜ m ≤ 8 ⌝ }
-    ensures { λ _. ⌜ mat m (now (out .exit)) ≡ mul m (tr m (mat m (now (a .entry)))) (mat m (now (b .entry))) ⌝ }
+    ensures { λ _. ⌜ mat m (now (out .exit)) ≡ mul m (transposed m (mat m (now (a .entry)))) (mat m (now (b .entry))) ⌝ }
 {
     dense::sized(out);
     for i in 0..m {
@@ -234,7 +234,7 @@ pub fn mul_into(out: &mut [f64; 64], a: &[f64; 64], b: &[f64; 64], m: usize)
 // A' B of m by m.
 pub fn t_mul_into(out: &mut [f64; 64], a: &[f64; 64], b: &[f64; 64], m: usize)
     requires { ⌜ m ≤ 8 ⌝ }
-    ensures { λ _. ⌜ mat m (now (out .exit)) ≡ mul m (tr m (mat m (now (a .entry)))) (mat m (now (b .entry))) ⌝ }
+    ensures { λ _. ⌜ mat m (now (out .exit)) ≡ mul m (transposed m (mat m (now (a .entry)))) (mat m (now (b .entry))) ⌝ }
 {
     match m {
         1 => t_product_rows(out, a, b, 1),

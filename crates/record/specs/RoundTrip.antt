@@ -5,7 +5,7 @@ use mathlib.Core.List.{List}
 use lib.Ieee.{Float}
 use Rattle.definition.specs.Num.{0ᶠ}
 use Rattle.definition.specs.Cov.{Decision, skipped, usual, diffuse}
-use Rattle.definition.specs.Mean.{told}
+use Rattle.definition.specs.Mean.{vOf}
 use Rattle.definition.specs.Parts.{kindNo, fStarOf, fInfOf}
 use Rattle.record.specs.Records.{recordOf, recordFrom, flatOf, flatKind, kindFrom}
 use Rattle.record.specs.declared.Kind.{Kind}
@@ -49,15 +49,15 @@ back-and-flat x h = forth (x .kind) (x .v) (x .«f_star») (x .«f_inf») h
 abbrev pub flatBy : Decision → Float → FlatRecord
 flatBy d v = of (kindNo d) v (fStarOf d) (fInfOf d)
 
-pub proper : (m : ℕ) (z : List Float) (c : Float) (a : List Float) (reading : Float) (d : Decision) → Proper (kindNo d) (told m z c a reading d) (fStarOf d) (fInfOf d)
-unfolding told
+pub proper : (m : ℕ) (z : List Float) (c : Float) (a : List Float) (reading : Float) (d : Decision) → Proper (kindNo d) (vOf m z c a reading d) (fStarOf d) (fInfOf d)
+unfolding vOf
 proper m z c a reading skipped = (refl, refl, refl)
 proper m z c a reading (usual f m*) = refl
 proper m z c a reading (diffuse f f∞ m* m∞) = tt
 
 -- so what it writes comes back
-pub run-and-back : (m : ℕ) (z : List Float) (c : Float) (a : List Float) (reading : Float) (d : Decision) → let x = flatBy d (told m z c a reading d) in flatOf (recordFrom x) ≡ x
-run-and-back m z c a reading d = back-and-flat (flatBy d (told m z c a reading d)) (proper m z c a reading d)
+pub run-and-back : (m : ℕ) (z : List Float) (c : Float) (a : List Float) (reading : Float) (d : Decision) → let x = flatBy d (vOf m z c a reading d) in flatOf (recordFrom x) ≡ x
+run-and-back m z c a reading d = back-and-flat (flatBy d (vOf m z c a reading d)) (proper m z c a reading d)
 
 -- and the record is the element's own
 pub by-decision : (d : Decision) (v : Float) → recordFrom (flatBy d v) ≡ recordOf d v

@@ -10,9 +10,9 @@ use lib.Dec.{leb, ltb}
 use lib.Ieee.{Float}
 use borrow.Author.Tests.{ltb-true, ltb-false, lt-ltb, le-ltb, lt-leb, le-leb, ne-eqb}
 use Rattle.definition.specs.Run.{anyOf}
-use Rattle.definition.specs.Inputs.{Model, Offsets, kindOf, isInfinity}
+use Rattle.definition.specs.Inputs.{Model, Offsets, classOf, isInfinity}
 use Rattle.definition.specs.Refusals.{outside, badLength, refusal, tests, firstOf}
-use Rattle.definition.specs.Outcome.{CovParts, MeanParts, CovOutcome, MeanOutcome, SmoothedCov, SmoothedMean, Fate, kindsNeed, roomy, roomySmoothed, fate, after, covOutcome, meanOutcome, outcome, outcomeAt, smoothedCov, smoothedMean, smoothOutcome, smoothOutcomeAt}
+use Rattle.definition.specs.Outcome.{CovParts, MeanParts, CovOutcome, MeanOutcome, SmoothedCov, SmoothedMean, Ending, kindsNeed, roomy, roomySmoothed, ending, after, covOutcome, meanOutcome, outcome, outcomeAt, smoothedCov, smoothedMean, smoothOutcome, smoothOutcomeAt}
 use Rattle.model.specs.Lengths.{rooms-are, rooms-smoothed-are, by-room, by-room-smoothed}
 use Rattle.mean.specs.declared.Answer.{Answer}
 use Rattle.filter.specs.declared.Outcome.{Outcome}
@@ -102,13 +102,13 @@ module _ (x : Model) (o : Offsets) (y : List Float) (have : ℕ) where
     pub few-so : few ≡ true → Promise (outcomeListed x o y w w′ have) (Refused 2) w w′
     unfolding outcomeListed fateListed
     few-so e =
-        subst (λ (f : Fate). Promise (ends.End x o y w w′ f) (Refused 2) w w′)
+        subst (λ (f : Ending). Promise (ends.End x o y w w′ f) (Refused 2) w w′)
         (sym (ends.is-turned x o y (roomy x w w′ && leb (kindsNeed x) have) 1 (two (roomy x w w′) e))) (ends.turned-away x o y w w′ 1)
 
     same : few ≡ false → outcome x o y w w′ ≡ outcomeListed x o y w w′ have
-    unfolding outcomeListed fateListed outcome outcomeAt fate
+    unfolding outcomeListed fateListed outcome outcomeAt ending
     same e =
-        let h = by-room x o (length (map kindOf y)) (anyOf isInfinity (map kindOf y)) w w′ {room = roomy x w w′ && leb (kindsNeed x) have} (λ s. has-room (roomy x w w′) e s ∙ rooms-are x w w′) in
+        let h = by-room x o (length (map classOf y)) (anyOf isInfinity (map classOf y)) w w′ {room = roomy x w w′ && leb (kindsNeed x) have} (λ s. has-room (roomy x w w′) e s ∙ rooms-are x w w′) in
         rw h refl
 
     pub enough-so : (r : Outcome) (b : CovParts) (b′ : MeanParts) → few ≡ false → Promise (outcome x o y w w′) r b b′ → Promise (outcomeListed x o y w w′ have) r b b′
@@ -116,24 +116,24 @@ module _ (x : Model) (o : Offsets) (y : List Float) (have : ℕ) where
 
     -- the same of the smoother's call
     module _ (sc sm : List Float) where
-      abbrev SmoothEnd : Fate → SmoothedCov × SmoothedMean
+      abbrev SmoothEnd : Ending → SmoothedCov × SmoothedMean
       SmoothEnd f = (
-        record { filter = covOutcome x f (map kindOf y) w; smoothed = smoothedCov x f (map kindOf y) sc },
-        record { filter = meanOutcome x f o (map kindOf y) y w′; smoothed = smoothedMean x f o (map kindOf y) y sm },
+        record { filter = covOutcome x f (map classOf y) w; smoothed = smoothedCov x f (map classOf y) sc },
+        record { filter = meanOutcome x f o (map classOf y) y w′; smoothed = smoothedMean x f o (map classOf y) y sm },
       )
 
       pub few-smooth-so : few ≡ true → PromiseSmooth (smoothOutcomeListed x o y w w′ sc sm have) (Refused 2) w w′ sm sc
       unfolding smoothOutcomeListed fateListed smoothedCov smoothedMean after
       few-smooth-so e =
           let room = roomySmoothed x w w′ sc sm in
-          subst (λ (f : Fate). PromiseSmooth (SmoothEnd f) (Refused 2) w w′ sm sc)
+          subst (λ (f : Ending). PromiseSmooth (SmoothEnd f) (Refused 2) w w′ sm sc)
           (sym (ends.is-turned x o y (room && leb (kindsNeed x) have) 1 (two room e))) (record { filter = ends.turned-away x o y w w′ 1; mean = refl; cov = refl })
 
       same-smooth : few ≡ false → smoothOutcome x o y w w′ sc sm ≡ smoothOutcomeListed x o y w w′ sc sm have
-      unfolding smoothOutcomeListed fateListed smoothOutcome smoothOutcomeAt fate
+      unfolding smoothOutcomeListed fateListed smoothOutcome smoothOutcomeAt ending
       same-smooth e =
           let room = roomySmoothed x w w′ sc sm in
-          let h = by-room-smoothed x o (length (map kindOf y)) (anyOf isInfinity (map kindOf y)) w w′ sm sc {room = roomy x w w′} {both = room && leb (kindsNeed x) have} (λ _. rooms-are x w w′) (λ s. has-room room e s ∙ rooms-smoothed-are x w w′ sc sm) in
+          let h = by-room-smoothed x o (length (map classOf y)) (anyOf isInfinity (map classOf y)) w w′ sm sc {room = roomy x w w′} {both = room && leb (kindsNeed x) have} (λ _. rooms-are x w w′) (λ s. has-room room e s ∙ rooms-smoothed-are x w w′ sc sm) in
           rw h refl
 
       pub enough-smooth-so : (r : Outcome) (b : CovParts) (b′ : MeanParts) (sm′ sc′ : List Float) → few ≡ false → PromiseSmooth (smoothOutcome x o y w w′ sc sm) r b b′ sm′ sc′ → PromiseSmooth (smoothOutcomeListed x o y w w′ sc sm have) r b b′ sm′ sc′

@@ -12,9 +12,9 @@ use Rattle.definition.specs.Num.{tabFrom}
 use Rattle.definition.specs.Run.{anyOf, lay, join}
 use Rattle.definition.specs.Cov.{Decision, CovPeriod}
 use Rattle.definition.specs.Parts.{fStar, fInf, innovations, fStarOf, fInfOf, covBlock, meanBlock}
-use Rattle.definition.specs.Inputs.{Model, Offsets, Kind, kindOf, isInfinity, systemOf, systemFrom, startOf}
+use Rattle.definition.specs.Inputs.{Model, Offsets, Class, classOf, isInfinity, systemOf, systemFrom, startOf}
 use Rattle.definition.specs.Refusals.{outside, refusal, tests, firstOf}
-use Rattle.definition.specs.Outcome.{CovParts, MeanParts, Fate, turned, silent, answered, fate, fateOf, numberOf, after, kindsNeed, kindsWritten, covWritten, meanWritten, decisionsOf, covOf, meanOf, countsOf, noInformation, covOutcome, meanOutcome, roomy, roomySmoothed}
+use Rattle.definition.specs.Outcome.{CovParts, MeanParts, Ending, turned, silent, answered, ending, endingOf, numberOf, after, kindsNeed, kindsWritten, covWritten, meanWritten, decisionsOf, covOf, meanOf, countsOf, noInformation, covOutcome, meanOutcome, roomy, roomySmoothed}
 use Rattle.laws.specs.Lists.{length-join}
 use Rattle.laws.specs.ReadBack.{flat-of, each-many, kinds-join}
 use Rattle.laws.specs.Shapes.{run-whole, run-length}
@@ -37,8 +37,8 @@ use Rattle.records.proofs.Laws.{all-of}
 -- ---- a run's numbers: n·p decisions, and as many v
 
 module _ (x : Model) (o : Offsets) (y : List Float) where
-  abbrev ks : List Kind
-  ks = map kindOf y
+  abbrev ks : List Class
+  ks = map classOf y
 
   abbrev cs : List CovPeriod
   cs = covOf x ks .0
@@ -59,21 +59,21 @@ module _ (x : Model) (o : Offsets) (y : List Float) where
   unfolding meanWritten
   vs-long fit start =
       let ms = meanOf x o cs y .0 in
-      let fit′ : length y ≡ x .n * x .p = sym (length-map y kindOf) ∙ fit in
+      let fit′ : length y ≡ x .n * x .p = sym (length-map y classOf) ∙ fit in
       length-join (x .p) (map (meanBlock innovations) ms) (each-vs (x .p) (x .m) ms (mean-sized x o ks y fit fit′ start))
       ∙ ap (λ (k : ℕ). k * x .p) (length-map ms (meanBlock innovations) ∙ mean-long x o ks y fit fit′)
 
--- ---- the list by its fate
+-- ---- the list by its ending
 
 filled-none : (kinds : List ℕ) (vs fs fi : List Float) (old : List Record) → filled 0 kinds vs fs fi old ≡ old
 unfolding recordsOf tabFrom
 filled-none kinds vs fs fi old = filled-all 0 kinds vs fs fi old (omega arith)
 
 module _ (x : Model) (o : Offsets) (y : List Float) (w : CovParts) (w′ : MeanParts) (r : Outcome) (b : CovParts) (b′ : MeanParts) (old : List Record) where
-  abbrev Told : Fate → Type 0
+  abbrev Told : Ending → Type 0
   Told f = toldBy (x .n * x .p) r b b′ old ≡ listAfter x o y f old
 
-  abbrev Had : Fate → Type 0
+  abbrev Had : Ending → Type 0
   Had f = Promise (ends.End x o y w w′ f) r b b′
 
   all-filled : (k : ℕ) → toTell r (x .n * x .p) ≡ k → k ≤ length old → toldBy (x .n * x .p) r b b′ old ≡ lay (recordsOf k (b .kinds) (b′ innovations) (b .part fStar) (b .part fInf)) old
@@ -95,10 +95,10 @@ module _ (x : Model) (o : Offsets) (y : List Float) (w : CovParts) (w′ : MeanP
       ap (λ (l : List ℕ). recordsOf (x .n * x .p) l (b′ innovations) (b .part fStar) (b .part fInf)) (h .kinds) ∙ records-blank (x .n * x .p) _ (b′ innovations) (b .part fStar) (b .part fInf) in
       all-filled (x .n * x .p) z l ∙ ap (λ (t : List Record). lay t old) q
 
-  when-answered : length (map kindOf y) ≡ x .n * x .p → length (o .a1) ≡ x .m → x .n * x .p ≤ length old → Had answered → Told answered
+  when-answered : length (map classOf y) ≡ x .n * x .p → length (o .a1) ≡ x .m → x .n * x .p ≤ length old → Had answered → Told answered
   unfolding covOutcome meanOutcome numberOf answerBy listAfter after recordsRun kindsWritten covWritten covBlock
   when-answered fit start l h =
-      let cs = covOf x (map kindOf y) .0 in
+      let cs = covOf x (map classOf y) .0 in
       let ds = join (decisionsOf cs) in
       let vs = meanWritten (meanOf x o cs y) innovations in
       let z : toTell r (x .n * x .p) ≡ length ds = ap (λ (s : Outcome). toTell s (x .n * x .p)) (h .answer) ∙ sym (ds-long x o y fit) in
@@ -106,16 +106,16 @@ module _ (x : Model) (o : Offsets) (y : List Float) (w : CovParts) (w′ : MeanP
       rw (h .kinds, h .mean innovations, h .cov fStar, h .cov fInf, kinds-join cs, flat-of fStarOf cs, flat-of fInfOf cs) (records-written ds vs _ _ _ _ (vs-long x o y fit start ∙ sym (ds-long x o y fit))) in
       all-filled (length ds) z (rw (ds-long x o y fit) l) ∙ ap (λ (t : List Record). lay t old) q
 
-  module _ (room : Bool) (has : room ≡ true → x .n * x .p ≤ length old) (h : Had (fate x o (map kindOf y) room)) where
-    told : Told (fate x o (map kindOf y) room)
-    unfolding fate fateOf
-    told = by (refusal x o (length (map kindOf y)) (anyOf isInfinity (map kindOf y)) room) (noInformation (countsOf (covOf x (map kindOf y) .0) (map kindOf y))) refl refl
+  module _ (room : Bool) (has : room ≡ true → x .n * x .p ≤ length old) (h : Had (ending x o (map classOf y) room)) where
+    told : Told (ending x o (map classOf y) room)
+    unfolding ending endingOf
+    told = by (refusal x o (length (map classOf y)) (anyOf isInfinity (map classOf y)) room) (noInformation (countsOf (covOf x (map classOf y) .0) (map classOf y))) refl refl
       where
-        by : (k : ℕ) (q : Bool) → refusal x o (length (map kindOf y)) (anyOf isInfinity (map kindOf y)) room ≡ k → noInformation (countsOf (covOf x (map kindOf y) .0) (map kindOf y)) ≡ q
-            → Told (fate x o (map kindOf y) room)
-        by k q e s = subst Told (sym (ap₂ fateOf e s)) (at k q e (subst Had (ap₂ fateOf e s) h))
+        by : (k : ℕ) (q : Bool) → refusal x o (length (map classOf y)) (anyOf isInfinity (map classOf y)) room ≡ k → noInformation (countsOf (covOf x (map classOf y) .0) (map classOf y)) ≡ q
+            → Told (ending x o (map classOf y) room)
+        by k q e s = subst Told (sym (ap₂ endingOf e s)) (at k q e (subst Had (ap₂ endingOf e s) h))
           where
-            at : (k : ℕ) (q : Bool) → refusal x o (length (map kindOf y)) (anyOf isInfinity (map kindOf y)) room ≡ k → Had (fateOf k q) → Told (fateOf k q)
+            at : (k : ℕ) (q : Bool) → refusal x o (length (map classOf y)) (anyOf isInfinity (map classOf y)) room ≡ k → Had (endingOf k q) → Told (endingOf k q)
             at zero true e g = when-silent (has (accepted x o _ _ room e .roomy)) g
             at zero false e g = let a = accepted x o _ _ room e in when-answered (a .readings) (a .inputs .a1) (has (a .roomy)) g
             at (suc k) q e g = when-turned k (subst (λ (j : ℕ). j ≤ 11) e (refusal-le x o _ _ room)) g
@@ -150,11 +150,11 @@ module _ (x : Model) (o : Offsets) (y : List Float) (w : CovParts) (w′ : MeanP
   has-room room e = leb-true _ _ (last-true room _ e)
 
   module _ (e : k ≡ toTell r (capped (x .p) (x .n))) (l : new ≡ filled k kinds v fs fi old) where
-    by-flat : (room : Bool) → Promise (ends.End x o y w w′ (fate x o (map kindOf y) (room && leb (kindsNeed x) (length old)))) r b b′ → new ≡ toldBy (x .n * x .p) r b b′ old
+    by-flat : (room : Bool) → Promise (ends.End x o y w w′ (ending x o (map classOf y) (room && leb (kindsNeed x) (length old)))) r b b′ → new ≡ toldBy (x .n * x .p) r b b′ old
     unfolding covParts meanParts
     by-flat room h = l ∙ ap (λ (j : ℕ). filled j kinds v fs fi old) (e ∙ all-told x o y w w′ r b b′ old _ (has-room room) h)
 
-    by-run : (room : Bool) → Promise (ends.End x o y w w′ (fate x o (map kindOf y) (room && leb (kindsNeed x) (length old)))) r b b′ → new ≡ listAfter x o y (fate x o (map kindOf y) (room && leb (kindsNeed x) (length old))) old
+    by-run : (room : Bool) → Promise (ends.End x o y w w′ (ending x o (map classOf y) (room && leb (kindsNeed x) (length old)))) r b b′ → new ≡ listAfter x o y (ending x o (map classOf y) (room && leb (kindsNeed x) (length old))) old
     by-run room h = by-flat room h ∙ told x o y w w′ r b b′ old _ (has-room room) h
 
   pub listed-so : Promise (outcomeListed x o y w w′ (length old)) r b b′ → k ≡ toTell r (capped (x .p) (x .n)) → new ≡ filled k kinds v fs fi old → Listed x o y w w′ old r b b′ new

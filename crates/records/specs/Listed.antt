@@ -7,10 +7,10 @@ use lib.ListN.{length, replicate}
 use lib.Dec.{leb, ltb, eqb}
 use lib.Ieee.{Float}
 use Rattle.definition.specs.Run.{join}
-use Rattle.definition.specs.Inputs.{Model, Offsets, kindOf}
+use Rattle.definition.specs.Inputs.{Model, Offsets, classOf}
 use Rattle.definition.specs.Refusals.{outside}
 use Rattle.definition.specs.Parts.{fStar, fInf, innovations}
-use Rattle.definition.specs.Outcome.{CovParts, MeanParts, CovOutcome, MeanOutcome, SmoothedCov, SmoothedMean, Fate, kindsNeed, roomy, roomySmoothed, decisionsOf, covOf, meanOf, meanWritten, fate, after, covOutcome, meanOutcome, smoothedCov, smoothedMean}
+use Rattle.definition.specs.Outcome.{CovParts, MeanParts, CovOutcome, MeanOutcome, SmoothedCov, SmoothedMean, Ending, kindsNeed, roomy, roomySmoothed, decisionsOf, covOf, meanOf, meanWritten, ending, after, covOutcome, meanOutcome, smoothedCov, smoothedMean}
 use Rattle.filter.specs.declared.Outcome.{Outcome}
 use Rattle.filter.specs.declared.Outcome.the-variants.{Refused, Answered}
 use Rattle.filter.specs.Promise.{Promise}
@@ -21,17 +21,17 @@ use Rattle.record.specs.Written.{recordsBy}
 
 -- ---- the list is one lent part more: n·p records. `room`: the flat parts are as long as needed; `have`: how many places the list has
 
-unfoldable pub fateListed : Model → Offsets → List Float → Bool → ℕ → Fate
-fateListed x o y room have = fate x o (map kindOf y) (room && leb (kindsNeed x) have)
+unfoldable pub fateListed : Model → Offsets → List Float → Bool → ℕ → Ending
+fateListed x o y room have = ending x o (map classOf y) (room && leb (kindsNeed x) have)
 
 -- the flat parts afterwards
 unfoldable pub outcomeListed : Model → Offsets → List Float → CovParts → MeanParts → ℕ → CovOutcome × MeanOutcome
 outcomeListed x o y b b′ have =
-    let ks = map kindOf y in let f = fateListed x o y (roomy x b b′) have in (covOutcome x f ks b, meanOutcome x f o ks y b′)
+    let ks = map classOf y in let f = fateListed x o y (roomy x b b′) have in (covOutcome x f ks b, meanOutcome x f o ks y b′)
 
 unfoldable pub smoothOutcomeListed : Model → Offsets → List Float → CovParts → MeanParts → List Float → List Float → ℕ → SmoothedCov × SmoothedMean
 smoothOutcomeListed x o y b b′ sc sm have =
-    let ks = map kindOf y in
+    let ks = map classOf y in
     let f = fateListed x o y (roomySmoothed x b b′ sc sm) have in (
       record { filter = covOutcome x f ks b; smoothed = smoothedCov x f ks sc },
       record { filter = meanOutcome x f o ks y b′; smoothed = smoothedMean x f o ks y sm },
@@ -39,10 +39,10 @@ smoothOutcomeListed x o y b b′ sc sm have =
 
 -- the records of a run: of each element what was decided, with its v
 unfoldable pub recordsRun : Model → Offsets → List Float → List Record
-recordsRun x o y = let cs = covOf x (map kindOf y) .0 in recordsBy (join (decisionsOf cs)) (meanWritten (meanOf x o cs y) innovations)
+recordsRun x o y = let cs = covOf x (map classOf y) .0 in recordsBy (join (decisionsOf cs)) (meanWritten (meanOf x o cs y) innovations)
 
 -- the list afterwards, like every part: refusals 1 to 11 leave it, 12 sets n·p skipped records, a run lays its own; the rest of it stays
-unfoldable pub listAfter : Model → Offsets → List Float → Fate → List Record → List Record
+unfoldable pub listAfter : Model → Offsets → List Float → Ending → List Record → List Record
 listAfter x o y f old = after f (recordsRun x o y) (replicate (kindsNeed x) skippedRecord) old
 
 -- ---- the same list by the flat parts as they stand afterwards: k records of an answer and on refusal 12, else none

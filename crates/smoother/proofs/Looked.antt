@@ -9,7 +9,7 @@ use lib.Ieee.{Float}
 use Rattle.definition.specs.Run.{join, count, lay}
 use Rattle.definition.specs.Smooth.{lookOf, meanLookOf, smoothCov, smoothMean}
 use Rattle.definition.specs.Parts.{CovPart, MeanPart, predCov, predInf, fStar, fInf, mStar, mInf, predMean, innovations}
-use Rattle.definition.specs.Inputs.{Model, Offsets, kindOf, frameOf}
+use Rattle.definition.specs.Inputs.{Model, Offsets, classOf, frameOf}
 use Rattle.definition.specs.Outcome.{CovParts, MeanParts, answered, numberOf, after, countsIn, kindsWritten, covWritten, meanWritten, smoothedCovNeed, smoothedMeanNeed, roomy, roomySmoothed, covOf, meanOf, countsOf, covOutcome, meanOutcome}
 use Rattle.laws.specs.Accepted.{Accepted, RoomySmoothed, room-smoothed, as-long}
 use Rattle.laws.specs.Flat.{flatIn, Flat, looks, meanLooks}
@@ -81,8 +81,8 @@ module _ {x : Model} {o : Offsets} {y : ℕ} {w : CovParts} {w′ : MeanParts} {
 -- ---- over what an answered call of the filter left: the outcome's
 
 pub record Smoothed (x : Model) (o : Offsets) (y : List Float) (sm₀ sm sc₀ sc : List Float) : Type 0 where
-  pub mean : sm ≡ lay (join (smoothMean (frameOf x) (covOf x (map kindOf y) .0) (meanOf x o (covOf x (map kindOf y) .0) y .0))) sm₀
-  pub cov : sc ≡ lay (join (smoothCov (frameOf x) (covOf x (map kindOf y) .0))) sc₀
+  pub mean : sm ≡ lay (join (smoothMean (frameOf x) (covOf x (map classOf y) .0) (meanOf x o (covOf x (map classOf y) .0) y .0))) sm₀
+  pub cov : sc ≡ lay (join (smoothCov (frameOf x) (covOf x (map classOf y) .0))) sc₀
 
 -- the diffuse periods that an answer counts
 abbrev diffuseIn : Outcome → ℕ
@@ -90,34 +90,34 @@ diffuseIn (Refused k) = 0
 diffuseIn (Answered a) = a .«d_diffuse»
 
 module _ (x : Model) (o : Offsets) (y : List Float) (w : CovParts) (w′ : MeanParts) {a : Answer} {b : CovParts} {b′ : MeanParts} (star : length (x .pStar) ≡ x .m * x .m) (start : length (o .a1) ≡ x .m) (readings : length y ≡ x .n * x .p) (u : Promise (ends.End x o y w w′ answered) (Answered a) b b′) where
-  diffuse-is : a .«d_diffuse» ≡ count (λ c. c .diffuse) (covOf x (map kindOf y) .0)
+  diffuse-is : a .«d_diffuse» ≡ count (λ c. c .diffuse) (covOf x (map classOf y) .0)
   unfolding covOutcome answerBy numberOf countsIn countsOf
   diffuse-is = ap diffuseIn (u .answer)
 
-  kinds-laid : Laid (length (kindsWritten (covOf x (map kindOf y)))) (kindsWritten (covOf x (map kindOf y))) (w .kinds) (b .kinds)
+  kinds-laid : Laid (length (kindsWritten (covOf x (map classOf y)))) (kindsWritten (covOf x (map classOf y))) (w .kinds) (b .kinds)
   unfolding covOutcome after
   kinds-laid = record { long = refl; is = u .kinds }
 
-  cov-laid : (q : CovPart) → Laid (length (covWritten (x .m) (covOf x (map kindOf y)) q)) (covWritten (x .m) (covOf x (map kindOf y)) q) (w .part q) (b .part q)
+  cov-laid : (q : CovPart) → Laid (length (covWritten (x .m) (covOf x (map classOf y)) q)) (covWritten (x .m) (covOf x (map classOf y)) q) (w .part q) (b .part q)
   unfolding covOutcome after
   cov-laid q = record { long = refl; is = u .cov q }
 
-  mean-laid : (q : MeanPart) → Laid (length (meanWritten (meanOf x o (covOf x (map kindOf y) .0) y) q)) (meanWritten (meanOf x o (covOf x (map kindOf y) .0) y) q) (w′ q) (b′ q)
+  mean-laid : (q : MeanPart) → Laid (length (meanWritten (meanOf x o (covOf x (map classOf y) .0) y) q)) (meanWritten (meanOf x o (covOf x (map classOf y) .0) y) q) (w′ q) (b′ q)
   unfolding meanOutcome after
   mean-laid q = record { long = refl; is = u .mean q }
 
   abbrev flat : Flat
   flat = flatIn (b .kinds) (b .part fStar) (b .part fInf) (b .part mStar) (b .part mInf)
 
-  looked : looks (x .n) (x .p) (x .m) (a .«d_diffuse») (b .part predCov) (b .part predInf) flat ≡ map lookOf (covOf x (map kindOf y) .0)
-  looked = cov-looked.looked x (map kindOf y) (a .«d_diffuse») star (length-map y kindOf ∙ readings) diffuse-is (cov-laid predCov) (cov-laid predInf) kinds-laid (cov-laid fStar) (cov-laid fInf) (cov-laid mStar) (cov-laid mInf)
+  looked : looks (x .n) (x .p) (x .m) (a .«d_diffuse») (b .part predCov) (b .part predInf) flat ≡ map lookOf (covOf x (map classOf y) .0)
+  looked = cov-looked.looked x (map classOf y) (a .«d_diffuse») star (length-map y classOf ∙ readings) diffuse-is (cov-laid predCov) (cov-laid predInf) kinds-laid (cov-laid fStar) (cov-laid fInf) (cov-laid mStar) (cov-laid mInf)
 
-  means-looked : meanLooks (x .n) (x .p) (x .m) (b′ predMean) (b′ innovations) ≡ map meanLookOf (meanOf x o (covOf x (map kindOf y) .0) y .0)
-  means-looked = mean-looked.means-looked x o (map kindOf y) y (length-map y kindOf ∙ readings) readings start (mean-laid predMean) (mean-laid innovations)
+  means-looked : meanLooks (x .n) (x .p) (x .m) (b′ predMean) (b′ innovations) ≡ map meanLookOf (meanOf x o (covOf x (map classOf y) .0) y .0)
+  means-looked = mean-looked.means-looked x o (map classOf y) y (length-map y classOf ∙ readings) readings start (mean-laid predMean) (mean-laid innovations)
 
   pub smoothed : {sm₀ sm sc₀ sc : List Float} → Back (x .p) (x .m) (x .n) (a .«d_diffuse») (x .zOnce) (x .zList) (x .t) (b′ predMean) (b .part predCov) (b .part predInf) (b′ innovations) flat sm₀ sm sc₀ sc → Smoothed x o y sm₀ sm sc₀ sc
   smoothed {sm₀} {sm} {sc₀} {sc} k =
       record {
-        mean = rw (mean-call.run-of x o (covOf x (map kindOf y) .0) (meanOf x o (covOf x (map kindOf y) .0) y .0) (a .«d_diffuse») (b′ predMean) (b .part predCov) (b .part predInf) (b′ innovations) flat looked means-looked) at (k .mean .is);
-        cov = rw (cov-call.run-of x o (covOf x (map kindOf y) .0) (looks (x .n) (x .p) (x .m) (a .«d_diffuse») (b .part predCov) (b .part predInf) flat) looked) at (k .cov .is);
+        mean = rw (mean-call.run-of x o (covOf x (map classOf y) .0) (meanOf x o (covOf x (map classOf y) .0) y .0) (a .«d_diffuse») (b′ predMean) (b .part predCov) (b .part predInf) (b′ innovations) flat looked means-looked) at (k .mean .is);
+        cov = rw (cov-call.run-of x o (covOf x (map classOf y) .0) (looks (x .n) (x .p) (x .m) (a .«d_diffuse») (b .part predCov) (b .part predInf) flat) looked) at (k .cov .is);
       }

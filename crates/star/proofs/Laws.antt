@@ -134,8 +134,8 @@ pub is-seed : (k : ℕ) (a c : List Float) → k ≤ 8 → _≡_ {A = Growing} (
 unfolding seed rect
 is-seed k a c h = rw (take-replicate k 8 false h, zero-mul k)
 
-pub grown-root : (k : ℕ) (a : List Float) (g : Growing) (s : Growing) (i : ℕ) → s ≡ seed k a → g ≡ growTo k s i → i ≤ k → k ≤ i → _≡_ {A = Root} (record { rank = g .rank; cols = g .cols }) (def.rootOf k a)
-unfolding def.rootOf
+pub grown-root : (k : ℕ) (a : List Float) (g : Growing) (s : Growing) (i : ℕ) → s ≡ seed k a → g ≡ growTo k s i → i ≤ k → k ≤ i → _≡_ {A = Root} (record { rank = g .rank; cols = g .cols }) (def.pivotedRoot k a)
+unfolding def.pivotedRoot
 grown-root k a g s i e h p q = let n : i ≡ k = omega arith in rw (h, n, e)
 
 -- F by the root, and Potter's update
@@ -270,13 +270,13 @@ sound-by m z h r s w d = sound-still m r s w (d .support) (d .count) (d .rank)
 
 -- the root as it is built
 pub built : (p m : ℕ) (z h pre : List Float) (taken : List ℕ) (s : Support) (a : List Float) (f : Factor) (r : StarRoot) → m ≤ 8 → Found p m m z s
-    → a ≡ sub m (s .count) (take (s .count) (s .places)) pre → factorOf (s .count) f ≡ def.rootOf (s .count) a → f .rank ≤ s .count
+    → a ≡ sub m (s .count) (take (s .count) (s .places)) pre → factorOf (s .count) f ≡ def.pivotedRoot (s .count) a → f .rank ≤ s .count
     → Followed p m z h taken (record { support = s .places; count = s .count; cols = f .cols; rank = f .rank }) r → Holds p m z h pre taken r
 built p m z h pre taken s a f r n found e1 e2 low w = record {
   sound = sound-still m first r (record { support = states-of p m z s found n; low = low }) (w .support) (w .count) (w .rank);
   count = w .count ∙ found .count;
   places = rw (w .support, w .count) (found .places);
-  root = rw (w .support, w .count) (w .root ∙ ap (λ (x : Root). replay p m z h (take (s .count) (s .places)) (s .count) x taken) (e2 ∙ ap (def.rootOf (s .count)) e1));
+  root = rw (w .support, w .count) (w .root ∙ ap (λ (x : Root). replay p m z h (take (s .count) (s .places)) (s .count) x taken) (e2 ∙ ap (def.pivotedRoot (s .count)) e1));
 }
   where
     first : StarRoot

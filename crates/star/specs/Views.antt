@@ -23,7 +23,7 @@ abbrev pub factorOf : ℕ → Factor → def.Root
 factorOf k f = record { rank = f .rank; cols = rect (f .rank) k (f .cols) }
 
 abbrev pub factorWanted : ℕ → List Float → def.Root
-factorWanted k a = def.rootOf k a
+factorWanted k a = def.pivotedRoot k a
 
 -- of the first j states, those on which the design loads
 pub record Found (p m j : ℕ) (z : List Float) (s : Support) : Type 0 where
@@ -83,4 +83,4 @@ pub record Holds (p m : ℕ) (z h pre : List Float) (taken : List ℕ) (r : Star
   pub sound : Sound m r
   pub count : r .count ≡ length (def.support p m z)
   pub places : placesOf r ≡ def.support p m z
-  pub root : rootOn (r .count) r ≡ def.replay p m z h (placesOf r) (r .count) (def.rootOf (r .count) (def.sub m (r .count) (placesOf r) pre)) taken
+  pub root : rootOn (r .count) r ≡ def.replay p m z h (placesOf r) (r .count) (def.pivotedRoot (r .count) (def.sub m (r .count) (placesOf r) pre)) taken

@@ -1,10 +1,10 @@
 use Rattle.acceptance.proofs.f_star.Statement.{statement}
 use Rattle.acceptance.proofs.f_star.Tie as tie
 use borrow.Author.Needs.{needs}
-use Rattle.definition.specs.Cov.{fStarOf}
+use Rattle.definition.specs.Cov.{fStarBy}
 
 returns : tie.Need-returns
-unfolding fStarOf
+unfolding fStarBy
 returns c = cc
 
 pub f-star-spec : {M : Type 1} → statement M

@@ -7,7 +7,7 @@ use mathlib.Core.List.{map}
 use lib.ListN.{length, drop}
 use borrow.Author.Needs.{needs}
 use Rattle.definition.specs.Run.{anyOf}
-use Rattle.definition.specs.Inputs.{Model, Offsets, isInfinity, kindOf, noise}
+use Rattle.definition.specs.Inputs.{Model, Offsets, isInfinity, classOf, noise}
 use Rattle.definition.specs.Refusals.{badSystem, notPsd, badStart, firstOf, tests, refusal}
 use Rattle.laws.specs.Accepted.{InRange, InputsFit, in-range}
 use Rattle.model.specs.Given.{modelOf, offsetsOf}
@@ -27,7 +27,7 @@ offsets s = let a = s .args in offsetsOf (a .c .now) (a .d .now) (a .a1 .now)
 
 -- k is the number of the first test after the j-th that holds
 abbrev Left : ℕ → tie.Start → ℕ → Type 0
-Left j s k = k ≡ firstOf (drop j (tests (model s) (offsets s) (length (s .args .y .now)) (anyOf isInfinity (map kindOf (s .args .y .now))) (s .args .room)))
+Left j s k = k ≡ firstOf (drop j (tests (model s) (offsets s) (length (s .args .y .now)) (anyOf isInfinity (map classOf (s .args .y .now))) (s .args .room)))
 
 -- ---- past the first two tests
 

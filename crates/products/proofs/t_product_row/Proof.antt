@@ -6,13 +6,13 @@ use native.Mathlib.Omega.{arith}
 use mathlib.Core.Path.{_≡_}
 use Prim.Native.Nat.{_≤_, _-_}
 use Rattle.definition.specs.Num.{tabulate}
-use Rattle.definition.specs.Dense.{tr}
+use Rattle.definition.specs.Dense.{transposed}
 use Rattle.dense.specs.Views.{vec, mat}
 use Rattle.products.specs.Rows.{rowTo}
 use Rattle.products.proofs.Rows as rows
 
 abbrev Inv-loop : tie.InvT-loop
-Inv-loop a b m i r₀ l₀ r l = (l ≤ m) × (vec m r ≡ tabulate m (rowTo m (tr m (mat m a)) (mat m b) i l))
+Inv-loop a b m i r₀ l₀ r l = (l ≤ m) × (vec m r ≡ tabulate m (rowTo m (transposed m (mat m a)) (mat m b) i l))
 
 abbrev μ-loop : tie.MeasureT-loop
 μ-loop a b m i r₀ l₀ r l = m - l

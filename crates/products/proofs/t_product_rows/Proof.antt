@@ -5,19 +5,19 @@ use borrow.Author.Needs.{needs}
 use native.Mathlib.Omega.{arith}
 use mathlib.Core.Path.{_≡_, refl, _∙_}
 use Prim.Native.Nat.{_≤_, _*_, _-_}
-use Rattle.definition.specs.Dense.{productAt, product, tr}
+use Rattle.definition.specs.Dense.{productAt, product, transposed}
 use Rattle.dense.specs.Views.{mat}
 use Rattle.dense.proofs.Laws as laws
 use Rattle.products.proofs.Rows as rows
 
 abbrev Inv-loop2 : tie.InvT-loop2
-Inv-loop2 out₀ a b m i r j₀ out j = (j ≤ m) × (out ≡ laws.row (productAt m m (tr m (mat m a)) (mat m b) i) (i * m) j out₀)
+Inv-loop2 out₀ a b m i r j₀ out j = (j ≤ m) × (out ≡ laws.row (productAt m m (transposed m (mat m a)) (mat m b) i) (i * m) j out₀)
 
 abbrev μ-loop2 : tie.MeasureT-loop2
 μ-loop2 out₀ a b m i r j₀ out j = m - j
 
 abbrev Inv-loop : tie.InvT-loop
-Inv-loop out₀ a b m i₀ out i = (i ≤ m) × (out ≡ laws.grid (productAt m m (tr m (mat m a)) (mat m b)) m i out₀)
+Inv-loop out₀ a b m i₀ out i = (i ≤ m) × (out ≡ laws.grid (productAt m m (transposed m (mat m a)) (mat m b)) m i out₀)
 
 abbrev μ-loop : tie.MeasureT-loop
 μ-loop out₀ a b m i₀ out i = m - i
