@@ -87,7 +87,7 @@ use mathlib.Core.List.{List, [], _∷_}
 use Prim.Native.Nat.{ℕ}
 use lib.Dec.{T, eqb}
 use lib.Ieee.{binary64, size, units, odd, ofBits, toBits, add, sub, mul, div, lt, round, ofInt}
-use Rattle.definition.specs.Root.{cutRoot, isqrt, count, rootOf, sqrtIn, sqrtOf}
+use Rattle.definition.specs.Root.{cutRoot, isqrt, smallestsIn, rootOf, sqrtIn, sqrtOf}
 use Rattle.definition.specs.Log.{coefficient, series, logOf, reduced, logCount, lnOf}
 
 -- the bit patterns of a value, of its root and of its logarithm
@@ -113,5 +113,5 @@ for b in rows:
 print("""    []
 
 pub at-the-edges : T (all edges)
-unfolding all edges row holds sqrtIn rootOf isqrt cutRoot count units odd size ofBits toBits lnOf logCount reduced logOf series coefficient add sub mul div lt round ofInt
+unfolding all edges row holds sqrtIn rootOf isqrt cutRoot smallestsIn units odd size ofBits toBits lnOf logCount reduced logOf series coefficient add sub mul div lt round ofInt
 at-the-edges = tt""")

@@ -6,6 +6,7 @@
 
 pub mod case;
 pub mod demand3;
+pub mod figures;
 pub mod file;
 pub mod gen;
 pub mod list;

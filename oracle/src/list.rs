@@ -1,9 +1,11 @@
 //! The fixed list of cases: taken from the cases of seed 1, each because it
-//! adds to a mark, a pair of refusals or a kind of scene that is still short.
+//! adds to a mark, a pair of refusals or a kind of scene that is still short;
+//! then document 01's bench figures.
 
 use std::io;
 
 use crate::case;
+use crate::figures;
 use crate::file;
 use crate::gen::{check_scene, Cases, Scene};
 use crate::marks::{Tally, COUNT};
@@ -52,6 +54,12 @@ pub fn list() -> (Vec<u8>, Tally) {
         }
         tally.add(&e.hits, case.pair);
         bytes.extend_from_slice(writer.case(&case, &e));
+    }
+    for figure in figures::all() {
+        let e = case::run(&figure.case);
+        figures::hold(&figure, &e);
+        tally.add(&e.hits, None);
+        bytes.extend_from_slice(writer.case(&figure.case, &e));
     }
     let mut whole = file::header(tally.cases);
     whole.extend(bytes);

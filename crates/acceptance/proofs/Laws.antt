@@ -14,7 +14,7 @@ use Rattle.acceptance.specs.declared.Dust.{Dust}
 use Rattle.acceptance.specs.declared.Dust.the-variants.{Clear, Below, Suspect}
 use Rattle.acceptance.specs.declared.Finding.{Finding}
 use Rattle.acceptance.specs.declared.Finding.the-variants as finding
-use Rattle.acceptance.specs.Views.{dustOf, found, judgedBy, Ruled, Usually, Judged}
+use Rattle.acceptance.specs.Views.{dustOf, decisionBy, judgedAs, judgedBy, ByDust, Usually, Judged}
 
 module _ (m : ℕ) (z p n : List Float) (f g : Float) {a b : Float} where
   pub diffuse-both : a ≡ absQuadForm m z p → b ≡ absQuadForm m z n → (f >ᶠ rank-tol ⊗ a) ≡ true → (g >ᶠ cancel-tol ⊗ b) ≡ diffuseTest m z p n f g
@@ -62,60 +62,60 @@ suspect-stale m z h pre sd false f x e = refl
 
 -- ---- a finding by the dust test, whatever the star root says
 module _ (live : Bool) (d : Dust) where
-  pub ruled-clear : d ≡ Clear → Ruled live d finding.Usual
-  unfolding found passes dustOf
+  pub ruled-clear : d ≡ Clear → ByDust live d finding.Usual
+  unfolding decisionBy passes dustOf
   ruled-clear e = record { finds = λ m again f a b. rw e; doubts = λ x e′. absurd (let n : _≡_ {A = ℕ} 0 1 = cc in omega arith) }
 
-  pub ruled-below : d ≡ Below → Ruled live d finding.Nothing
-  unfolding found passes dustOf
+  pub ruled-below : d ≡ Below → ByDust live d finding.Nothing
+  unfolding decisionBy passes dustOf
   ruled-below e = record { finds = λ m again f a b. rw e; doubts = λ x e′. absurd (let n : _≡_ {A = ℕ} 0 1 = cc in omega arith) }
 
-  pub ruled-live : (r : Float) → d ≡ Suspect r → live ≡ true → Ruled live d finding.Usual
-  unfolding found passes dustOf
+  pub ruled-live : (r : Float) → d ≡ Suspect r → live ≡ true → ByDust live d finding.Usual
+  unfolding decisionBy passes dustOf
   ruled-live r e l = record { finds = λ m again f a b. rw (e, l); doubts = λ x e′. absurd (let n : _≡_ {A = ℕ} 0 1 = cc in omega arith) }
 
-  pub ruled-doubt : (r : Float) → d ≡ Suspect r → live ≡ false → Ruled live d (finding.Doubtful r)
-  unfolding found passes dustOf
+  pub ruled-doubt : (r : Float) → d ≡ Suspect r → live ≡ false → ByDust live d (finding.Doubtful r)
+  unfolding decisionBy passes dustOf
   ruled-doubt r e l = record { finds = λ m again f a b. rw (e, l); doubts = λ x e′. (l, rw e (let n : r ≡ x = cc in ap cov.suspect n)) }
 
 -- ---- usual acceptance
 module _ (m : ℕ) (z : List Float) (h : Float) (live : Bool) (pre sd : List Float) (fresh : Bool) (star : List Float) (f : Float) where
-  pub usually-scaled : {t : Bool} {d : Dust} {r : Finding} → t ≡ scaledTest m z h star f → t ≡ true → dustOf d ≡ dust m z h pre sd fresh f → Ruled live d r → Usually m z h live pre sd fresh star f r
+  pub usually-scaled : {t : Bool} {d : Dust} {r : Finding} → t ≡ scaledTest m z h star f → t ≡ true → dustOf d ≡ dust m z h pre sd fresh f → ByDust live d r → Usually m z h live pre sd fresh star f r
   unfolding usually usualTest
   usually-scaled e t d w = record {
-    finds = λ again a b. rw (sym e, t, sym d) (w .finds m again f a b);
+    finds = λ again unres pinf root a b. rw (sym e, t, sym d) (w .finds m again f a b);
     doubts = λ x k. (w .doubts x k .0, suspect-stale m z h pre sd fresh f x (sym d ∙ w .doubts x k .1));
   }
 
   pub usually-not : {t : Bool} → t ≡ scaledTest m z h star f → t ≡ false → Usually m z h live pre sd fresh star f finding.Nothing
-  unfolding usually usualTest found
-  usually-not e t = record { finds = λ again a b. rw (sym e, t); doubts = λ x k. absurd (let n : _≡_ {A = ℕ} 0 1 = cc in omega arith) }
+  unfolding usually usualTest decisionBy
+  usually-not e t = record { finds = λ again unres pinf root a b. rw (sym e, t); doubts = λ x k. absurd (let n : _≡_ {A = ℕ} 0 1 = cc in omega arith) }
 
-  pub usual-scaled : (again : Float) {t r : Bool} (d : Dust) → t ≡ scaledTest m z h star f → t ≡ true → dustOf d ≡ dust m z h pre sd fresh f → r ≡ passes live again (dustOf d) → r ≡ usualTest m z h live pre sd again fresh star f
+  pub usual-scaled : (again : Float) {t r : Bool} (d : Dust) → t ≡ scaledTest m z h star f → t ≡ true → dustOf d ≡ dust m z h pre sd fresh f → r ≡ passes live again (dustOf d) → (unres pinf root : List Float) → r ≡ usualTest m (judgedAs z h live pre sd unres fresh again star pinf root) f
   unfolding usualTest
-  usual-scaled again d e t k w = rw (sym e, t, sym k) w
+  usual-scaled again d e t k w unres pinf root = rw (sym e, t, sym k) w
 
-  pub usual-not : (again : Float) {t : Bool} → t ≡ scaledTest m z h star f → t ≡ false → false ≡ usualTest m z h live pre sd again fresh star f
+  pub usual-not : (again : Float) {t : Bool} → t ≡ scaledTest m z h star f → t ≡ false → (unres pinf root : List Float) → false ≡ usualTest m (judgedAs z h live pre sd unres fresh again star pinf root) f
   unfolding usualTest
-  usual-not again e t = rw (sym e, t)
+  usual-not again e t unres pinf root = rw (sym e, t)
 
 -- ---- the verdict
 module _ (m : ℕ) (z : List Float) (h : Float) (pre sd : List Float) (fresh : Bool) (unres star pinf root : List Float) (f : Float) where
   module _ {t : Bool} {g r : Float} {b u : List Float} (e1 : vec m b ≡ matVec m pinf z) (e2 : g ≡ fInfBy m z (vec m b)) (e3 : u ≡ matTVec m root z) (e4 : r ≡ dot m u u) (e5 : t ≡ diffuseTest m z pinf unres g r) where
     pub diffusely-yes : t ≡ true → Judged m z h true pre sd fresh unres star pinf root f b (finding.Diffuse g)
-    unfolding judgedBy diffusely found
+    unfolding judgedBy diffusely decisionBy
     diffusely-yes w = record { finds = λ again a. rw (sym e1, sym e2, sym e3, sym e4, sym e5, w); doubts = λ x k. absurd (let n : _≡_ {A = ℕ} 0 1 = cc in omega arith) }
 
     pub diffusely-no : {d : Finding} → t ≡ false → Usually m z h true pre sd fresh star f d → Judged m z h true pre sd fresh unres star pinf root f b d
     unfolding judgedBy diffusely
-    diffusely-no w u = record { finds = λ again a. rw (sym e1, sym e2, sym e3, sym e4, sym e5, w) (u .finds again a b); doubts = u .doubts }
+    diffusely-no w u = record { finds = λ again a. rw (sym e1, sym e2, sym e3, sym e4, sym e5, w) (u .finds again unres pinf root a b); doubts = u .doubts }
 
   pub judge-live : {live : Bool} {b : List Float} {d : Finding} → live ≡ true → Judged m z h true pre sd fresh unres star pinf root f b d → Judged m z h live pre sd fresh unres star pinf root f b d
   judge-live e w = rw e w
 
   pub judge-usual : {live : Bool} (b : List Float) {d : Finding} → live ≡ false → Usually m z h false pre sd fresh star f d → Judged m z h live pre sd fresh unres star pinf root f b d
   unfolding judgedBy
-  judge-usual b e w = rw e (record { finds = λ again a. w .finds again a b; doubts = w .doubts })
+  judge-usual b e w = rw e (record { finds = λ again a. w .finds again unres pinf root a b; doubts = w .doubts })
 
 -- by the star root: the verdict on what the dust test found
 module _ (d : Dust) (again : Float) where

@@ -6,7 +6,7 @@ use mathlib.Core.List.{List}
 use lib.Ieee.{Float}
 use Rattle.definition.specs.Num.{_>ᶠ_, _⊗_, cancel-tol}
 use Rattle.definition.specs.Cov as cov
-use Rattle.definition.specs.Cov.{Decision, skipped, usual, diffuse, passes, usually, diffusely}
+use Rattle.definition.specs.Cov.{Candidate, Decision, skipped, usual, diffuse, passes, usualTest, usually, diffusely}
 use Rattle.dense.specs.Views.{vec}
 use Rattle.acceptance.specs.declared.Dust.{Dust}
 use Rattle.acceptance.specs.declared.Dust.the-variants.{Clear, Below, Suspect}
@@ -19,28 +19,57 @@ dustOf Below = cov.below
 dustOf (Suspect r) = cov.suspect r
 
 -- a finding as a decision: F by the star root, F*, and the arrays of M* and M∞ at hand
-unfoldable pub found : ℕ → Float → Float → Finding → List Float → List Float → Decision
-found m again f finding.Nothing a b = skipped
-found m again f finding.Usual a b = usual f (vec m a)
-found m again f (finding.Diffuse g) a b = diffuse f g (vec m a) (vec m b)
-found m again f (finding.Doubtful r) a b = cond (again >ᶠ cancel-tol ⊗ r) (usual f (vec m a)) skipped
+unfoldable pub decisionBy : ℕ → Float → Float → Finding → List Float → List Float → Decision
+decisionBy m again f finding.Nothing a b = skipped
+decisionBy m again f finding.Usual a b = usual f (vec m a)
+decisionBy m again f (finding.Diffuse g) a b = diffuse f g (vec m a) (vec m b)
+decisionBy m again f (finding.Doubtful r) a b = cond (again >ᶠ cancel-tol ⊗ r) (usual f (vec m a)) skipped
+
+-- What each test finds, in two parts. `finds`: as a decision, whatever F by the star root is, it is the definition's.
+-- `doubts`: an element is doubtful only in a period that is not diffuse, and after an update.
 
 -- by the dust test
-pub record Ruled (live : Bool) (d : Dust) (r : Finding) : Type 0 where
-  pub finds : (m : ℕ) (again f : Float) (a b : List Float) → found m again f r a b ≡ cond (passes live again (dustOf d)) (usual f (vec m a)) skipped
+pub record ByDust (live : Bool) (d : Dust) (r : Finding) : Type 0 where
+  pub finds : (m : ℕ) (again f : Float) (a b : List Float)
+      → decisionBy m again f r a b ≡ cond (passes live again (dustOf d)) (usual f (vec m a)) skipped
   pub doubts : (x : Float) → r ≡ finding.Doubtful x → (live ≡ false) × (dustOf d ≡ cov.suspect x)
 
--- by usual acceptance
-pub record Usually (m : ℕ) (z : List Float) (h : Float) (live : Bool) (pre sd : List Float) (fresh : Bool) (star : List Float) (f : Float) (r : Finding) : Type 0 where
-  pub finds : (again : Float) (a b : List Float) → found m again f r a b ≡ usually m z h live pre sd again fresh star f (vec m a)
+-- an element as the definition judges it
+abbrev pub judgedAs : List Float → Float → Bool → List Float → List Float → List Float → Bool → Float → List Float → List Float
+    → List Float → Candidate
+judgedAs z h live pre sd unres fresh again star pinf root =
+    record {
+      z = z;
+      h = h;
+      live = live;
+      pre = pre;
+      sd = sd;
+      unres = unres;
+      fresh = fresh;
+      again = again;
+      star = star;
+      pinf = pinf;
+      root = root;
+    }
+
+-- by usual acceptance, which asks nothing of P∞
+pub record Usually (m : ℕ) (z : List Float) (h : Float) (live : Bool) (pre sd : List Float) (fresh : Bool)
+    (star : List Float) (f : Float) (r : Finding) : Type 0 where
+  pub finds : (again : Float) (unres pinf root a b : List Float)
+      → decisionBy m again f r a b ≡ usually m (judgedAs z h live pre sd unres fresh again star pinf root) f (vec m a)
   pub doubts : (x : Float) → r ≡ finding.Doubtful x → (live ≡ false) × (fresh ≡ false)
 
--- the definition's verdict, F* and M* at hand
-unfoldable pub judgedBy : ℕ → List Float → Float → Bool → List Float → List Float → Float → Bool → List Float → List Float → List Float → List Float → Float → List Float → Decision
-judgedBy m z h live pre sd again fresh unres star pinf root f m* =
-    cond live (diffusely m z h pre sd again fresh unres star pinf root f m*) (usually m z h false pre sd again fresh star f m*)
+-- usual acceptance, F by the star root at hand
+pub record UsualBy (m : ℕ) (z : List Float) (h : Float) (live : Bool) (pre sd : List Float) (fresh : Bool) (again : Float)
+    (star : List Float) (f : Float) (t : Bool) : Type 0 where
+  pub says : (unres pinf root : List Float) → t ≡ usualTest m (judgedAs z h live pre sd unres fresh again star pinf root) f
 
-pub record Judged (m : ℕ) (z : List Float) (h : Float) (live : Bool) (pre sd : List Float) (fresh : Bool) (unres star pinf root : List Float) (f : Float) (b : List Float) (r : Finding)
-    : Type 0 where
-  pub finds : (again : Float) (a : List Float) → found m again f r a b ≡ judgedBy m z h live pre sd again fresh unres star pinf root f (vec m a)
+-- the definition's verdict, F* and M* at hand
+unfoldable pub judgedBy : ℕ → Candidate → Float → List Float → Decision
+judgedBy m e f m* = cond (e .live) (diffusely m e f m*) (usually m e f m*)
+
+pub record Judged (m : ℕ) (z : List Float) (h : Float) (live : Bool) (pre sd : List Float) (fresh : Bool)
+    (unres star pinf root : List Float) (f : Float) (b : List Float) (r : Finding) : Type 0 where
+  pub finds : (again : Float) (a : List Float)
+      → decisionBy m again f r a b ≡ judgedBy m (judgedAs z h live pre sd unres fresh again star pinf root) f (vec m a)
   pub doubts : (x : Float) → r ≡ finding.Doubtful x → (live ≡ false) × (fresh ≡ false)

@@ -1,19 +1,27 @@
-// filter.rs, the verdict on one element of a period: the tests that it has to pass, and what they find. What a finding brings is judge's.
-// The star root is seldom asked. So `judge` goes without it and says where it has to be asked, and `is_usual` has it at hand.
+// filter.rs, the verdict on one element of a period: the tests that it has to pass, and what they find. What a finding
+// brings is the crate element's. The star root is seldom asked. So `judge` goes without it and says where it has to be
+// asked, and `is_usual` has it at hand.
 ghost use mathlib.Core.Path.{_≡_};
 ghost use mathlib.Core.Bool.{true, false};
 ghost use Prim.Native.Nat.{_≤_};
-ghost use Rattle.definition.specs.Cov.{fStarBy, fInfBy, diffuseTest, scaledTest, bound, against, dust, passes, usualTest};
+ghost use Rattle.definition.specs.Cov.{fStarBy, fInfBy, diffuseTest, scaledTest, bound, against, dust, passes};
 ghost use Rattle.dense.specs.Views.{vec, mat};
 ghost use Rattle.star.specs.Views.{Sound, projectedAt};
-ghost use Rattle.acceptance.specs.Views.{dustOf, Ruled, Usually, Judged};
+ghost use Rattle.acceptance.specs.Views.{dustOf, ByDust, Usually, Judged, UsualBy};
 
-// TOLERANCE_RANK, TOLERANCE_CANCEL and SUSPECT_DUST.
-const RANK: f64 = 1e-10;
+// ---- the tolerances, by their names in the Rust
 
-const CANCEL: f64 = 1e-14;
+// A variance that is not above this part of its scale is cancellation noise. The scale is the same sum with nothing
+// cancelled, |z|' |P| |z| and h. And a period is diffuse while the sum of the squares of P∞ is above this number
+// itself.
+pub const TOLERANCE_RANK: f64 = 1e-10;
 
-const SUSPECT: f64 = 1e-6;
+// A variance that is not above this part of its reference is roundoff of the updates before it. The reference is a
+// scale that updates can't collapse: for F∞ that of P∞ with nothing resolved, for F* that of the period's predicted P*.
+pub const TOLERANCE_CANCEL: f64 = 1e-14;
+
+// An F* that is above TOLERANCE_CANCEL of its reference, and not above this part of it, is suspect.
+pub const SUSPECT_DUST: f64 = 1e-6;
 
 // The dust test's verdict: F* against the period's predicted P*. A suspect has the reference that it was read against.
 pub enum Dust {
@@ -22,7 +30,8 @@ pub enum Dust {
     Suspect(f64),
 }
 
-// What is found of an element while the star root is not asked. A diffuse one has its F∞, a doubtful one its reference.
+// What is found of an element while the star root is not asked. A diffuse one has its F∞. A doubtful one, on which the
+// star root has to say, has its reference.
 pub enum Finding {
     Nothing,
     Usual,
@@ -30,6 +39,13 @@ pub enum Finding {
     Doubtful(f64),
 }
 
+// The star root was asked: whether the element is usual, with the root handed back.
+pub struct Asked {
+    pub root: star::StarRoot,
+    pub usual: bool,
+}
+
+// F* = z' M* + h, or 0 where that is not above 0.
 pub fn f_star(z: &[f64; 8], h: f64, m_star: &[f64; 8], m: usize) -> f64
     requires { ⌜ m ≤ 8 ⌝ }
     ensures { λ r. ⌜ r ≡ fStarBy m (vec m (now (z .entry))) h (vec m (now («m_star» .entry))) ⌝ }
@@ -37,6 +53,7 @@ pub fn f_star(z: &[f64; 8], h: f64, m_star: &[f64; 8], m: usize) -> f64
     float::max0(dense::dot(z, m_star, m) + h)
 }
 
+// F∞ = z' M∞, likewise.
 fn f_inf(z: &[f64; 8], m_inf: &[f64; 8], m: usize) -> f64
     requires { ⌜ m ≤ 8 ⌝ }
     ensures { λ r. ⌜ r ≡ fInfBy m (vec m (now (z .entry))) (vec m (now («m_inf» .entry))) ⌝ }
@@ -44,6 +61,7 @@ fn f_inf(z: &[f64; 8], m_inf: &[f64; 8], m: usize) -> f64
     float::max0(dense::dot(z, m_inf, m))
 }
 
+// Diffuse acceptance: F∞, and the same by the root B of P∞, against their scales.
 fn is_diffuse(
     z: &[f64; 8],
     p_inf: &[f64; 64],
@@ -53,21 +71,25 @@ fn is_diffuse(
     m: usize,
 ) -> bool
     requires { ⌜ m ≤ 8 ⌝ }
-    ensures { λ r. ⌜ r ≡ diffuseTest m (vec m (now (z .entry))) (mat m (now («p_inf» .entry))) (mat m (now (unres .entry))) «f_inf» «f_root» ⌝ }
+    ensures { λ r. ⌜ r
+        ≡ diffuseTest m (vec m (now (z .entry))) (mat m (now («p_inf» .entry))) (mat m (now (unres .entry)))
+        «f_inf» «f_root» ⌝ }
 {
-    if f_inf > RANK * dense::abs_quad_form(z, p_inf, m) {
-        return f_root > CANCEL * dense::abs_quad_form(z, unres, m);
+    if f_inf > TOLERANCE_RANK * dense::abs_quad_form(z, p_inf, m) {
+        return f_root > TOLERANCE_CANCEL * dense::abs_quad_form(z, unres, m);
     }
     false
 }
 
+// The first test of usual acceptance: F* against its scale.
 fn is_scaled(z: &[f64; 8], h: f64, star: &[f64; 64], f: f64, m: usize) -> bool
     requires { ⌜ m ≤ 8 ⌝ }
     ensures { λ r. ⌜ r ≡ scaledTest m (vec m (now (z .entry))) h (mat m (now (star .entry))) f ⌝ }
 {
-    f > RANK * (dense::abs_quad_form(z, star, m) + h)
+    f > TOLERANCE_RANK * (dense::abs_quad_form(z, star, m) + h)
 }
 
+// |z|' sd, sd the standard deviations of the predicted P*. The reference is at most its square and h.
 fn bound(z: &[f64; 8], sd: &[f64; 8], m: usize) -> f64
     requires { ⌜ m ≤ 8 ⌝ }
     ensures { λ r. ⌜ r ≡ bound m (vec m (now (z .entry))) (vec m (now (sd .entry))) ⌝ }
@@ -79,19 +101,21 @@ fn bound(z: &[f64; 8], sd: &[f64; 8], m: usize) -> f64
     s
 }
 
+// F* against its reference.
 fn against(f: f64, reference: f64) -> Dust
     ensures { λ r. ⌜ dustOf r ≡ against f reference ⌝ }
 {
-    if f <= CANCEL * reference {
+    if f <= TOLERANCE_CANCEL * reference {
         return Dust::Below;
     }
-    if f > SUSPECT * reference {
+    if f > SUSPECT_DUST * reference {
         return Dust::Clear;
     }
     Dust::Suspect(reference)
 }
 
-// Fresh: no update in the period yet.
+// The second test of usual acceptance: F* against the predicted P*. `fresh`: no update in the period yet. The bound
+// costs little and settles an F* far above dust; the reference is worked out for the rest.
 fn dust_test(
     z: &[f64; 8],
     h: f64,
@@ -102,21 +126,22 @@ fn dust_test(
     m: usize,
 ) -> Dust
     requires { ⌜ m ≤ 8 ⌝ }
-    ensures { λ r. ⌜ dustOf r ≡ dust m (vec m (now (z .entry))) h (mat m (now (pre .entry))) (vec m (now (sd .entry))) fresh f ⌝ }
+    ensures { λ r. ⌜ dustOf r
+        ≡ dust m (vec m (now (z .entry))) h (mat m (now (pre .entry))) (vec m (now (sd .entry))) fresh f ⌝ }
 {
     if fresh {
         return Dust::Clear;
     }
     let b = bound(z, sd, m);
-    if f > SUSPECT * (b * b + h) {
+    if f > SUSPECT_DUST * (b * b + h) {
         return Dust::Clear;
     }
     against(f, dense::abs_quad_form(z, pre, m) + h)
 }
 
-// A suspect is accepted in a diffuse period; in any other it stays doubtful.
+// What the dust test finds. A suspect is accepted in a diffuse period (`live`); in any other it stays doubtful.
 fn by_dust(d: Dust, live: bool) -> Finding
-    ensures { λ r. ⌜ Ruled live d r ⌝ }
+    ensures { λ r. ⌜ ByDust live d r ⌝ }
 {
     match d {
         Dust::Clear => Finding::Usual,
@@ -130,7 +155,7 @@ fn by_dust(d: Dust, live: bool) -> Finding
     }
 }
 
-// Usual acceptance.
+// Usual acceptance: both tests.
 fn usually(
     z: &[f64; 8],
     h: f64,
@@ -143,7 +168,8 @@ fn usually(
     m: usize,
 ) -> Finding
     requires { ⌜ m ≤ 8 ⌝ }
-    ensures { λ r. ⌜ Usually m (vec m (now (z .entry))) h live (mat m (now (pre .entry))) (vec m (now (sd .entry))) fresh (mat m (now (star .entry))) f r ⌝ }
+    ensures { λ r. ⌜ Usually m (vec m (now (z .entry))) h live (mat m (now (pre .entry))) (vec m (now (sd .entry)))
+        fresh (mat m (now (star .entry))) f r ⌝ }
 {
     if is_scaled(z, h, star, f, m) {
         let d = dust_test(z, h, pre, sd, fresh, f, m);
@@ -168,8 +194,9 @@ fn diffusely(
     m: usize,
 ) -> Finding
     requires { ⌜ m ≤ 8 ⌝ }
-    ensures { λ r. ⌜ Judged m (vec m (now (z .entry))) h true (mat m (now (pre .entry))) (vec m (now (sd .entry))) fresh (mat m (now (unres .entry)))
-        (mat m (now (star .entry))) (mat m (now («p_inf» .entry))) (mat m (now (root .entry))) f (now («m_inf» .exit)) r ⌝ }
+    ensures { λ r. ⌜ Judged m (vec m (now (z .entry))) h true (mat m (now (pre .entry))) (vec m (now (sd .entry)))
+        fresh (mat m (now (unres .entry))) (mat m (now (star .entry))) (mat m (now («p_inf» .entry)))
+        (mat m (now (root .entry))) f (now («m_inf» .exit)) r ⌝ }
 {
     *m_inf = dense::mat_vec(p_inf, z, m);
     let g = f_inf(z, m_inf, m);
@@ -180,7 +207,8 @@ fn diffusely(
     usually(z, h, true, fresh, pre, sd, star, f, m)
 }
 
-// The verdict, F* at hand. M∞ is written in a diffuse period.
+// The verdict, F* at hand. M∞ is written in a diffuse period. `pre` is the period's predicted P*, with the standard
+// deviations `sd`; `unres` is P∞ with nothing resolved, `root` the root B of P∞.
 pub fn judge(
     z: &[f64; 8],
     h: f64,
@@ -197,8 +225,9 @@ pub fn judge(
     m: usize,
 ) -> Finding
     requires { ⌜ m ≤ 8 ⌝ }
-    ensures { λ r. ⌜ Judged m (vec m (now (z .entry))) h live (mat m (now (pre .entry))) (vec m (now (sd .entry))) fresh (mat m (now (unres .entry)))
-        (mat m (now (star .entry))) (mat m (now («p_inf» .entry))) (mat m (now (root .entry))) f (now («m_inf» .exit)) r ⌝ }
+    ensures { λ r. ⌜ Judged m (vec m (now (z .entry))) h live (mat m (now (pre .entry))) (vec m (now (sd .entry)))
+        fresh (mat m (now (unres .entry))) (mat m (now (star .entry))) (mat m (now («p_inf» .entry)))
+        (mat m (now (root .entry))) f (now («m_inf» .exit)) r ⌝ }
 {
     if live {
         return diffusely(z, h, fresh, pre, sd, unres, star, p_inf, root, m_inf, f, m);
@@ -207,14 +236,22 @@ pub fn judge(
 }
 
 // A suspect of a period that is not diffuse is accepted if the star root says so.
-fn passes(d: Dust, root: star::StarRoot, z: &[f64; 8], h: f64, m: usize) -> bool
+fn passes(d: Dust, root: star::StarRoot, z: &[f64; 8], h: f64, m: usize) -> Asked
     requires { ⌜ Sound m root ⌝ }
-    ensures { λ r. ⌜ r ≡ passes false (projectedAt root (vec m (now (z .entry))) h) (dustOf d) ⌝ }
+    ensures { λ r. ⌜ (r .root ≡ root)
+        × (r .usual ≡ passes false (projectedAt root (vec m (now (z .entry))) h) (dustOf d)) ⌝ }
 {
     match d {
-        Dust::Clear => true,
-        Dust::Below => false,
-        Dust::Suspect(reference) => root.project(z, h, m) > CANCEL * reference,
+        Dust::Clear => Asked { root, usual: true },
+        Dust::Below => Asked { root, usual: false },
+        Dust::Suspect(reference) => {
+            let projected = root.project(z, h, m);
+            let root = projected.root;
+            Asked {
+                root,
+                usual: projected.f > TOLERANCE_CANCEL * reference,
+            }
+        }
     }
 }
 
@@ -228,14 +265,15 @@ pub fn is_usual(
     star: &[f64; 64],
     f: f64,
     m: usize,
-) -> bool
+) -> Asked
     requires { ⌜ Sound m root ⌝ }
-    ensures { λ r. ⌜ r ≡ usualTest m (vec m (now (z .entry))) h false (mat m (now (pre .entry))) (vec m (now (sd .entry)))
-        (projectedAt root (vec m (now (z .entry))) h) false (mat m (now (star .entry))) f ⌝ }
+    ensures { λ r. ⌜ (r .root ≡ root)
+        × UsualBy m (vec m (now (z .entry))) h false (mat m (now (pre .entry))) (vec m (now (sd .entry))) false
+        (projectedAt root (vec m (now (z .entry))) h) (mat m (now (star .entry))) f (r .usual) ⌝ }
 {
     if is_scaled(z, h, star, f, m) {
         let d = dust_test(z, h, pre, sd, false, f, m);
         return passes(d, root, z, h, m);
     }
-    false
+    Asked { root, usual: false }
 }

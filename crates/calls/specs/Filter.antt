@@ -13,9 +13,10 @@ use Rattle.definition.specs.Outcome.{CovParts, MeanParts, outcome}
 use Rattle.definition.specs.Tracks.{by-classes}
 use Rattle.demands.specs.Conditions.{Room, table, First}
 use Rattle.demands.specs.Refusals as refusals
+use Rattle.demands.specs.Totals.{totals}
 use Rattle.demands.specs.Values as demand
-use Rattle.filter.specs.declared.Outcome.{Outcome}
-use Rattle.filter.specs.Promise.{Promise}
+use Rattle.promise.specs.declared.Outcome.{Outcome}
+use Rattle.promise.specs.Calls.{Promise}
 use Rattle.calls.specs.Seen as seen
 
 abbrev pub Called : Model → Offsets → List Float → CovParts → MeanParts → Outcome → CovParts → MeanParts → Type 0
@@ -39,9 +40,13 @@ module _ (x : Model) (o : Offsets) (y : List Float) (w : CovParts) (w′ : MeanP
   pub determined : {s : Outcome} {c : CovParts} {c′ : MeanParts} → Called x o y w w′ s c c′ → seen.Same r s b c b′ c′
   determined again = seen.same call again refl
 
+  -- and its counts are counts
+  pub counts : seen.refusalOf r ≡ 0 → seen.Totals x y r b
+  counts e = seen.totals call e (totals x o y w w′)
+
   -- demand 3: the values of finite readings reach no refusal, no count, no decision and no covariance
   pub values : (y′ : List Float) → demand.Alike y y′ → {s : Outcome} {c : CovParts} {c′ : MeanParts} → Called x o y′ w w′ s c c′ → seen.Blind r s b c
-  values y′ alike other = seen.blind call other (by-classes x o y y′ (demand.alike-kinds y y′ alike) w w′)
+  values y′ alike other = seen.blind call other (by-classes x o y y′ (demand.alike-classes y y′ alike) w w′)
 
   -- and a finite reading judged no news changes nothing: another finite number in its place leaves all as it was, a gap all but the count heard
   module _ (k : ℕ) (h : seen.NoNews y r b k) where

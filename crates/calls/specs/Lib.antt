@@ -1,3 +1,6 @@
 pub mod Seen
 pub mod Filter
 pub mod Smooth
+pub mod Lists
+pub mod FilterList
+pub mod SmoothList

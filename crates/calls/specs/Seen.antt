@@ -1,22 +1,28 @@
--- What a caller sees of a call, and what a promise of the filter's parts says of two calls. Filter and Smooth have the theorems on the two calls.
+-- What a caller sees of a call, and what a promise of the filter's parts says of two calls. Filter and Smooth have the theorems on the two calls,
+-- FilterList and SmoothList on those with a list of records.
 use mathlib.Core.Path.{_≡_, refl, sym, ap, ap₂, _∙_, subst}
 use Prim.Native.Nat.{ℕ, zero, suc, _<_}
 use native.Mathlib.Omega.{arith}
+use mathlib.Core.Bool.{not}
 use mathlib.Core.List.{List}
-use lib.ListN.{getD}
-use lib.Dec.{T}
-use lib.Ieee.{Float}
+use lib.ListN.{getD, take}
+use lib.Dec.{T, eqb, ltb}
+use lib.Ieee.{Float, isNan}
 use Rattle.definition.specs.Num.{0ᶠ, isFinite, at}
+use Rattle.definition.specs.Run.{count}
+use Rattle.definition.specs.Cov.{CovPeriod}
 use Rattle.definition.specs.Parts.{CovPart, MeanPart}
 use Rattle.definition.specs.Inputs.{Model}
 use Rattle.definition.specs.Outcome.{CovParts, MeanParts, Counts, CovOutcome, MeanOutcome, kindsNeed, covNeed, meanNeed}
 use Rattle.demands.specs.Refusals.{Blanked, Blank}
 use Rattle.demands.specs.Values as values
-use Rattle.mean.specs.declared.Answer.{Answer}
-use Rattle.forward.specs.View.{answerIn}
-use Rattle.filter.specs.declared.Outcome.{Outcome}
-use Rattle.filter.specs.declared.Outcome.the-variants.{Refused, Answered}
-use Rattle.filter.specs.Promise.{answerBy, Promise}
+use Rattle.demands.specs.Unheard.{noPeriod}
+use Rattle.demands.specs.Totals as total
+use Rattle.demands.specs.Totals.{periodsOf}
+use Rattle.promise.specs.declared.Answer.{Answer}
+use Rattle.promise.specs.Calls.{answerIn, answerBy, Promise}
+use Rattle.promise.specs.declared.Outcome.{Outcome}
+use Rattle.promise.specs.declared.Outcome.the-variants.{Refused, Answered}
 
 -- ---- what comes back: the refusal's number, 0 for an answer; an answer's counts and log-likelihood
 
@@ -69,9 +75,16 @@ pub record OneLess (r s : Outcome) : Type 0 where
   pub news : countsOf s .news ≡ countsOf r .news
   pub dDiffuse : countsOf s .dDiffuse ≡ countsOf r .dDiffuse
 
+-- the counts of an answered call, over its readings, the kinds that it left and the periods of its run: the diffuse ones are the first
+pub record Totals (x : Model) (y : List Float) (r : Outcome) (b : CovParts) : Type 0 where
+  pub heard : countsOf r .heard ≡ count (λ (v : Float). not (isNan v)) y
+  pub news : countsOf r .news ≡ count (λ (k : ℕ). not (eqb k 0)) (take (kindsNeed x) (b .kinds))
+  pub dDiffuse : countsOf r .dDiffuse ≡ count (λ (c : CovPeriod). c .diffuse) (periodsOf x y)
+  pub firsts : (t : ℕ) → t < x .n → getD (periodsOf x y) t noPeriod .diffuse ≡ ltb t (countsOf r .dDiffuse)
+
 -- ---- through the promise
 
-abbrev countsBy : ℕ → Counts → Counts
+abbrev pub countsBy : ℕ → Counts → Counts
 countsBy zero k = k
 countsBy (suc n) k = record { dDiffuse = 0; heard = 0; news = 0 }
 
@@ -102,7 +115,7 @@ module _ {u : CovOutcome × MeanOutcome} {r : Outcome} {b : CovParts} {b′ : Me
   pub refusal-is : refusalOf r ≡ u .0 .refused
   refusal-is = ap refusalOf (p .answer) ∙ refusal-by (u .0 .refused) _
 
-  counts-are : countsOf r ≡ countsBy (u .0 .refused) (u .0 .counts)
+  pub counts-are : countsOf r ≡ countsBy (u .0 .refused) (u .0 .counts)
   counts-are = ap countsOf (p .answer) ∙ counts-by (u .0 .refused) (u .0 .counts) (u .1 .loglik)
 
   loglik-is : loglikOf r ≡ loglikBy (u .0 .refused) (u .1 .loglik)
@@ -129,6 +142,17 @@ module _ {u : CovOutcome × MeanOutcome} {r : Outcome} {b : CovParts} {b′ : Me
 
   answered : {y : List Float} {k : ℕ} → NoNews y r b k → u .0 .refused ≡ 0
   answered h = news-by (u .0 .refused) (u .0 .counts) (subst (λ (z : Counts). 0 < z .news) counts-are (h .news)) .0
+
+  pub totals : {x : Model} {y : List Float} → refusalOf r ≡ 0 → (u .0 .refused ≡ 0 → total.Totals x y (u .0)) → Totals x y r b
+  totals {x} e t =
+      let z : u .0 .refused ≡ 0 = sym refusal-is ∙ e in
+      let c : countsOf r ≡ u .0 .counts = counts-are ∙ ap (λ (n : ℕ). countsBy n (u .0 .counts)) z in
+      record {
+        heard = ap (λ (l : Counts). l .heard) c ∙ t z .heard;
+        news = ap (λ (l : Counts). l .news) c ∙ t z .news ∙ ap (λ (l : List ℕ). count (λ (k : ℕ). not (eqb k 0)) (take (kindsNeed x) l)) (sym (p .kinds));
+        dDiffuse = ap (λ (l : Counts). l .dDiffuse) c ∙ t z .dDiffuse;
+        firsts = λ i l. t z .firsts i l ∙ ap (λ (k : Counts). ltb i (k .dDiffuse)) (sym c);
+      }
 
 -- two calls of one outcome: nothing is left open
 pub record Same (r s : Outcome) (b c : CovParts) (b′ c′ : MeanParts) : Type 0 where

@@ -14,13 +14,14 @@ use Rattle.definition.specs.Tracks.{smooth-by-classes}
 use Rattle.demands.specs.Conditions.{RoomSmooth, table, First}
 use Rattle.demands.specs.Refusals as refusals
 use Rattle.demands.specs.Refusals.{Blanked}
+use Rattle.demands.specs.Totals.{totals-smooth}
 use Rattle.demands.specs.Values as demand
-use Rattle.filter.specs.declared.Outcome.{Outcome}
-use Rattle.smoother.specs.Promise.{PromiseSmooth}
+use Rattle.promise.specs.declared.Outcome.{Outcome}
+use Rattle.promise.specs.Calls.{PromiseSmooth}
 use Rattle.calls.specs.Seen as seen
 
 abbrev pub Called : Model → Offsets → List Float → CovParts → MeanParts → List Float → List Float → Outcome → CovParts → MeanParts → List Float → List Float → Type 0
-Called x o y w w′ sm sc r b b′ sm′ sc′ = PromiseSmooth (smoothOutcome x o y w w′ sc sm) r b b′ sm′ sc′
+Called x o y w w′ sm sc r b b′ sm′ sc′ = PromiseSmooth (smoothOutcome x o y w w′ sm sc) r b b′ sm′ sc′
 
 -- the smoothed parts too
 pub record Same (r s : Outcome) (b c : CovParts) (b′ c′ : MeanParts) (sm sm′ sc sc′ : List Float) : Type 0 where
@@ -31,7 +32,7 @@ pub record Same (r s : Outcome) (b c : CovParts) (b′ c′ : MeanParts) (sm sm�
 abbrev filterOf : SmoothedCov × SmoothedMean → CovOutcome × MeanOutcome
 filterOf u = (u .0 .filter, u .1 .filter)
 
-same : {u v : SmoothedCov × SmoothedMean} {r s : Outcome} {b c : CovParts} {b′ c′ : MeanParts} {sm sm′ sc sc′ : List Float} → PromiseSmooth u r b b′ sm sc → PromiseSmooth v s c c′ sm′ sc′ → u ≡ v → Same r s b c b′ c′ sm sm′ sc sc′
+pub same : {u v : SmoothedCov × SmoothedMean} {r s : Outcome} {b c : CovParts} {b′ c′ : MeanParts} {sm sm′ sc sc′ : List Float} → PromiseSmooth u r b b′ sm sc → PromiseSmooth v s c c′ sm′ sc′ → u ≡ v → Same r s b c b′ c′ sm sm′ sc sc′
 same p q e =
     record {
       filter = seen.same (p .filter) (q .filter) (ap filterOf e);
@@ -41,27 +42,30 @@ same p q e =
 
 module _ (x : Model) (o : Offsets) (y : List Float) (w : CovParts) (w′ : MeanParts) (sm sc : List Float) {r : Outcome} {b : CovParts} {b′ : MeanParts} {sm′ sc′ : List Float} (call : Called x o y w w′ sm sc r b b′ sm′ sc′) where
   -- demand 1
-  pub refuses : (k : ℕ) → (seen.refusalOf r ≡ k) ↔ First k (table x o y (RoomSmooth x w w′ sc sm))
-  refuses k = subst (λ (n : ℕ). (n ≡ k) ↔ First k (table x o y (RoomSmooth x w w′ sc sm))) (sym (seen.refusal-is (call .filter))) (refusals.refuses-smooth x o y w w′ sc sm k)
+  pub refuses : (k : ℕ) → (seen.refusalOf r ≡ k) ↔ First k (table x o y (RoomSmooth x w w′ sm sc))
+  refuses k = subst (λ (n : ℕ). (n ≡ k) ↔ First k (table x o y (RoomSmooth x w w′ sm sc))) (sym (seen.refusal-is (call .filter))) (refusals.refuses-smooth x o y w w′ sm sc k)
 
   pub keeps : (k : ℕ) → 0 < k → k < 12 → seen.refusalOf r ≡ k → seen.SameParts b w b′ w′ × (sm′ ≡ sm) × (sc′ ≡ sc)
   keeps k l h e =
-      let s = refusals.keeps-smooth x o y w w′ sc sm k l h (subst (λ (n : ℕ). n ≡ k) (seen.refusal-is (call .filter)) e) in
+      let s = refusals.keeps-smooth x o y w w′ sm sc k l h (subst (λ (n : ℕ). n ≡ k) (seen.refusal-is (call .filter)) e) in
       (seen.parts-are (call .filter) (s .0) (s .1), call .mean ∙ s .3, call .cov ∙ s .2)
 
   pub blanked : seen.refusalOf r ≡ 12 → seen.BlankParts x w b w′ b′ × Blanked (smoothedMeanNeed x) 0ᶠ sm sm′ × Blanked (smoothedCovNeed x) 0ᶠ sc sc′
   blanked e =
-      let s = refusals.blanked-smooth x o y w w′ sc sm (subst (λ (n : ℕ). n ≡ 12) (seen.refusal-is (call .filter)) e) in
+      let s = refusals.blanked-smooth x o y w w′ sm sc (subst (λ (n : ℕ). n ≡ 12) (seen.refusal-is (call .filter)) e) in
       (seen.blanks (call .filter) (s .0), call .mean ∙ s .2, call .cov ∙ s .1)
 
   -- demand 2: no room
   pub determined : {s : Outcome} {c : CovParts} {c′ : MeanParts} {sm″ sc″ : List Float} → Called x o y w w′ sm sc s c c′ sm″ sc″ → Same r s b c b′ c′ sm′ sm″ sc′ sc″
   determined again = same call again refl
 
+  pub counts : seen.refusalOf r ≡ 0 → seen.Totals x y r b
+  counts e = seen.totals (call .filter) e (totals-smooth x o y w w′ sm sc)
+
   -- demand 3: the values of finite readings reach no smoothed covariance either
   pub values : (y′ : List Float) → demand.Alike y y′ → {s : Outcome} {c : CovParts} {c′ : MeanParts} {sm″ sc″ : List Float} → Called x o y′ w w′ sm sc s c c′ sm″ sc″ → seen.Blind r s b c × (sc′ ≡ sc″)
   values y′ alike other =
-      let e = smooth-by-classes x o y y′ (demand.alike-kinds y y′ alike) w w′ sc sm in (
+      let e = smooth-by-classes x o y y′ (demand.alike-classes y y′ alike) w w′ sm sc in (
         seen.blind (call .filter) (other .filter) (ap (λ (z : SmoothedCov). z .filter) e),
         call .cov ∙ ap (λ (z : SmoothedCov). z .smoothed) e ∙ sym (other .cov),
       )
@@ -69,10 +73,10 @@ module _ (x : Model) (o : Offsets) (y : List Float) (w : CovParts) (w′ : MeanP
   -- and no news changes none of the thirteen parts
   module _ (k : ℕ) (h : seen.NoNews y r b k) where
     pub number : (v : Float) → T (isFinite v) → {s : Outcome} {c : CovParts} {c′ : MeanParts} {sm″ sc″ : List Float} → Called x o (set y k v) w w′ sm sc s c c′ sm″ sc″ → Same r s b c b′ c′ sm′ sm″ sc′ sc″
-    number v f other = same call other (sym (demand.no-news-smooth x o y w w′ sc sm k (seen.no-news (call .filter) h) .number v f))
+    number v f other = same call other (sym (demand.no-news-smooth x o y w w′ sm sc k (seen.no-news (call .filter) h) .number v f))
 
     pub gap : {s : Outcome} {c : CovParts} {c′ : MeanParts} {sm″ sc″ : List Float} → Called x o (set y k nan) w w′ sm sc s c c′ sm″ sc″ → seen.OneLess r s × seen.SameParts b c b′ c′ × (sm′ ≡ sm″) × (sc′ ≡ sc″)
     gap other =
-        let u = demand.no-news-smooth x o y w w′ sc sm k (seen.no-news (call .filter) h) in
+        let u = demand.no-news-smooth x o y w w′ sm sc k (seen.no-news (call .filter) h) in
         let l = seen.one-less (call .filter) (other .filter) h (u .gapCov) (ap (λ (z : SmoothedMean). z .filter) (u .gapMean)) in
         (l .0, l .1, call .mean ∙ ap (λ (z : SmoothedMean). z .smoothed) (sym (u .gapMean)) ∙ sym (other .mean), call .cov ∙ sym (u .gapSmoothed) ∙ sym (other .cov))

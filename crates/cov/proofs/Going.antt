@@ -1,36 +1,43 @@
--- The loop over the periods: what holds before period i, how a period's three steps keep it, and what it comes to.
+-- The loop over the periods: what holds before period i, how a period keeps it, and what it comes to.
 use mathlib.Core.Path.{_≡_, refl, sym, ap, ap₂, _∙_, subst}
-use Prim.Native.Nat.{ℕ, _+_, _-_, _*_, _≤_, _<_}
+use Prim.Native.Nat.{ℕ, zero, suc, _+_, _-_, _*_, _≤_, _<_}
 use native.Mathlib.Omega.{arith}
 use mathlib.Core.Bool.{Bool, true, false, cond}
 use mathlib.Core.List.{List, [], _∷_, _++_, map}
-use lib.ListN.{length, getD, take}
+use lib.ListN.{length, getD, take, drop}
 use lib.Seq.{take-all}
 use lib.Ieee.{Float}
-use mir.Val.{Fits}
-use mir.Syntax.{w64}
-use Rattle.definition.specs.Dense.{symmetrise}
+use borrow.Rule.Slice.PartMut.{midOf}
 use Rattle.definition.specs.Run.{scan, count, join}
-use Rattle.definition.specs.Cov.{System, Cov, CovPeriod, isLive, entered, stepped, ended, periodOf, period, covRun}
-use Rattle.definition.specs.Inputs.{Class, isGap, gapRows, systemFrom, designFrom}
+use Rattle.definition.specs.Cov.{System, Cov, CovPeriod, periodOf, period, covRun}
+use Rattle.definition.specs.Inputs.{classOf, isGap, gapRows, systemFrom, designFrom}
 use Rattle.definition.specs.Parts.{predCov, predInf, filtCov, fStar, fInf, mStar, mInf, covBlock, kindBlock}
 use Rattle.definition.specs.Outcome.{covWritten, kindsWritten}
 use Rattle.laws.specs.Lists.{length-chunks}
-use Rattle.laws.specs.Passes.{wrote-none, wrote-next, wrote-all, state-next, state-all, count-next, count-append, chunk-at, block-in, lay-last}
+use Rattle.laws.specs.Passes.{wrote-none, wrote-next, wrote-all, state-next, state-all, count-next, count-append, chunk-at, block-in, over, lay-last}
 use Rattle.laws.specs.Passes as passes
+use Rattle.laws.specs.Backward.{block-long}
+use Rattle.laws.specs.Blocks.{part-in}
 use Rattle.dense.specs.Views.{vec, mat, rect}
-use Rattle.blocks.specs.Block.{Put}
-use Rattle.period.specs.Views.{stateOf}
-use Rattle.cov.specs.View.{gapsAt, Entered, absorbOf, Absorbed, Wrote, Left, Room, LoopedTo, Passed}
+use Rattle.dense.specs.Places.{Saved, saved}
+use Rattle.period.specs.Views.{stateOf, gapsOf}
+use Rattle.cov.specs.View.{Blocks, Held, Room, LoopedTo, Passed}
 
--- a whole period, from what its steps leave
-module _ (p m : ℕ) (h t r z s q b u : List Float) (live : Bool) (gaps : List Bool) where
-  pub whole : (l : Bool) (q₀ s₁ q₁ b₁ : List Float) (k : Cov) → l ≡ isLive m live q → q₀ ≡ entered m l q → s₁ ≡ absorbOf p m h z l u gaps s q₀ b .1 .star → q₁ ≡ absorbOf p m h z l u gaps s q₀ b .1 .pinf → b₁ ≡ absorbOf p m h z l u gaps s q₀ b .1 .root
-      → k ≡ stepped m t r l (symmetrise m s₁) (symmetrise m q₁) b₁ u
-      → _≡_ {A = CovPeriod × Cov} (record { diffuse = l; pred = s; predInf = q₀; decisions = absorbOf p m h z l u gaps s q₀ b .0; filt = symmetrise m s₁ }, k) (periodOf p m h t r z (record { star = s; pinf = q; root = b; unres = u; live = live }) gaps)
-  unfolding periodOf ended absorbOf
-  whole l q₀ s₁ q₁ b₁ k e1 e2 e3 e4 e5 e6 = rw (sym e1, sym e2, e6, e3, e4, e5) refl
+-- what is mapped over a part is a part of what is mapped over the whole
+map-take : {A B : Type 0} (f : A → B) (k : ℕ) (l : List A) → map f (take k l) ≡ take k (map f l)
+map-take f zero l = refl
+map-take f (suc k) [] = refl
+map-take {B = B} f (suc k) (x ∷ l) = ap (λ (r : List B). f x ∷ r) (map-take f k l)
 
+map-drop : {A B : Type 0} (f : A → B) (k : ℕ) (l : List A) → map f (drop k l) ≡ drop k (map f l)
+map-drop f zero l = refl
+map-drop f (suc k) [] = refl
+map-drop f (suc k) (x ∷ l) = map-drop f k l
+
+map-part : {A B : Type 0} (f : A → B) (k a : ℕ) (l : List A) → map f (take k (drop a l)) ≡ take k (drop a (map f l))
+map-part f k a l = map-take f k (drop a l) ∙ ap (take k) (map-drop f a l)
+
+-- the count of diffuse periods, one period further
 diffuse-more : (l : List CovPeriod) (b : CovPeriod) → count (λ c. c .diffuse) (l ++ (b ∷ [])) ≡ count (λ c. c .diffuse) l + cond (b .diffuse) 1 0
 unfolding count
 diffuse-more l b = let e = count-append (λ (c : CovPeriod). c .diffuse) l (b ∷ []) in omega arith
@@ -39,48 +46,33 @@ one-more : (b : Bool) (d d′ i : ℕ) → d′ ≡ d + cond b 1 0 → d ≤ i �
 one-more true d d′ i e h = omega arith
 one-more false d d′ i e h = omega arith
 
--- what the loop asks of the sizes
-pub part-in : {i n a b : ℕ} (k : ℕ) → i < n → n * k ≤ a → b ≡ a → i * k + k ≤ b
-part-in {i} {n} k h l e = omega (arith, block-in i n k h)
+-- how long block i of a part is
+abbrev long-at : {X : Type 0} → ℕ → ℕ → List X → ℕ
+long-at i k o = length (midOf (i * k) (i * k + k - i * k) o)
 
-pub less : {a l : ℕ} (k : ℕ) → a + k ≤ l → a ≤ l
-less k h = omega arith
-
-pub fits : {a l l′ : ℕ} → a ≤ l → l′ ≡ l → a ≤ l′
-fits h e = omega arith
-
-pub before : {i n : ℕ} → i < n → n ≤ 4096 → i < 4096
-before h l = omega arith
-
-pub exact : {y k : ℕ} → y ≡ k → k ≤ y
-exact e = omega arith
-
-pub fewer : {d i n : ℕ} → d ≤ i → i < n → n ≤ 4096 → d ≤ 4096
-fewer a b e = omega arith
-
-pub next-fits : {i n : ℕ} → i < n → n ≤ 4096 → Fits w64 (i + 1)
-next-fits a b = omega arith
-
-pub falls : (n i : ℕ) → i < n → n - (i + 1) < n - i
-falls n i h = omega arith
-
-module _ (p m : ℕ) (z zs h t r : List Float) (c : Cov) (ks : List Class) (n : ℕ) where
+module _ (p m : ℕ) (z zs h t r : List Float) (c : Cov) (y : List Float) (n : ℕ) where
   abbrev Y : System
   Y = systemFrom p m z zs h t r
 
   abbrev gs : List (List Bool)
-  gs = gapRows n p ks
+  gs = gapRows n p (map classOf y)
 
   abbrev past : ℕ → List CovPeriod × Cov
   past i = scan (period Y) 0 c (take i gs)
 
   rows : length gs ≡ n
   unfolding gapRows
-  rows = length-chunks n p (map isGap ks)
+  rows = length-chunks n p (map isGap (map classOf y))
 
-  row-at : (i : ℕ) → i < n → getD gs i [] ≡ gapsAt p ks i
+  -- the gaps of period i, in its own part of the readings
+  abbrev own-gaps : ℕ → List Bool
+  own-gaps i = gapsOf (take (i * p + p - i * p) (drop (i * p) y))
+
+  row-at : (i : ℕ) → i < n → own-gaps i ≡ getD gs i []
   unfolding gapRows
-  row-at i l = chunk-at n p (map isGap ks) i l
+  row-at i l =
+      let k : i * p + p - i * p ≡ p = omega arith in
+      rw k (ap (map isGap) (map-part classOf p (i * p) y) ∙ map-part isGap p (i * p) (map classOf y) ∙ sym (chunk-at n p (map isGap (map classOf y)) i l))
 
   pub record Going (i : ℕ) (s : Cov) (d : ℕ) (pc₀ pc pi₀ pi fc₀ fc : List Float) (k₀ k : List ℕ) (fs₀ fs fi₀ fi ms₀ ms mi₀ mi : List Float) : Type 0 where
     pub low : i ≤ n
@@ -114,34 +106,55 @@ module _ (p m : ℕ) (z zs h t r : List Float) (c : Cov) (ks : List Class) (n : 
         m-infs = wrote-none (period Y) (covBlock m mInf) (p * m) gs c mi;
       }
 
-  module _ {i d d′ : ℕ} {live l : Bool} {p* p∞ q₀ s₁ q₁ b₁ zi : List Float} (b u p*′ p∞′ b′ u′ : List Float) {pc₀ pc pc′ pi₀ pi pi′ fc₀ fc fc′ : List Float} {k₀ k k′ : List ℕ} {fs₀ fs fs′ fi₀ fi fi′ ms₀ ms ms′ mi₀ mi mi′ : List Float} where
-    pub going-next : Going i (stateOf m p* p∞ b u live) d pc₀ pc pi₀ pi fc₀ fc k₀ k fs₀ fs fi₀ fi ms₀ ms mi₀ mi → i < n → Room p m n (length pc₀) (length pi₀) (length fc₀) (length k₀) (length fs₀) (length fi₀) (length ms₀) (length mi₀)
-        → zi ≡ designFrom p m z zs i → Entered m i live p* p∞ q₀ pc pc′ pi pi′ l → Absorbed p m i (absorbOf p m h zi l (mat m u) (gapsAt p ks i) (mat m p*) (mat m q₀) (mat m b)) s₁ q₁ b₁ k k′ fs fs′ fi fi′ ms ms′ mi mi′
-        → Left m i l t r (stateOf m s₁ q₁ b₁ u l) (stateOf m p*′ p∞′ b′ u′ l) fc fc′ → d′ ≡ d + cond l 1 0
-        → Going (i + 1) (stateOf m p*′ p∞′ b′ u′ l) d′ pc₀ pc′ pi₀ pi′ fc₀ fc′ k₀ k′ fs₀ fs′ fi₀ fi′ ms₀ ms′ mi₀ mi′
-    unfolding systemFrom covBlock kindBlock
-    going-next g h′ room ez en ab le ed =
+  module _ {i d : ℕ} {s : Cov} {pc₀ pc pi₀ pi fc₀ fc : List Float} {k₀ k : List ℕ} {fs₀ fs fi₀ fi ms₀ ms mi₀ mi : List Float} where
+    -- the parts that period i is handed are its blocks
+    pub blocks-in : Going i s d pc₀ pc pi₀ pi fc₀ fc k₀ k fs₀ fs fi₀ fi ms₀ ms mi₀ mi → i < n → Room p m n (length pc₀) (length pi₀) (length fc₀) (length k₀) (length fs₀) (length fi₀) (length ms₀) (length mi₀)
+        → Blocks p m (long-at i (m * m) pc) (long-at i (m * m) pi) (long-at i (m * m) fc) (long-at i p k) (long-at i p fs) (long-at i p fi) (long-at i (p * m) ms) (long-at i (p * m) mi)
+    blocks-in g h′ room =
+        record {
+          pred = block-long i (m * m) pc (part-in (m * m) h′ (room .pred) (g .pred .0));
+          pred-inf = block-long i (m * m) pi (part-in (m * m) h′ (room .pred-inf) (g .pred-inf .0));
+          filt = block-long i (m * m) fc (part-in (m * m) h′ (room .filt) (g .filt .0));
+          records =
+              record {
+                kinds = block-long i p k (part-in p h′ (room .kinds) (g .kinds .0));
+                stars = block-long i p fs (part-in p h′ (room .stars) (g .stars .0));
+                infs = block-long i p fi (part-in p h′ (room .infs) (g .infs .0));
+                m-stars = block-long i (p * m) ms (part-in (p * m) h′ (room .m-stars) (g .m-stars .0));
+                m-infs = block-long i (p * m) mi (part-in (p * m) h′ (room .m-infs) (g .m-infs .0));
+              };
+        }
+
+  module _ {i d d′ : ℕ} {s s′ : Cov} {l : Bool} {zi : List Float} {pc₀ pc pi₀ pi fc₀ fc : List Float} {k₀ k : List ℕ} {fs₀ fs fi₀ fi ms₀ ms mi₀ mi : List Float} (pcb pib fcb : List Float) (kb : List ℕ) (fsb fib msb mib : List Float) where
+    -- period i leaves its blocks, each in its own part
+    pub going-next : Going i s d pc₀ pc pi₀ pi fc₀ fc k₀ k fs₀ fs fi₀ fi ms₀ ms mi₀ mi → i < n → Room p m n (length pc₀) (length pi₀) (length fc₀) (length k₀) (length fs₀) (length fi₀) (length ms₀) (length mi₀)
+        → Blocks p m (length pcb) (length pib) (length fcb) (length kb) (length fsb) (length fib) (length msb) (length mib)
+        → zi ≡ designFrom p m z zs i → Held m (periodOf p m h t r zi s (own-gaps i)) l s′ pcb pib fcb kb fsb fib msb mib → d′ ≡ d + cond l 1 0
+        → Going (i + 1) s′ d′ pc₀ (over i (m * m) pc pcb) pi₀ (over i (m * m) pi pib) fc₀ (over i (m * m) fc fcb) k₀ (over i p k kb) fs₀ (over i p fs fsb) fi₀ (over i p fi fib) ms₀ (over i (p * m) ms msb) mi₀ (over i (p * m) mi mib)
+    unfolding systemFrom
+    going-next g h′ room long ez w ed =
         let a : i < length gs = rw rows h′ in
-        let bm = block-in i n (m * m) h′ in
-        let bp = block-in i n p h′ in
-        let bg = block-in i n (p * m) h′ in
-        let it = whole p m h t r zi (mat m p*) (mat m p∞) (mat m b) (mat m u) live (gapsAt p ks i) l (mat m q₀) (mat m s₁) (mat m q₁) (mat m b₁) (stateOf m p*′ p∞′ b′ u′ l) (en .lasts) (en .pinf) (ab .star) (ab .pinf) (ab .root) (le .state) in
-        let now = it ∙ ap (λ (w : List Float). periodOf p m h t r w (stateOf m p* p∞ b u live) (gapsAt p ks i)) ez ∙ ap₂ (λ (w : Cov) (v : List Bool). period Y i w v) (g .state) (sym (row-at i h′)) in
-        let here : CovPeriod = period Y i (past i .1) (getD gs i []) .0 in
+        let here = period Y i (past i .1) (getD gs i []) in
+        let now : periodOf p m h t r zi s (own-gaps i) ≡ here = ap (λ (v : List Float). periodOf p m h t r v s (own-gaps i)) ez ∙ ap₂ (λ (w : Cov) (v : List Bool). period Y i w v) (g .state) (row-at i h′) in
+        let held = subst (λ (q : CovPeriod × Cov). Held m q l s′ pcb pib fcb kb fsb fib msb mib) now w in
         record {
           low = omega arith;
-          state = state-next (period Y) gs c i [] (past i .1) (stateOf m p*′ p∞′ b′ u′ l) a refl (ap (λ (q : CovPeriod × Cov). q .1) now);
-          diffuse = count-next (period Y) gs c (λ (q : CovPeriod). cond (q .diffuse) 1 0) (count (λ (q : CovPeriod). q .diffuse)) diffuse-more i [] d d′ a (g .diffuse) (ed ∙ ap (λ (q : CovPeriod × Cov). d + cond (q .0 .diffuse) 1 0) now);
+          state = state-next (period Y) gs c i [] (past i .1) s′ a refl (held .state);
+          diffuse = count-next (period Y) gs c (λ (q : CovPeriod). cond (q .diffuse) 1 0) (count (λ (q : CovPeriod). q .diffuse)) diffuse-more i [] d d′ a (g .diffuse) (ed ∙ ap (λ (b : Bool). d + cond b 1 0) (held .diffuse));
           few = one-more l d d′ i ed (g .few);
-          pred = rw (en .pred) (wrote-next (period Y) (covBlock m predCov) (m * m) gs c i [] pc₀ pc (mat m p*) a (omega (arith, room .pred)) (g .pred) (en .long) (ap (λ (q : CovPeriod × Cov). q .0 .pred) now));
-          pred-inf = rw (en .pred-inf) (wrote-next (period Y) (covBlock m predInf) (m * m) gs c i [] pi₀ pi (mat m q₀) a (omega (arith, room .pred-inf)) (g .pred-inf) (en .long-inf) (ap (λ (q : CovPeriod × Cov). q .0 .predInf) now));
-          filt = rw (le .filt .is) (wrote-next (period Y) (covBlock m filtCov) (m * m) gs c i [] fc₀ fc _ a (omega (arith, room .filt)) (g .filt) (le .filt .long) (ap (λ (q : CovPeriod × Cov). q .0 .filt) now));
-          kinds = rw (ab .kinds .is) (wrote-next (period Y) kindBlock p gs c i [] k₀ k _ a (omega (arith, room .kinds)) (g .kinds) (ab .kinds .long) (ap (λ (q : CovPeriod × Cov). kindBlock (q .0)) now));
-          stars = rw (ab .stars .is) (wrote-next (period Y) (covBlock m fStar) p gs c i [] fs₀ fs _ a (omega (arith, room .stars)) (g .stars) (ab .stars .long) (ap (λ (q : CovPeriod × Cov). covBlock m fStar (q .0)) now));
-          infs = rw (ab .infs .is) (wrote-next (period Y) (covBlock m fInf) p gs c i [] fi₀ fi _ a (omega (arith, room .infs)) (g .infs) (ab .infs .long) (ap (λ (q : CovPeriod × Cov). covBlock m fInf (q .0)) now));
-          m-stars = rw (ab .m-stars .is) (wrote-next (period Y) (covBlock m mStar) (p * m) gs c i [] ms₀ ms _ a (omega (arith, room .m-stars)) (g .m-stars) (ab .m-stars .long) (ap (λ (q : CovPeriod × Cov). covBlock m mStar (q .0)) now));
-          m-infs = rw (ab .m-infs .is) (wrote-next (period Y) (covBlock m mInf) (p * m) gs c i [] mi₀ mi _ a (omega (arith, room .m-infs)) (g .m-infs) (ab .m-infs .long) (ap (λ (q : CovPeriod × Cov). covBlock m mInf (q .0)) now));
+          pred = wrote (covBlock m predCov) (m * m) pc₀ pc pcb a h′ (room .pred) (g .pred) (long .pred) (held .pred);
+          pred-inf = wrote (covBlock m predInf) (m * m) pi₀ pi pib a h′ (room .pred-inf) (g .pred-inf) (long .pred-inf) (held .pred-inf);
+          filt = wrote (covBlock m filtCov) (m * m) fc₀ fc fcb a h′ (room .filt) (g .filt) (long .filt) (held .filt);
+          kinds = wrote kindBlock p k₀ k kb a h′ (room .kinds) (g .kinds) (long .records .kinds) (held .kinds);
+          stars = wrote (covBlock m fStar) p fs₀ fs fsb a h′ (room .stars) (g .stars) (long .records .stars) (held .stars);
+          infs = wrote (covBlock m fInf) p fi₀ fi fib a h′ (room .infs) (g .infs) (long .records .infs) (held .infs);
+          m-stars = wrote (covBlock m mStar) (p * m) ms₀ ms msb a h′ (room .m-stars) (g .m-stars) (long .records .m-stars) (held .m-stars);
+          m-infs = wrote (covBlock m mInf) (p * m) mi₀ mi mib a h′ (room .m-infs) (g .m-infs) (long .records .m-infs) (held .m-infs);
         }
+      where
+        wrote : {X : Type 0} (f : CovPeriod → List X) (k : ℕ) (old o b : List X) → i < length gs → i < n → n * k ≤ length old → passes.Wrote (period Y) f k gs c old o i → length b ≡ k → b ≡ f (period Y i (past i .1) (getD gs i []) .0)
+            → passes.Wrote (period Y) f k gs c old (over i k o b) (i + 1)
+        wrote f k old o b a h room w l e = wrote-next (period Y) f k gs c i [] old o b a (omega (arith, block-in i n k h)) w l e
 
   module _ {i d : ℕ} {live : Bool} (p* p∞ b u : List Float) {pc₀ pc pi₀ pi fc₀ fc : List Float} {k₀ k : List ℕ} {fs₀ fs fi₀ fi ms₀ ms mi₀ mi : List Float} where
     pub going-all : Going i (stateOf m p* p∞ b u live) d pc₀ pc pi₀ pi fc₀ fc k₀ k fs₀ fs fi₀ fi ms₀ ms mi₀ mi → n ≤ i → Room p m n (length pc₀) (length pi₀) (length fc₀) (length k₀) (length fs₀) (length fi₀) (length ms₀) (length mi₀)
@@ -165,15 +178,15 @@ module _ (p m : ℕ) (z zs h t r : List Float) (c : Cov) (ks : List Class) (n : 
           m-infs = wrote-all (period Y) (covBlock m mInf) (p * m) gs c n i mi₀ mi rows e (room .m-infs) (g .m-infs);
         }
 
--- place n written too
-module _ (p m n : ℕ) {r : List CovPeriod × Cov} {d : ℕ} {p* p∞ : List Float} {pc₀ pc pc′ pi₀ pi pi′ fc₀ fc : List Float} {k₀ k : List ℕ} {fs₀ fs fi₀ fi ms₀ ms mi₀ mi : List Float} where
-  pub passed : LoopedTo p m n r p* p∞ d pc₀ pc pi₀ pi fc₀ fc k₀ k fs₀ fs fi₀ fi ms₀ ms mi₀ mi → Put n (m * m) p* pc pc′ → Put n (m * m) p∞ pi pi′ → Passed p m n r d pc₀ pc′ pi₀ pi′ fc₀ fc k₀ k fs₀ fs fi₀ fi ms₀ ms mi₀ mi
-  unfolding covWritten kindsWritten rect
-  passed l wc wi =
+-- place n stored too, in its own part
+module _ (p m n : ℕ) {r : List CovPeriod × Cov} {d : ℕ} {p* p∞ : List Float} {pc₀ pc pi₀ pi fc₀ fc : List Float} {k₀ k : List ℕ} {fs₀ fs fi₀ fi ms₀ ms mi₀ mi : List Float} (pcb pib : List Float) where
+  pub passed : LoopedTo p m n r p* p∞ d pc₀ pc pi₀ pi fc₀ fc k₀ k fs₀ fs fi₀ fi ms₀ ms mi₀ mi → length pcb ≡ m * m → pcb ≡ mat m p* → length pib ≡ m * m → pib ≡ mat m p∞ → Passed p m n r d pc₀ (over n (m * m) pc pcb) pi₀ (over n (m * m) pi pib) fc₀ fc k₀ k fs₀ fs fi₀ fi ms₀ ms mi₀ mi
+  unfolding covWritten kindsWritten
+  passed l lc ec li ei =
       record {
         diffuse = l .diffuse;
-        pred = rw (wc .is, ← l .star) (lay-last n (m * m) (join (map (covBlock m predCov) (r .0))) (mat m p*) pc₀ pc (l .pred) (wc .long));
-        pred-inf = rw (wi .is, ← l .pinf) (lay-last n (m * m) (join (map (covBlock m predInf) (r .0))) (mat m p∞) pi₀ pi (l .pred-inf) (wi .long));
+        pred = rw (← l .star, ← ec) (lay-last n (m * m) (join (map (covBlock m predCov) (r .0))) pcb pc₀ pc (l .pred) lc);
+        pred-inf = rw (← l .pinf, ← ei) (lay-last n (m * m) (join (map (covBlock m predInf) (r .0))) pib pi₀ pi (l .pred-inf) li);
         filt = l .filt;
         kinds = l .kinds;
         stars = l .stars;
@@ -191,7 +204,9 @@ module _ (p m n : ℕ) (z zs : List Float) (gs : List (List Bool)) (h h′ t t�
   same-run : h′ ≡ h → t′ ≡ t → r′ ≡ r → c′ ≡ c → covRun (systemFrom p m z zs h′ t′ r′) 0 c′ gs ≡ covRun (systemFrom p m z zs h t r) 0 c gs
   same-run a b e f = cc
 
-  module _ {d : ℕ} {p* p∞ : List Float} {pc₀ pc pc′ pi₀ pi pi′ fc₀ fc : List Float} {k₀ k : List ℕ} {fs₀ fs fi₀ fi ms₀ ms mi₀ mi : List Float} where
-    pub finished : h′ ≡ h → t′ ≡ t → r′ ≡ r → c′ ≡ c → LoopedTo p m n (covRun (systemFrom p m z zs h′ t′ r′) 0 c′ gs) p* p∞ d pc₀ pc pi₀ pi fc₀ fc k₀ k fs₀ fs fi₀ fi ms₀ ms mi₀ mi → Put n (m * m) p* pc pc′ → Put n (m * m) p∞ pi pi′
-        → Passed p m n (covRun (systemFrom p m z zs h t r) 0 c gs) d pc₀ pc′ pi₀ pi′ fc₀ fc k₀ k fs₀ fs fi₀ fi ms₀ ms mi₀ mi
-    finished a b e f l wc wi = passed p m n (subst (λ (q : List CovPeriod × Cov). LoopedTo p m n q p* p∞ d pc₀ pc pi₀ pi fc₀ fc k₀ k fs₀ fs fi₀ fi ms₀ ms mi₀ mi) (same-run a b e f) l) wc wi
+  module _ {d : ℕ} {p* p∞ : List Float} {pc₀ pc pi₀ pi fc₀ fc : List Float} {k₀ k : List ℕ} {fs₀ fs fi₀ fi ms₀ ms mi₀ mi : List Float} (pcb pib : List Float) where
+    pub finished : h′ ≡ h → t′ ≡ t → r′ ≡ r → c′ ≡ c → LoopedTo p m n (covRun (systemFrom p m z zs h′ t′ r′) 0 c′ gs) p* p∞ d pc₀ pc pi₀ pi fc₀ fc k₀ k fs₀ fs fi₀ fi ms₀ ms mi₀ mi
+        → {a b : ℕ} → a ≡ m * m → Saved a p* pcb → b ≡ m * m → Saved b p∞ pib
+        → Passed p m n (covRun (systemFrom p m z zs h t r) 0 c gs) d pc₀ (over n (m * m) pc pcb) pi₀ (over n (m * m) pi pib) fc₀ fc k₀ k fs₀ fs fi₀ fi ms₀ ms mi₀ mi
+    unfolding rect
+    finished a b e f l ec wc ei wi = passed p m n pcb pib (subst (λ (q : List CovPeriod × Cov). LoopedTo p m n q p* p∞ d pc₀ pc pi₀ pi fc₀ fc k₀ k fs₀ fs fi₀ fi ms₀ ms mi₀ mi) (same-run a b e f) l) (wc .kept ∙ ec) (saved ec wc) (wi .kept ∙ ei) (saved ei wi)

@@ -1,9 +1,8 @@
 -- What the covariance pass's functions need of the lent parts, and what they promise.
 use mathlib.Core.Path.{_≡_}
-use Prim.Native.Nat.{ℕ, _+_, _*_, _≤_, _<_}
+use Prim.Native.Nat.{ℕ, _+_, _*_, _≤_}
 use mathlib.Core.Bool.{Bool}
 use mathlib.Core.List.{List, [], map}
-use lib.ListN.{length, take, drop}
 use lib.Ieee.{Float}
 use Rattle.definition.specs.Dense.{symmetrise}
 use Rattle.definition.specs.Run.{scan, join, count}
@@ -11,67 +10,74 @@ use Rattle.definition.specs.Cov.{Cov, CovPeriod, Decision, Inner, isLive, enter
 use Rattle.definition.specs.Parts.{predCov, predInf, filtCov, fStar, fInf, mStar, mInf, covBlock, kindBlock, kindNo, mStarOf, mInfOf}
 use Rattle.definition.specs.Parts as parts
 use Rattle.definition.specs.Outcome.{covWritten, kindsWritten}
-use Rattle.definition.specs.Inputs.{Class, isGap}
-use Rattle.laws.specs.Passes.{Laid, over}
+use Rattle.laws.specs.Passes.{Laid}
 use Rattle.dense.specs.Views.{mat}
 use Rattle.model.specs.Design.{DesignFits}
 use Rattle.model.specs.Places.{NoiseFits, StartFits}
 
--- ---- one period, in three steps; block t of a part, of k places, is replaced by what the step stores
+-- ---- one period, in three steps
 
--- the gaps of period t
-abbrev pub gapsAt : ℕ → List Class → ℕ → List Bool
-gapsAt p ks t = take p (drop (t * p) (map isGap ks))
-
-pub record Two (m t : ℕ) (pc pi : ℕ) : Type 0 where
-  pub m8 : m ≤ 8
-  pub pred : t * (m * m) + m * m ≤ pc
-  pub pred-inf : t * (m * m) + m * m ≤ pi
-
-pub record Entered (m t : ℕ) (live : Bool) (p* p∞ q∞ pc pc′ pi pi′ : List Float) (r : Bool) : Type 0 where
-  pub lasts : r ≡ isLive m live (mat m p∞)
-  pub pinf : mat m q∞ ≡ entered m r (mat m p∞)
-  pub pred : pc′ ≡ over t (m * m) pc (mat m p*)
-  pub pred-inf : pi′ ≡ over t (m * m) pi (mat m q∞)
-  pub long : length (mat m p*) ≡ m * m
-  pub long-inf : length (mat m q∞) ≡ m * m
-
-pub record Five (p m t : ℕ) (design y ks fs fi ms mi : ℕ) : Type 0 where
+-- its design, of p rows, and its p readings
+pub record Period (p m : ℕ) (design ys : ℕ) : Type 0 where
   pub p8 : p ≤ 8
   pub m8 : m ≤ 8
-  pub t4096 : t < 4096
   pub designed : design ≡ p * m
-  pub readings : t * p + p ≤ y
-  pub kinds : t * p + p ≤ ks
-  pub stars : t * p + p ≤ fs
-  pub infs : t * p + p ≤ fi
-  pub m-stars : t * (p * m) + p * m ≤ ms
-  pub m-infs : t * (p * m) + p * m ≤ mi
+  pub readings : ys ≡ p
+
+-- its own part of each output: as long as its block, and no longer
+pub record Records (p m : ℕ) (ks fs fi ms mi : ℕ) : Type 0 where
+  pub kinds : ks ≡ p
+  pub stars : fs ≡ p
+  pub infs : fi ≡ p
+  pub m-stars : ms ≡ p * m
+  pub m-infs : mi ≡ p * m
+
+pub record Blocks (p m : ℕ) (pc pi fc ks fs fi ms mi : ℕ) : Type 0 where
+  pub pred : pc ≡ m * m
+  pub pred-inf : pi ≡ m * m
+  pub filt : fc ≡ m * m
+  pub records : Records p m ks fs fi ms mi
+
+-- the test, P∞ as it enters, and the predicted P* and P∞ stored
+pub record Entered (m : ℕ) (live : Bool) (p* p∞ q∞ pc pi : List Float) (l : Bool) : Type 0 where
+  pub lasts : l ≡ isLive m live (mat m p∞)
+  pub pinf : mat m q∞ ≡ entered m l (mat m p∞)
+  pub pred : pc ≡ mat m p*
+  pub pred-inf : pi ≡ mat m q∞
 
 -- the decisions, and the state after the elements
 unfoldable pub absorbOf : ℕ → ℕ → List Float → List Float → Bool → List Float → List Bool → List Float → List Float → List Float → List Decision × Inner
 absorbOf p m h z live unres gaps star pinf root =
     scan (elementOf p m h (record { diffuse = live; z = z; pre = star; unres = unres })) 0 (record { star = star; pinf = pinf; root = root; taken = [] }) gaps
 
--- a block written: its contents, as many as there are places
-pub record Wrote {A : Type 0} (t k : ℕ) (b old new : List A) : Type 0 where
-  pub is : new ≡ over t k old b
-  pub long : length b ≡ k
-
-pub record Absorbed (p m t : ℕ) (want : List Decision × Inner) (q* q∞ b′ : List Float) (ks ks′ : List ℕ) (fs fs′ fi fi′ ms ms′ mi mi′ : List Float) : Type 0 where
-  pub kinds : Wrote t p (map kindNo (want .0)) ks ks′
-  pub stars : Wrote t p (map parts.fStarOf (want .0)) fs fs′
-  pub infs : Wrote t p (map parts.fInfOf (want .0)) fi fi′
-  pub m-stars : Wrote t (p * m) (join (map (mStarOf m) (want .0))) ms ms′
-  pub m-infs : Wrote t (p * m) (join (map (mInfOf m) (want .0))) mi mi′
+-- those decisions stored
+pub record Absorbed (m : ℕ) (want : List Decision × Inner) (q* q∞ b : List Float) (ks : List ℕ) (fs fi ms mi : List Float) : Type 0 where
+  pub kinds : ks ≡ map kindNo (want .0)
+  pub stars : fs ≡ map parts.fStarOf (want .0)
+  pub infs : fi ≡ map parts.fInfOf (want .0)
+  pub m-stars : ms ≡ join (map (mStarOf m) (want .0))
+  pub m-infs : mi ≡ join (map (mInfOf m) (want .0))
   pub star : mat m q* ≡ want .1 .star
   pub pinf : mat m q∞ ≡ want .1 .pinf
-  pub root : mat m b′ ≡ want .1 .root
+  pub root : mat m b ≡ want .1 .root
 
 -- the filtered P* stored, and the state gone on by T
-pub record Left (m t : ℕ) (live : Bool) (tr rqr : List Float) (c c′ : Cov) (fc fc′ : List Float) : Type 0 where
-  pub filt : Wrote t (m * m) (symmetrise m (c .star)) fc fc′
+pub record Left (m : ℕ) (live : Bool) (tr rqr : List Float) (c c′ : Cov) (fc : List Float) : Type 0 where
+  pub filt : fc ≡ symmetrise m (c .star)
   pub state : c′ ≡ stepped m tr rqr live (symmetrise m (c .star)) (symmetrise m (c .pinf)) (c .root) (c .unres)
+
+-- what the whole period leaves, over the definition's period q: the state, and in each part the block that q has for it
+pub record Held (m : ℕ) (q : CovPeriod × Cov) (l : Bool) (s : Cov) (pc pi fc : List Float) (ks : List ℕ) (fs fi ms mi : List Float) : Type 0 where
+  pub state : s ≡ q .1
+  pub diffuse : l ≡ q .0 .diffuse
+  pub pred : pc ≡ covBlock m predCov (q .0)
+  pub pred-inf : pi ≡ covBlock m predInf (q .0)
+  pub filt : fc ≡ covBlock m filtCov (q .0)
+  pub kinds : ks ≡ kindBlock (q .0)
+  pub stars : fs ≡ covBlock m fStar (q .0)
+  pub infs : fi ≡ covBlock m fInf (q .0)
+  pub m-stars : ms ≡ covBlock m mStar (q .0)
+  pub m-infs : mi ≡ covBlock m mInf (q .0)
 
 -- ---- all n periods: the design and the readings, and room for the blocks
 

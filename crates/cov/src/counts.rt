@@ -32,7 +32,7 @@ fn and_kept(k: usize, kind: u8) -> usize
     requires { ⌜ k ≤ 65536 ⌝ }
     ensures { λ r. ⌜ r ≡ k + cond (isKept kind) 1 0 ⌝ }
 {
-    if kind == 0 { k } else { k + 1 }
+    if kind == promise::SKIPPED { k } else { k + 1 }
 }
 
 // Of the first n records.

@@ -9,8 +9,9 @@ use lib.Ieee.{Float}
 use Rattle.definition.specs.Num.{0ᶠ}
 use Rattle.definition.specs.Run.{scanBack, join}
 use Rattle.definition.specs.Inputs.{designFrom, frameFrom}
+use Rattle.definition.specs.Cov.{CovPeriod}
 use Rattle.definition.specs.Mean.{Frame}
-use Rattle.definition.specs.Smooth.{Look, Ns, backCovOf, backCov, noNs}
+use Rattle.definition.specs.Smooth.{Ns, backCovOf, backCov, noNs}
 use Rattle.laws.specs.Lists.{tab-at, length-tab}
 use Rattle.laws.specs.Flat.{Flat, lookAt, looks}
 use Rattle.laws.specs.Passes.{over, Laid}
@@ -20,7 +21,7 @@ use Rattle.dense.proofs.Laws.{vec-zeros}
 use Rattle.element_back.specs.View.{nsIn}
 
 module _ (y : Frame) (s₀ : Ns) (n p m dd : ℕ) (pc pi : List Float) (r : Flat) where
-  abbrev pub ls : List Look
+  abbrev pub ls : List CovPeriod
   ls = looks n p m dd pc pi r
 
   pub record Going (i : ℕ) (s : Ns) (o₀ o : List Float) : Type 0 where
@@ -32,7 +33,7 @@ module _ (y : Frame) (s₀ : Ns) (n p m dd : ℕ) (pc pi : List Float) (r : Flat
   unfolding looks
   long = length-tab n 0 (lookAt p m dd pc pi r)
 
-  look-at : (t : ℕ) (d : Look) → t < n → getD ls t d ≡ lookAt p m dd pc pi r t
+  look-at : (t : ℕ) (d : CovPeriod) → t < n → getD ls t d ≡ lookAt p m dd pc pi r t
   unfolding looks
   look-at t d h = tab-at n 0 t (lookAt p m dd pc pi r) d h ∙ ap (lookAt p m dd pc pi r) (zero-add t)
 
@@ -61,7 +62,7 @@ module _ (y : Frame) (s₀ : Ns) (n p m dd : ℕ) (pc pi : List Float) (r : Flat
     going-all g h room = let e : i ≡ 0 = omega arith in from-all (backCov y) (m * m) ls s₀ n o₀ o long room (rw e at (g .out))
 
 -- the frame's period, with the design and T that the code has
-pub framed : (p m t : ℕ) (z zs tr design : List Float) (s : Ns) (l : Look) {b : List Float × Ns} → design ≡ designFrom p m z zs t → b ≡ backCovOf m tr design s l → b ≡ backCov (frameFrom p m z zs tr) t s l
+pub framed : (p m t : ℕ) (z zs tr design : List Float) (s : Ns) (l : CovPeriod) {b : List Float × Ns} → design ≡ designFrom p m z zs t → b ≡ backCovOf m tr design s l → b ≡ backCov (frameFrom p m z zs tr) t s l
 unfolding frameFrom
 framed p m t z zs tr design s l q h = h ∙ ap (λ (d : List Float). backCovOf m tr d s l) q
 
@@ -71,6 +72,6 @@ none-yet : (m : ℕ) → m * m ≤ 64 → nsIn m (replicate 64 0ᶠ) (replicate 
 unfolding noNs vec rect
 none-yet m h = rw (vec-zeros (m * m) 64 h) refl
 
-pub passed : (p m : ℕ) (k : ℕ) (z zs t tr : List Float) (ls : List Look) {o₀ o : List Float} → m * m ≤ 64 → mat m tr ≡ t → Laid k (join (scanBack (backCov (frameFrom p m z zs (mat m tr))) 0 (nsIn m (replicate 64 0ᶠ) (replicate 64 0ᶠ) (replicate 64 0ᶠ)) ls .0)) o₀ o
+pub passed : (p m : ℕ) (k : ℕ) (z zs t tr : List Float) (ls : List CovPeriod) {o₀ o : List Float} → m * m ≤ 64 → mat m tr ≡ t → Laid k (join (scanBack (backCov (frameFrom p m z zs (mat m tr))) 0 (nsIn m (replicate 64 0ᶠ) (replicate 64 0ᶠ) (replicate 64 0ᶠ)) ls .0)) o₀ o
     → Laid k (join (scanBack (backCov (frameFrom p m z zs t)) 0 (noNs m) ls .0)) o₀ o
 passed p m k z zs t tr ls h e l = rw (e, none-yet m h) at l

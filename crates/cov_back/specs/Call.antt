@@ -1,5 +1,5 @@
 -- What a call hands the covariances' way back once refusals 1 and 2 have passed, and what the pass's run is in the call's outcome.
-use mathlib.Core.Path.{_≡_, ap}
+use mathlib.Core.Path.{_≡_, ap, _∙_}
 use Prim.Native.Nat.{ℕ, _+_, _*_, _/_, _≤_}
 use native.Mathlib.Omega.{arith}
 use mathlib.Core.Bool.{Bool}
@@ -7,11 +7,12 @@ use mathlib.Core.List.{List, map}
 use lib.ListN.{length}
 use Rattle.definition.specs.Run.{scanBack}
 use Rattle.definition.specs.Cov.{CovPeriod}
-use Rattle.definition.specs.Smooth.{Look, lookOf, backCov, noNs, smoothCov}
+use Rattle.definition.specs.Smooth.{backCov, noNs, smoothCov}
 use Rattle.definition.specs.Parts.{predCov, predInf, fStar, fInf, mStar, mInf}
 use Rattle.definition.specs.Inputs.{Model, Offsets, frameFrom, frameOf}
 use Rattle.definition.specs.Outcome.{kindsNeed, covNeed, smoothedCovNeed}
-use Rattle.laws.specs.Flat.{Flat}
+use Rattle.laws.specs.Flat.{Flat, lookOf}
+use Rattle.laws.specs.Backward.{cov-looked}
 use Rattle.laws.specs.Accepted.{Accepted}
 use Rattle.model.specs.Past.{design-fits}
 use Rattle.cov_back.specs.View.{Ready}
@@ -44,6 +45,6 @@ module _ (x : Model) (o : Offsets) where
   own-room h = h
 
   -- over looks that are those of cs: the outcome's run
-  pub run-of : (cs : List CovPeriod) (ls : List Look) → ls ≡ map lookOf cs → scanBack (backCov (frameFrom (x .p) (x .m) (x .zOnce) (x .zList) (x .t))) 0 (noNs (x .m)) ls .0 ≡ smoothCov (frameOf x) cs
-  unfolding smoothCov frameOf frameFrom
-  run-of cs ls e = ap (λ (l : List Look). scanBack (backCov (frameFrom (x .p) (x .m) (x .zOnce) (x .zList) (x .t))) 0 (noNs (x .m)) l .0) e
+  pub run-of : (cs : List CovPeriod) (ls : List CovPeriod) → ls ≡ map lookOf cs → scanBack (backCov (frameFrom (x .p) (x .m) (x .zOnce) (x .zList) (x .t))) 0 (noNs (x .m)) ls .0 ≡ smoothCov (frameOf x) cs
+  unfolding frameOf frameFrom
+  run-of cs ls e = ap (λ (l : List CovPeriod). scanBack (backCov (frameFrom (x .p) (x .m) (x .zOnce) (x .zList) (x .t))) 0 (noNs (x .m)) l .0) e ∙ cov-looked (frameOf x) cs

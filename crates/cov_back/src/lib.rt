@@ -1,5 +1,5 @@
 // smoother.rs, the covariances' way back: a period's elements last to first, its smoothed covariance, the step to the period before, and the pass
-// from the last period to the first. It takes the records and the predicted covariances as the covariance pass left them.
+// from the last period to the first. It takes the decisions, the gain vectors and the predicted covariances as the covariance pass left them.
 ghost use mathlib.Core.Path.{_≡_};
 ghost use mathlib.Core.Bool.{cond};
 ghost use mathlib.Core.List.{List};
@@ -18,7 +18,7 @@ ghost use Rattle.cov_back.specs.View.{Element, Period, Blocks, Periods, 
 
 // ---- the elements
 
-// Element i of a period, by the record at place k.
+// Element i of a period, by the decision that stands at place k of the flat parts.
 fn element(
     n0: &mut [f64; 64],
     n1: &mut [f64; 64],
@@ -34,10 +34,13 @@ fn element(
     i: usize,
     k: usize,
 )
-    requires { ⌜ Element m i k (length (now design)) (flatIn (now kinds) (now «f_star») (now «f_inf») (now «m_star») (now «m_inf»)) ⌝ }
-    ensures { λ _. ⌜ nsIn m (now (n0 .exit)) (now (n1 .exit)) (now (n2 .exit)) ≡ backElement m live (now (design .entry)) i
+    requires { ⌜ Element m i k (length (now design))
+        (flatIn (now kinds) (now «f_star») (now «f_inf») (now «m_star») (now «m_inf»)) ⌝ }
+    ensures { λ _. ⌜ nsIn m (now (n0 .exit)) (now (n1 .exit)) (now (n2 .exit))
+        ≡ backElement m live (now (design .entry)) i
         (nsIn m (now (n0 .entry)) (now (n1 .entry)) (now (n2 .entry)))
-        (readBack m (flatIn (now (kinds .entry)) (now («f_star» .entry)) (now («f_inf» .entry)) (now («m_star» .entry)) (now («m_inf» .entry))) k) ⌝ }
+        (readBack m (flatIn (now (kinds .entry)) (now («f_star» .entry)) (now («f_inf» .entry))
+        (now («m_star» .entry)) (now («m_inf» .entry))) k) ⌝ }
 {
     let row = i * m;
     let row_end = row + m;
@@ -77,10 +80,12 @@ fn elements(
     m: usize,
     t: usize,
 )
-    requires { ⌜ Period p m t (length (now design)) (flatIn (now kinds) (now «f_star») (now «f_inf») (now «m_star») (now «m_inf»)) ⌝ }
+    requires { ⌜ Period p m t (length (now design))
+        (flatIn (now kinds) (now «f_star») (now «f_inf») (now «m_star») (now «m_inf»)) ⌝ }
     ensures { λ _. ⌜ nsIn m (now (n0 .exit)) (now (n1 .exit)) (now (n2 .exit)) ≡ elementsN m live (now (design .entry))
         (nsIn m (now (n0 .entry)) (now (n1 .entry)) (now (n2 .entry)))
-        (decisionsAt p m (flatIn (now (kinds .entry)) (now («f_star» .entry)) (now («f_inf» .entry)) (now («m_star» .entry)) (now («m_inf» .entry))) t) ⌝ }
+        (decisionsAt p m (flatIn (now (kinds .entry)) (now («f_star» .entry)) (now («f_inf» .entry))
+        (now («m_star» .entry)) (now («m_inf» .entry))) t) ⌝ }
 {
     let first = t * p;
     let mut i = p;
@@ -109,7 +114,8 @@ fn elements(
 // V - A N B, as V - (A N) B.
 fn less_between(v: &mut [f64; 64], a: &[f64; 64], n: &[f64; 64], b: &[f64; 64], m: usize)
     requires { ⌜ m ≤ 8 ⌝ }
-    ensures { λ _. ⌜ mat m (now (v .exit)) ≡ minus m (mat m (now (v .entry))) (between m (mat m (now (a .entry))) (mat m (now (n .entry))) (mat m (now (b .entry)))) ⌝ }
+    ensures { λ _. ⌜ mat m (now (v .exit)) ≡ minus m (mat m (now (v .entry)))
+        (between m (mat m (now (a .entry))) (mat m (now (n .entry))) (mat m (now (b .entry)))) ⌝ }
 {
     let mut an = [0.0; 64];
     let mut anb = [0.0; 64];
@@ -128,7 +134,8 @@ fn less_diffuse(
     m: usize,
 )
     requires { ⌜ m ≤ 8 ⌝ }
-    ensures { λ _. ⌜ ((n0 : List Float) → mat m (now (v .exit)) ≡ diffuseV m (mat m (now (p .entry))) (mat m (now («p_inf» .entry)))
+    ensures { λ _. ⌜ ((n0 : List Float) → mat m (now (v .exit)) ≡ diffuseV m
+        (mat m (now (p .entry))) (mat m (now («p_inf» .entry)))
         (record { n0 = n0; n1 = mat m (now (n1 .entry)); n2 = mat m (now (n2 .entry)) }) (mat m (now (v .entry)))) ⌝ }
 {
     let mut a = [0.0; 64];
@@ -152,8 +159,10 @@ fn less_if_diffuse(
     m: usize,
 )
     requires { ⌜ (m ≤ 8) × (length (now «pred_inf») ≡ m * m) ⌝ }
-    ensures { λ _. ⌜ ((n0 : List Float) → mat m (now (v .exit)) ≡ cond live (diffuseV m (mat m (now (p .entry))) (now («pred_inf» .entry))
-        (record { n0 = n0; n1 = mat m (now (n1 .entry)); n2 = mat m (now (n2 .entry)) }) (mat m (now (v .entry)))) (mat m (now (v .entry)))) ⌝ }
+    ensures { λ _. ⌜ ((n0 : List Float) → mat m (now (v .exit)) ≡ cond live
+        (diffuseV m (mat m (now (p .entry))) (now («pred_inf» .entry))
+        (record { n0 = n0; n1 = mat m (now (n1 .entry)); n2 = mat m (now (n2 .entry)) }) (mat m (now (v .entry))))
+        (mat m (now (v .entry)))) ⌝ }
 {
     if live {
         let p_inf = dense::load64(pred_inf);
@@ -172,8 +181,10 @@ fn smoothed(
     pred_inf: &[f64],
     m: usize,
 )
-    requires { ⌜ (m ≤ 8) × ((length (now out) ≡ m * m) × ((length (now pred) ≡ m * m) × (length (now «pred_inf») ≡ m * m))) ⌝ }
-    ensures { λ _. ⌜ now (out .exit) ≡ backV m live (now (pred .entry)) (now («pred_inf» .entry)) (nsIn m (now (n0 .entry)) (now (n1 .entry)) (now (n2 .entry))) ⌝ }
+    requires { ⌜ (m ≤ 8) × ((length (now out) ≡ m * m)
+        × ((length (now pred) ≡ m * m) × (length (now «pred_inf») ≡ m * m))) ⌝ }
+    ensures { λ _. ⌜ now (out .exit) ≡ backV m live (now (pred .entry)) (now («pred_inf» .entry))
+        (nsIn m (now (n0 .entry)) (now (n1 .entry)) (now (n2 .entry))) ⌝ }
 {
     let p = dense::load64(pred);
     let mut v = p;
@@ -196,7 +207,8 @@ fn smoothed_at(
     t: usize,
 )
     requires { ⌜ Blocks m t (length (now «pred_cov»)) (length (now «pred_inf»)) (length (now out)) ⌝ }
-    ensures { λ _. ⌜ now (out .exit) ≡ backV m live (blockAt (m * m) (now («pred_cov» .entry)) t) (blockAt (m * m) (now («pred_inf» .entry)) t)
+    ensures { λ _. ⌜ now (out .exit) ≡ backV m live
+        (blockAt (m * m) (now («pred_cov» .entry)) t) (blockAt (m * m) (now («pred_inf» .entry)) t)
         (nsIn m (now (n0 .entry)) (now (n1 .entry)) (now (n2 .entry))) ⌝ }
 {
     let mm = m * m;
@@ -219,15 +231,18 @@ fn smoothed_at(
 // T' N T as (T' N) T, in place. `tn` is room for T' N.
 fn step(n: &mut [f64; 64], t: &[f64; 64], tn: &mut [f64; 64], m: usize)
     requires { ⌜ m ≤ 8 ⌝ }
-    ensures { λ _. ⌜ mat m (now (n .exit)) ≡ quad m (mat m (now (t .entry))) (mat m (now (n .entry))) (mat m (now (t .entry))) ⌝ }
+    ensures { λ _. ⌜ mat m (now (n .exit)) ≡ quad m (mat m (now (t .entry))) (mat m (now (n .entry)))
+        (mat m (now (t .entry))) ⌝ }
 {
     products::t_mul_into(tn, t, n, m);
     products::mul_into(n, tn, t, m);
 }
 
+// The same of all three.
 fn step_all(n0: &mut [f64; 64], n1: &mut [f64; 64], n2: &mut [f64; 64], t: &[f64; 64], m: usize)
     requires { ⌜ m ≤ 8 ⌝ }
-    ensures { λ _. ⌜ nsIn m (now (n0 .exit)) (now (n1 .exit)) (now (n2 .exit)) ≡ stepNs m (mat m (now (t .entry))) (nsIn m (now (n0 .entry)) (now (n1 .entry)) (now (n2 .entry))) ⌝ }
+    ensures { λ _. ⌜ nsIn m (now (n0 .exit)) (now (n1 .exit)) (now (n2 .exit)) ≡ stepNs m (mat m (now (t .entry)))
+        (nsIn m (now (n0 .entry)) (now (n1 .entry)) (now (n2 .entry))) ⌝ }
 {
     let mut tn = [0.0; 64];
     step(n0, t, &mut tn, m);
@@ -257,12 +272,15 @@ fn period(
     m: usize,
     t: usize,
 )
-    requires { ⌜ Period p m t (length (now design)) (flatIn (now kinds) (now «f_star») (now «f_inf») (now «m_star») (now «m_inf»))
+    requires { ⌜ Period p m t (length (now design))
+        (flatIn (now kinds) (now «f_star») (now «f_inf») (now «m_star») (now «m_inf»))
         × Blocks m t (length (now «pred_cov»)) (length (now «pred_inf»)) (length (now out)) ⌝ }
     ensures { λ _. ⌜ _≡_ (now (out .exit), nsIn m (now (n0 .exit)) (now (n1 .exit)) (now (n2 .exit)))
-        (backCovOf m (mat m (now (tr .entry))) (now (design .entry)) (nsIn m (now (n0 .entry)) (now (n1 .entry)) (now (n2 .entry)))
+        (backCovOf m (mat m (now (tr .entry))) (now (design .entry))
+        (nsIn m (now (n0 .entry)) (now (n1 .entry)) (now (n2 .entry)))
         (lookAt p m «d_diffuse» (now («pred_cov» .entry)) (now («pred_inf» .entry))
-        (flatIn (now (kinds .entry)) (now («f_star» .entry)) (now («f_inf» .entry)) (now («m_star» .entry)) (now («m_inf» .entry))) t)) ⌝ }
+        (flatIn (now (kinds .entry)) (now («f_star» .entry)) (now («f_inf» .entry))
+        (now («m_star» .entry)) (now («m_inf» .entry))) t)) ⌝ }
 {
     let live = t < d_diffuse;
     elements(
@@ -306,12 +324,16 @@ fn back_loop<'a>(
     n: usize,
     listed: usize,
 )
-    requires { ⌜ Periods p m n listed (length (now z)) (length (now zs)) (length (now «pred_cov»)) (length (now «pred_inf»))
-        (flatIn (now kinds) (now «f_star») (now «f_inf») (now «m_star») (now «m_inf»)) × (n * (m * m) ≤ length (now «sm_cov»)) ⌝ }
-    ensures { λ _. ⌜ Laid (n * (m * m)) (join (scanBack (backCov (frameFrom p m (now (z .entry)) (now (zs .entry)) (mat m (now (tr .entry))))) 0
+    requires { ⌜ Periods p m n listed (length (now z)) (length (now zs))
+        (length (now «pred_cov»)) (length (now «pred_inf»))
+        (flatIn (now kinds) (now «f_star») (now «f_inf») (now «m_star») (now «m_inf»))
+        × (n * (m * m) ≤ length (now «sm_cov»)) ⌝ }
+    ensures { λ _. ⌜ Laid (n * (m * m))
+        (join (scanBack (backCov (frameFrom p m (now (z .entry)) (now (zs .entry)) (mat m (now (tr .entry))))) 0
         (nsIn m (now (n0 .entry)) (now (n1 .entry)) (now (n2 .entry)))
         (looks n p m «d_diffuse» (now («pred_cov» .entry)) (now («pred_inf» .entry))
-        (flatIn (now (kinds .entry)) (now («f_star» .entry)) (now («f_inf» .entry)) (now («m_star» .entry)) (now («m_inf» .entry)))) .0))
+        (flatIn (now (kinds .entry)) (now («f_star» .entry)) (now («f_inf» .entry))
+        (now («m_star» .entry)) (now («m_inf» .entry)))) .0))
         (now («sm_cov» .entry)) (now («sm_cov» .exit)) ⌝ }
 {
     let mm = m * m;
@@ -343,7 +365,7 @@ fn back_loop<'a>(
     }
 }
 
-// The covariances' way back: the smoothed covariance of each of n periods, by the predicted ones and the records that the covariance pass left, of
+// The covariances' way back: the smoothed covariance of each of n periods, by the predicted ones and the decisions that the covariance pass left, of
 // which the first d_diffuse periods were diffuse. `listed` is how many designs the list has.
 pub fn cov_back<'a>(
     z: &'a [f64],
@@ -363,11 +385,15 @@ pub fn cov_back<'a>(
     n: usize,
     listed: usize,
 )
-    requires { ⌜ Ready p m n listed (length (now z)) (length (now zs)) (length (now t)) (length (now «pred_cov»)) (length (now «pred_inf»))
-        (flatIn (now kinds) (now «f_star») (now «f_inf») (now «m_star») (now «m_inf»)) × (n * (m * m) ≤ length (now «sm_cov»)) ⌝ }
-    ensures { λ _. ⌜ Laid (n * (m * m)) (join (scanBack (backCov (frameFrom p m (now (z .entry)) (now (zs .entry)) (now (t .entry)))) 0 (noNs m)
+    requires { ⌜ Ready p m n listed (length (now z)) (length (now zs)) (length (now t))
+        (length (now «pred_cov»)) (length (now «pred_inf»))
+        (flatIn (now kinds) (now «f_star») (now «f_inf») (now «m_star») (now «m_inf»))
+        × (n * (m * m) ≤ length (now «sm_cov»)) ⌝ }
+    ensures { λ _. ⌜ Laid (n * (m * m))
+        (join (scanBack (backCov (frameFrom p m (now (z .entry)) (now (zs .entry)) (now (t .entry)))) 0 (noNs m)
         (looks n p m «d_diffuse» (now («pred_cov» .entry)) (now («pred_inf» .entry))
-        (flatIn (now (kinds .entry)) (now («f_star» .entry)) (now («f_inf» .entry)) (now («m_star» .entry)) (now («m_inf» .entry)))) .0))
+        (flatIn (now (kinds .entry)) (now («f_star» .entry)) (now («f_inf» .entry))
+        (now («m_star» .entry)) (now («m_inf» .entry)))) .0))
         (now («sm_cov» .entry)) (now («sm_cov» .exit)) ⌝ }
 {
     let tr = dense::load64(t);

@@ -60,7 +60,7 @@ unfolding Star.better Star.pivotTo Star.columnAt Star.column Star.leftAt Star.le
 ofStar = tt
 
 unfoldable ofCov : Unit {0}
-unfolding Cov.sdAt Cov.sdOf Cov.fStarBy Cov.fInfBy Cov.diffuseTest Cov.scaledTest Cov.boundTerm Cov.bound Cov.against Cov.dust Cov.passes Cov.usualTest Cov.usually Cov.diffusely Cov.judge Cov.k1At Cov.k1Of Cov.rootLess Cov.apply Cov.verdict Cov.elementOf Cov.isLive Cov.entered Cov.stepStar Cov.stepInf Cov.stepped Cov.ended Cov.periodOf Cov.covRun
+unfolding Cov.sdAt Cov.sdOf Cov.fStarBy Cov.fInfBy Cov.diffuseTest Cov.scaledTest Cov.boundTerm Cov.bound Cov.against Cov.dust Cov.passes Cov.usualTest Cov.usually Cov.diffusely Cov.judge Cov.k1At Cov.k1Of Cov.rootLess Cov.apply Cov.candidate Cov.verdict Cov.elementOf Cov.isLive Cov.entered Cov.stepStar Cov.stepInf Cov.stepped Cov.ended Cov.periodOf Cov.covRun
 ofCov = tt
 
 unfoldable ofMean : Unit {0}
@@ -68,7 +68,7 @@ unfolding Mean.innovation Mean.vOf Mean.usualTerm Mean.diffuseTerm Mean.heed Mea
 ofMean = tt
 
 unfoldable ofSmooth : Unit {0}
-unfolding Smooth.lookOf Smooth.meanLookOf Smooth.lZeroAt Smooth.lZero Smooth.lOneAt Smooth.lOne Smooth.fOne Smooth.fTwo Smooth.kOneAt Smooth.kOne Smooth.lUsual Smooth.lDiffuse Smooth.usualN0 Smooth.diffuseN1 Smooth.diffuseN2 Smooth.backN Smooth.usualR Smooth.diffuseR Smooth.backR Smooth.backElement Smooth.elementsN Smooth.backMeanElement Smooth.elementsR Smooth.between Smooth.diffuseV Smooth.backV Smooth.backA Smooth.stepNs Smooth.stepRs Smooth.backCovOf Smooth.backMeanOf Smooth.noNs Smooth.noRs Smooth.smoothCov Smooth.smoothMean
+unfolding Smooth.lZeroAt Smooth.lZero Smooth.lOneAt Smooth.lOne Smooth.fOne Smooth.fTwo Smooth.kOneAt Smooth.kOne Smooth.lUsual Smooth.lDiffuse Smooth.usualN0 Smooth.diffuseN1 Smooth.diffuseN2 Smooth.backN Smooth.usualR Smooth.diffuseR Smooth.backR Smooth.backElement Smooth.elementsN Smooth.backMeanElement Smooth.elementsR Smooth.between Smooth.diffuseV Smooth.backV Smooth.backA Smooth.stepNs Smooth.stepRs Smooth.backCovOf Smooth.backMeanOf Smooth.noNs Smooth.noRs Smooth.smoothCov Smooth.smoothMean
 ofSmooth = tt
 
 unfoldable ofInputs : Unit {0}

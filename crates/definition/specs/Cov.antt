@@ -108,28 +108,42 @@ passes live again clear = true
 passes live again below = false
 passes live again (suspect reference) = live || (again >ᶠ cancel-tol ⊗ reference)
 
--- One element: its row z of the design and its noise h; whether the period is diffuse; the period's predicted P* with its standard deviations;
--- F by the root after the elements taken; whether none is taken yet; P*.
-unfoldable pub usualTest : ℕ → List Float → Float → Bool → List Float → List Float → Float → Bool → List Float → Float → Bool
-usualTest m z h live pre sd again fresh star f* = scaledTest m z h star f* && passes live again (dust m z h pre sd fresh f*)
+-- What an element is judged by: its row z of the design and its noise h; of its period whether it is diffuse, the predicted P* with its standard
+-- deviations, and P∞ with nothing resolved; whether no element of the period is taken yet, and F by the star root after those that are; and P*,
+-- P∞ and B as they stand.
+pub record Candidate : Type 0 where
+  pub z : List Float
+  pub h : Float
+  pub live : Bool
+  pub pre : List Float
+  pub sd : List Float
+  pub unres : List Float
+  pub fresh : Bool
+  pub again : Float
+  pub star : List Float
+  pub pinf : List Float
+  pub root : List Float
+
+unfoldable pub usualTest : ℕ → Candidate → Float → Bool
+usualTest m e f* = scaledTest m (e .z) (e .h) (e .star) f* && passes (e .live) (e .again) (dust m (e .z) (e .h) (e .pre) (e .sd) (e .fresh) f*)
 
 -- the usual verdict, with F* and M* at hand
-unfoldable pub usually : ℕ → List Float → Float → Bool → List Float → List Float → Float → Bool → List Float → Float → List Float → Decision
-usually m z h live pre sd again fresh star f* m* = cond (usualTest m z h live pre sd again fresh star f*) (usual f* m*) skipped
+unfoldable pub usually : ℕ → Candidate → Float → List Float → Decision
+usually m e f* m* = cond (usualTest m e f*) (usual f* m*) skipped
 
 -- the diffuse verdict or else the usual one, F* and M* at hand; then the verdict on an element that is there
-unfoldable pub diffusely : ℕ → List Float → Float → List Float → List Float → Float → Bool → List Float → List Float → List Float → List Float → Float → List Float → Decision
-diffusely m z h pre sd again fresh unres star pinf root f* m* =
-    let m∞ = matVec m pinf z in
-    let f∞ = fInfBy m z m∞ in
-    let u = matTVec m root z in
-    cond (diffuseTest m z pinf unres f∞ (dot m u u)) (diffuse f* f∞ m* m∞) (usually m z h true pre sd again fresh star f* m*)
+unfoldable pub diffusely : ℕ → Candidate → Float → List Float → Decision
+diffusely m e f* m* =
+    let m∞ = matVec m (e .pinf) (e .z) in
+    let f∞ = fInfBy m (e .z) m∞ in
+    let u = matTVec m (e .root) (e .z) in
+    cond (diffuseTest m (e .z) (e .pinf) (e .unres) f∞ (dot m u u)) (diffuse f* f∞ m* m∞) (usually m e f* m*)
 
-unfoldable pub judge : ℕ → List Float → Float → Bool → List Float → List Float → Float → Bool → List Float → List Float → List Float → List Float → Decision
-judge m z h live pre sd again fresh unres star pinf root =
-    let m* = matVec m star z in
-    let f* = fStarBy m z h m* in
-    cond live (diffusely m z h pre sd again fresh unres star pinf root f* m*) (usually m z h false pre sd again fresh star f* m*)
+unfoldable pub judge : ℕ → Candidate → Decision
+judge m e =
+    let m* = matVec m (e .star) (e .z) in
+    let f* = fStarBy m (e .z) (e .h) m* in
+    cond (e .live) (diffusely m e f* m*) (usually m e f* m*)
 
 -- K1
 unfoldable pub k1At : List Float → List Float → Float → Float → ℕ → Float
@@ -155,11 +169,25 @@ apply m z i s (diffuse f* f∞ m* m∞) =
     }
 
 -- element i of a period of p elements; a gap is passed over
+unfoldable pub candidate : ℕ → ℕ → List Float → Fixed → ℕ → Inner → Candidate
+candidate p m h f i s =
+    record {
+      z = row m (f .z) i;
+      h = ent p h i i;
+      live = f .diffuse;
+      pre = f .pre;
+      sd = sdOf m (f .pre);
+      unres = f .unres;
+      fresh = none-yet (s .taken);
+      again = againOf p m (f .z) h (f .pre) i (s .taken);
+      star = s .star;
+      pinf = s .pinf;
+      root = s .root;
+    }
+
 unfoldable pub verdict : ℕ → ℕ → List Float → Fixed → ℕ → Inner → Bool → Decision
 verdict p m h f i s true = skipped
-verdict p m h f i s false =
-    judge m (row m (f .z) i) (ent p h i i) (f .diffuse) (f .pre) (sdOf m (f .pre)) (againOf p m (f .z) h (f .pre) i (s .taken)) (none-yet (s .taken)) (f .unres)
-    (s .star) (s .pinf) (s .root)
+verdict p m h f i s false = judge m (candidate p m h f i s)
 
 unfoldable pub elementOf : ℕ → ℕ → List Float → Fixed → ℕ → Inner → Bool → Decision × Inner
 elementOf p m h f i s gap = let d = verdict p m h f i s gap in (d, apply m (row m (f .z) i) i s d)

@@ -1,8 +1,9 @@
--- Document 01's natural logarithm, an ordered list of operations on doubles ("Arithmetic", last point).
+-- Document 01's natural logarithm, an ordered list of operations on doubles ("Arithmetic", last point), in its notation: x = 2^k s, u, w, q, HI, LO.
 use Prim.Native.Nat.{ℕ, zero, suc, _+_, _-_, _*_, _^_}
 use mathlib.Core.Bool.{true, false, cond}
 use lib.IntN.{ℤ, pos, negsuc}
-use lib.Ieee.{Float, nan, inf, fin, binary64, minus, size, round, add, sub, mul, div, lt, ofInt, ofBits}
+use lib.Ieee.{Float, nan, inf, fin, binary64, minus, size, round, lt, ofInt, ofBits}
+use Rattle.definition.specs.Num.{_⊕_, _⊖_, _⊗_, _⊘_}
 use Rattle.definition.specs.Root.{smallestsIn}
 
 abbrev pub one : Float
@@ -15,35 +16,36 @@ half = fin false 1 (negsuc 0)
 abbrev pub middle : Float
 middle = fin false 3 (negsuc 0)
 
-abbrev pub hi : Float
-hi = ofBits binary64 0x3FE62E42FEE00000
+abbrev pub HI : Float
+HI = ofBits binary64 0x3FE62E42FEE00000
 
-abbrev pub lo : Float
-lo = ofBits binary64 0x3DEA39EF35793C76
+abbrev pub LO : Float
+LO = ofBits binary64 0x3DEA39EF35793C76
 
--- the double that is nearest to 1 / (2 * i + 1)
+-- the table: the double that is nearest to 1 / (2 * i + 1)
 unfoldable pub coefficient : ℕ → Float
 coefficient i = round binary64 false 1 (2 * i + 1)
 
--- from the last coefficient, the one at n, down j steps: q = q * w + next
+-- the polynomial in w, from the last coefficient, the one at n, down j steps: q = q w + next
 unfoldable pub series : Float → ℕ → ℕ → Float
 series w n zero = coefficient n
-series w n (suc j) = add binary64 (mul binary64 (series w n j) w) (coefficient (n - suc j))
+series w n (suc j) = series w n j ⊗ w ⊕ coefficient (n - suc j)
 
--- of 2 ^ k * s, with s from 0.75 up to 1.5
+-- of 2^k s, with s from 0.75 up to 1.5: k HI + (k LO + (u + u) q)
 unfoldable pub logOf : ℤ → Float → Float
 logOf k s =
-    let u = div binary64 (sub binary64 s one) (add binary64 s one) in
-    let w = mul binary64 u u in
+    let u = (s ⊖ one) ⊘ (s ⊕ one) in
+    let w = u ⊗ u in
     let q = series w 11 11 in
-    let z = ofInt binary64 k in
-    add binary64 (mul binary64 z hi) (add binary64 (mul binary64 z lo) (mul binary64 (add binary64 u u) q))
+    let kᶠ = ofInt binary64 k in
+    kᶠ ⊗ HI ⊕ (kᶠ ⊗ LO ⊕ (u ⊕ u) ⊗ q)
 
--- of 2 ^ (j - 1074) * s, with s from 1 up to 2: from 1.5 on s is halved and the exponent raised
+-- of 2^(j - 1074) s, with s from 1 up to 2: from 1.5 on s is halved and k raised
 unfoldable pub reduced : ℕ → Float → Float
-reduced j s = cond (lt s middle) (logOf (minus j 1074) s) (logOf (minus (j + 1) 1074) (mul binary64 s half))
+reduced j s = cond (lt s middle) (logOf (minus j 1074) s) (logOf (minus (j + 1) 1074) (s ⊗ half))
 
--- n smallest values, 2 ^ -1074, with n of j + 1 digits: 2 ^ (j - 1074) * (n / 2 ^ j)
+-- n smallest values, 2^-1074, with n of j + 1 digits: 2^(j - 1074) (n / 2^j). So a subnormal needs no scaling first: its n / 2^j is the s that
+-- document 01 has after the scaling by 2^54, and its k the one less 54
 unfoldable pub logCount : ℕ → Float
 logCount n = let j = size n - 1 in reduced j (round binary64 false n (2 ^ j))
 
@@ -57,4 +59,4 @@ lnOf (fin false (suc m) e) = logCount (smallestsIn binary64 (fin false (suc m) e
 
 -- ln 2π: the logarithm of twice 0x400921FB54442D18
 unfoldable pub lnTwoPi : Float
-lnTwoPi = lnOf (mul binary64 (fin false 1 (pos 1)) (ofBits binary64 0x400921FB54442D18))
+lnTwoPi = lnOf (fin false 1 (pos 1) ⊗ ofBits binary64 0x400921FB54442D18)

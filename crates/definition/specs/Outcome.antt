@@ -57,7 +57,7 @@ module _ (x : Model) where
       && s predMean && s filtMean && s innovations
 
   unfoldable pub roomySmoothed : CovParts → MeanParts → List Float → List Float → Bool
-  roomySmoothed b b′ sc sm = roomy b b′ && leb smoothedCovNeed (length sc) && leb smoothedMeanNeed (length sm)
+  roomySmoothed b b′ sm sc = roomy b b′ && leb smoothedCovNeed (length sc) && leb smoothedMeanNeed (length sm)
 
 -- ---- what a run writes, by part: the periods' blocks, and for the predicted moments place n
 
@@ -200,11 +200,11 @@ module _ (x : Model) where
       after f (join (smoothMean (frameOf x) cs (meanOf x o cs y .0))) (zeros (smoothedMeanNeed x)) sm
 
   unfoldable pub smoothOutcomeAt : Offsets → List Class → List Float → CovParts → MeanParts → List Float → List Float → SmoothedCov × SmoothedMean
-  smoothOutcomeAt o ks y b b′ sc sm =
-      let f = ending x o ks (roomySmoothed x b b′ sc sm) in (
+  smoothOutcomeAt o ks y b b′ sm sc =
+      let f = ending x o ks (roomySmoothed x b b′ sm sc) in (
         record { filter = covOutcome x f ks b; smoothed = smoothedCov f ks sc },
         record { filter = meanOutcome x f o ks y b′; smoothed = smoothedMean f o ks y sm },
       )
 
   unfoldable pub smoothOutcome : Offsets → List Float → CovParts → MeanParts → List Float → List Float → SmoothedCov × SmoothedMean
-  smoothOutcome o y b b′ sc sm = smoothOutcomeAt o (map classOf y) y b b′ sc sm
+  smoothOutcome o y b b′ sm sc = smoothOutcomeAt o (map classOf y) y b b′ sm sc

@@ -2,7 +2,7 @@
 -- A zero is either zero, and is not below 0.
 use Prim.Native.Nat.{ℕ, _*_, _/_}
 use mathlib.Core.Bool.{Bool, not, _&&_, _||_, cond}
-use mathlib.Core.List.{List, [], _∷_}
+use mathlib.Core.List.{List, [], _∷_, _++_}
 use lib.ListN.{length}
 use lib.Dec.{leb, ltb, eqb}
 use lib.Ieee.{Float, eq}
@@ -43,11 +43,11 @@ unfit x = not (isFinite x)
 abbrev pub notFinite : List Float → Bool
 notFinite a = anyOf unfit a
 
-unfoldable pub badSystem : Model → Bool
-badSystem x = notFinite (x .zOnce) || notFinite (x .zList) || notFinite (x .h) || notFinite (x .t) || notFinite (x .rr) || notFinite (x .q)
+unfoldable pub badSystem : List Float → List Float → List Float → List Float → List Float → List Float → Bool
+badSystem zOnce zList h t rr q = notFinite zOnce || notFinite zList || notFinite h || notFinite t || notFinite rr || notFinite q
 
-unfoldable pub badStart : Model → Offsets → Bool
-badStart x o = notFinite (o .c) || notFinite (o .d) || notFinite (o .a1) || notFinite (x .pStar)
+unfoldable pub badStart : List Float → List Float → List Float → List Float → Bool
+badStart c d a1 pStar = notFinite c || notFinite d || notFinite a1 || notFinite pStar
 
 -- 4 NotPsd: a diagonal entry of H or Q is below 0
 unfoldable pub negativeAt : ℕ → List Float → ℕ → Bool
@@ -56,8 +56,8 @@ negativeAt k a i = 0ᶠ >ᶠ ent k a i i
 unfoldable pub negative : ℕ → List Float → Bool
 negative k a = anyTo k (negativeAt k a)
 
-unfoldable pub notPsd : Model → Bool
-notPsd x = negative (x .p) (x .h) || negative (x .r) (x .q)
+unfoldable pub notPsd : ℕ → List Float → ℕ → List Float → Bool
+notPsd p h r q = negative p h || negative r q
 
 -- 5 QNotDiagonal and 8 NonDiagonalH: an entry off the diagonal is not 0
 unfoldable pub offAt : ℕ → List Float → ℕ → ℕ → Bool
@@ -102,21 +102,45 @@ unfoldable pub firstOf : List (ℕ × Bool) → ℕ
 firstOf [] = 0
 firstOf (e ∷ es) = let rest = firstOf es in cond (e .1) (e .0) rest
 
--- The table of document 01, in its order. Of the readings: how many, and whether one is infinite (9 InfiniteReading); 11 is NonFiniteNoise.
+-- ---- The table of document 01, in its order, in segments: a call's order is a join of them and of the refusals that the call alone has.
+
+-- 1 Dimension
+abbrev pub ofSizes : Model → List (ℕ × Bool)
+ofSizes x = (1, outside (x .p) (x .m) (x .r) (x .n)) ∷ []
+
+-- 2 Length
+abbrev pub ofLengths : Model → Offsets → ℕ → Bool → List (ℕ × Bool)
+ofLengths x o readings room = (2, badLength x o readings room) ∷ []
+
+-- 3 NonFiniteSystem, 4 NotPsd, 5 QNotDiagonal
+abbrev pub ofSystem : Model → List (ℕ × Bool)
+ofSystem x =
+    (3, badSystem (x .zOnce) (x .zList) (x .h) (x .t) (x .rr) (x .q))
+    ∷ (4, notPsd (x .p) (x .h) (x .r) (x .q))
+    ∷ (5, offDiagonal (x .r) (x .q))
+    ∷ []
+
+-- 6 NonFiniteStart, 7 StartShape
+abbrev pub ofStart : Model → Offsets → List (ℕ × Bool)
+ofStart x o =
+    (6, badStart (o .c) (o .d) (o .a1) (x .pStar)) ∷ (7, startShape (x .m) (x .pStar) (x .flags) (o .a1)) ∷ []
+
+-- 8 NonDiagonalH
+abbrev pub ofH : Model → List (ℕ × Bool)
+ofH x = (8, offDiagonal (x .p) (x .h)) ∷ []
+
+-- 9 InfiniteReading
+abbrev pub ofReadings : Bool → List (ℕ × Bool)
+ofReadings infinity = (9, infinity) ∷ []
+
+-- 10 MixedDriven, 11 NonFiniteNoise
+abbrev pub ofStep : Model → List (ℕ × Bool)
+ofStep x = (10, mixedDriven (x .m) (x .t) (x .flags)) ∷ (11, notFinite (noise x)) ∷ []
+
+-- The filter's call and the smoother's. Of the readings: how many there are, and whether one is infinite; `room` as above.
 unfoldable pub tests : Model → Offsets → ℕ → Bool → Bool → List (ℕ × Bool)
 tests x o readings infinity room =
-    (1, outside (x .p) (x .m) (x .r) (x .n))
-    ∷ (2, badLength x o readings room)
-    ∷ (3, badSystem x)
-    ∷ (4, notPsd x)
-    ∷ (5, offDiagonal (x .r) (x .q))
-    ∷ (6, badStart x o)
-    ∷ (7, startShape (x .m) (x .pStar) (x .flags) (o .a1))
-    ∷ (8, offDiagonal (x .p) (x .h))
-    ∷ (9, infinity)
-    ∷ (10, mixedDriven (x .m) (x .t) (x .flags))
-    ∷ (11, notFinite (noise x))
-    ∷ []
+    ofSizes x ++ ofLengths x o readings room ++ ofSystem x ++ ofStart x o ++ ofH x ++ ofReadings infinity ++ ofStep x
 
 unfoldable pub refusal : Model → Offsets → ℕ → Bool → Bool → ℕ
 refusal x o readings infinity room = firstOf (tests x o readings infinity room)

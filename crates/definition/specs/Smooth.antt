@@ -2,7 +2,7 @@
 -- The Rust goes back through both tracks in one loop; neither reads the other, so the order of each one's operations is the Rust's.
 use Prim.Native.Nat.{ℕ, _*_}
 use mathlib.Core.Bool.{Bool, cond}
-use mathlib.Core.List.{List, map}
+use mathlib.Core.List.{List}
 use lib.Dec.{eqb}
 use lib.Ieee.{Float, neg}
 use Rattle.definition.specs.Num.{_⊕_, _⊖_, _⊗_, _⊘_, 0ᶠ, 1ᶠ, tabulate, matrix, zeros, at}
@@ -10,23 +10,6 @@ use Rattle.definition.specs.Dense.{axpy, scaled, matVec, matTVec, outerS
 use Rattle.definition.specs.Run.{scanBack, foldBack, pairs}
 use Rattle.definition.specs.Cov.{Decision, skipped, usual, diffuse, CovPeriod}
 use Rattle.definition.specs.Mean.{Frame, MeanPeriod}
-
--- what the way back reads of a period, for the covariances and for the means
-pub record Look : Type 0 where
-  pub diffuse : Bool
-  pub pred : List Float
-  pub predInf : List Float
-  pub decisions : List Decision
-
-pub record MeanLook : Type 0 where
-  pub pred : List Float
-  pub vs : List Float
-
-unfoldable pub lookOf : CovPeriod → Look
-lookOf c = record { diffuse = c .diffuse; pred = c .pred; predInf = c .predInf; decisions = c .decisions }
-
-unfoldable pub meanLookOf : MeanPeriod → MeanLook
-meanLookOf s = record { pred = s .pred; vs = s .vs }
 
 -- N0, N1, N2 and r0, r1
 pub record Ns : Type 0 where
@@ -163,12 +146,13 @@ stepNs m t n = record { n0 = quad m t (n .n0) t; n1 = quad m t (n .n1) t; n2 = q
 unfoldable pub stepRs : ℕ → List Float → Rs → Rs
 stepRs m t r = record { r0 = matTVec m t (r .r0); r1 = matTVec m t (r .r1) }
 
-unfoldable pub backCovOf : ℕ → List Float → List Float → Ns → Look → List Float × Ns
+-- of a period it reads all but the filtered moments
+unfoldable pub backCovOf : ℕ → List Float → List Float → Ns → CovPeriod → List Float × Ns
 backCovOf m t design n c =
     let e = elementsN m (c .diffuse) design n (c .decisions) in
     (backV m (c .diffuse) (c .pred) (c .predInf) e, stepNs m t e)
 
-unfoldable pub backMeanOf : ℕ → List Float → List Float → Rs → Look × MeanLook → List Float × Rs
+unfoldable pub backMeanOf : ℕ → List Float → List Float → Rs → CovPeriod × MeanPeriod → List Float × Rs
 backMeanOf m t design r c =
     let e = elementsR m design r (pairs (c .0 .decisions) (c .1 .vs)) in
     (backA m (c .0 .diffuse) (c .0 .pred) (c .0 .predInf) (c .1 .pred) e, stepRs m t e)
@@ -177,10 +161,10 @@ backMeanOf m t design r c =
 abbrev pub backTransition : Frame → ℕ → List Float
 backTransition y t = y .transitionAt t
 
-abbrev pub backCov : Frame → ℕ → Ns → Look → List Float × Ns
+abbrev pub backCov : Frame → ℕ → Ns → CovPeriod → List Float × Ns
 backCov y t n c = backCovOf (y .m) (backTransition y t) (y .designAt t) n c
 
-abbrev pub backMean : Frame → ℕ → Rs → Look × MeanLook → List Float × Rs
+abbrev pub backMean : Frame → ℕ → Rs → CovPeriod × MeanPeriod → List Float × Rs
 backMean y t r c = backMeanOf (y .m) (backTransition y t) (y .designAt t) r c
 
 -- ---- the run back: the smoothed moments of each period, the first period's first
@@ -192,7 +176,7 @@ unfoldable pub noRs : ℕ → Rs
 noRs m = let o = zeros m in record { r0 = o; r1 = o }
 
 unfoldable pub smoothCov : Frame → List CovPeriod → List (List Float)
-smoothCov y cs = scanBack (backCov y) 0 (noNs (y .m)) (map lookOf cs) .0
+smoothCov y cs = scanBack (backCov y) 0 (noNs (y .m)) cs .0
 
 unfoldable pub smoothMean : Frame → List CovPeriod → List MeanPeriod → List (List Float)
-smoothMean y cs ss = scanBack (backMean y) 0 (noRs (y .m)) (pairs (map lookOf cs) (map meanLookOf ss)) .0
+smoothMean y cs ss = scanBack (backMean y) 0 (noRs (y .m)) (pairs cs ss) .0

@@ -26,9 +26,9 @@ module _ (x : Model) (o : Offsets) (y y′ : List Float) (alike : map classOf y 
   unfolding outcome outcomeAt
   by-classes = ap (λ (ks : List Class). outcomeAt x o ks y b b′ .0) alike
 
-  pub smooth-by-classes : (sc sm : List Float) → smoothOutcome x o y b b′ sc sm .0 ≡ smoothOutcome x o y′ b b′ sc sm .0
+  pub smooth-by-classes : (sm sc : List Float) → smoothOutcome x o y b b′ sm sc .0 ≡ smoothOutcome x o y′ b b′ sm sc .0
   unfolding smoothOutcome smoothOutcomeAt
-  smooth-by-classes sc sm = ap (λ (ks : List Class). smoothOutcomeAt x o ks y b b′ sc sm .0) alike
+  smooth-by-classes sm sc = ap (λ (ks : List Class). smoothOutcomeAt x o ks y b b′ sm sc .0) alike
 
 -- ---- skipped: nothing moves (document 01, "One period forward"), neither forward nor back, and its v is +0.0 whatever was read
 

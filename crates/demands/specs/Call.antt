@@ -142,7 +142,7 @@ filterRows k =
 
 abbrev smoothRows : Call → List (List ℕ × List ℕ)
 smoothRows k =
-    let e = smoothOutcome (modelOf k) (offsetsOf k) (doubles (k .y)) (covParts k) (meanParts k) (filled (k .sm-cov)) (filled (k .sm-mean)) in
+    let e = smoothOutcome (modelOf k) (offsetsOf k) (doubles (k .y)) (covParts k) (meanParts k) (filled (k .sm-mean)) (filled (k .sm-cov)) in
     let wrote = writes (k .smooth) in
     (answerOf (e .0 .filter) (e .1 .filter), k .smooth)
     ∷ (bits (e .0 .smoothed), left wrote fill (k .sm-cov))

@@ -1,7 +1,7 @@
 -- Document 01's table of refusals, "The twelve refusals": each condition as a statement about what the caller lends, in its order.
 use mathlib.Core.Path.{_≡_}
 use Prim.Native.Nat.{ℕ, _*_, _/_, _≤_, _<_}
-use mathlib.Core.List.{List, [], _∷_, map}
+use mathlib.Core.List.{List, [], _∷_, _++_, map}
 use lib.Dec.{T}
 use lib.ListN.{length, getD}
 use lib.Ieee.{Float, nan, lt, eq}
@@ -9,7 +9,7 @@ use Rattle.definition.specs.Num.{0ᶠ, isZero, isFinite, isInfinite, at, ent}
 use Rattle.definition.specs.Inputs.{Model, Offsets, classOf, noise}
 use Rattle.definition.specs.Parts.{CovPart, MeanPart}
 use Rattle.definition.specs.Outcome.{CovParts, MeanParts, Counts, kindsNeed, covNeed, meanNeed, smoothedCovNeed, smoothedMeanNeed, covOf, countsOf}
-use Rattle.demands.specs.Says.{_or_, Below, Within}
+use Rattle.laws.specs.Says.{_or_, Below, Within}
 
 abbrev pub NotFinite : Float → Type 0
 NotFinite v = T (isFinite v) → ⊥
@@ -59,7 +59,8 @@ pub record Lengths (x : Model) (o : Offsets) (y : List Float) (Room : Type 0) : 
 -- 3 and 6: an entry is not finite
 abbrev pub NonFiniteSystem : Model → Type 0
 NonFiniteSystem x =
-    Some (x .zOnce) NotFinite or Some (x .zList) NotFinite or Some (x .h) NotFinite or Some (x .t) NotFinite or Some (x .rr) NotFinite or Some (x .q) NotFinite
+    Some (x .zOnce) NotFinite or Some (x .zList) NotFinite or Some (x .h) NotFinite
+    or Some (x .t) NotFinite or Some (x .rr) NotFinite or Some (x .q) NotFinite
 
 abbrev pub NonFiniteStart : Model → Offsets → Type 0
 NonFiniteStart x o = Some (o .c) NotFinite or Some (o .d) NotFinite or Some (o .a1) NotFinite or Some (x .pStar) NotFinite
@@ -113,28 +114,41 @@ pub record Room (x : Model) (b : CovParts) (b′ : MeanParts) : Type 0 where
   pub covs : (q : CovPart) → covNeed x q ≤ length (b .part q)
   pub means : (q : MeanPart) → meanNeed x q ≤ length (b′ q)
 
-pub record RoomSmooth (x : Model) (b : CovParts) (b′ : MeanParts) (sc sm : List Float) : Type 0 where
+pub record RoomSmooth (x : Model) (b : CovParts) (b′ : MeanParts) (sm sc : List Float) : Type 0 where
   pub filter : Room x b b′
   pub covs : smoothedCovNeed x ≤ length sc
   pub means : smoothedMeanNeed x ≤ length sm
 
--- ---- the table
+-- ---- the table, in the definition's segments
 
+abbrev pub OfSizes : Model → List (ℕ × Type 0)
+OfSizes x = (1, Dimension x) ∷ []
+
+abbrev pub OfLengths : Model → Offsets → List Float → Type 0 → List (ℕ × Type 0)
+OfLengths x o y Room = (2, Lengths x o y Room → ⊥) ∷ []
+
+abbrev pub OfSystem : Model → List (ℕ × Type 0)
+OfSystem x = (3, NonFiniteSystem x) ∷ (4, NotPsd x) ∷ (5, OffDiagonal (x .r) (x .q)) ∷ []
+
+abbrev pub OfStart : Model → Offsets → List (ℕ × Type 0)
+OfStart x o = (6, NonFiniteStart x o) ∷ (7, StartShape x o) ∷ []
+
+abbrev pub OfH : Model → List (ℕ × Type 0)
+OfH x = (8, OffDiagonal (x .p) (x .h)) ∷ []
+
+abbrev pub OfReadings : List Float → List (ℕ × Type 0)
+OfReadings y = (9, InfiniteReading y) ∷ []
+
+abbrev pub OfStep : Model → List (ℕ × Type 0)
+OfStep x = (10, MixedDriven x) ∷ (11, NonFiniteNoise x) ∷ []
+
+abbrev pub OfRun : Model → List Float → List (ℕ × Type 0)
+OfRun x y = (12, NoInformation x y) ∷ []
+
+-- the filter's call and the smoother's
 abbrev pub table : Model → Offsets → List Float → Type 0 → List (ℕ × Type 0)
 table x o y Room =
-    (1, Dimension x)
-    ∷ (2, Lengths x o y Room → ⊥)
-    ∷ (3, NonFiniteSystem x)
-    ∷ (4, NotPsd x)
-    ∷ (5, OffDiagonal (x .r) (x .q))
-    ∷ (6, NonFiniteStart x o)
-    ∷ (7, StartShape x o)
-    ∷ (8, OffDiagonal (x .p) (x .h))
-    ∷ (9, InfiniteReading y)
-    ∷ (10, MixedDriven x)
-    ∷ (11, NonFiniteNoise x)
-    ∷ (12, NoInformation x y)
-    ∷ []
+    OfSizes x ++ OfLengths x o y Room ++ OfSystem x ++ OfStart x o ++ OfH x ++ OfReadings y ++ OfStep x ++ OfRun x y
 
 -- k is the number of the first condition that applies; 0 where none does
 abbrev pub First : ℕ → List (ℕ × Type 0) → Type 0

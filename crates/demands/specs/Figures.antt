@@ -9,8 +9,8 @@ use lib.IntN.{pos}
 use lib.Ieee.{Float, nan, inf, binary64, ofInt, toBits}
 use Rattle.definition.specs.Num.{_⊘_, 0ᶠ, 1ᶠ, at}
 use Rattle.definition.specs.Log.{lnOf}
-use Rattle.definition.specs.Dense.{row, matVec}
-use Rattle.definition.specs.Cov.{Dust, clear, below, suspect, Fixed, Inner, fStarBy, sdOf, dust, elementOf}
+use Rattle.definition.specs.Dense.{matVec}
+use Rattle.definition.specs.Cov.{Dust, clear, below, suspect, Fixed, Inner, fStarBy, dust, candidate, elementOf}
 use Rattle.definition.specs.Inputs.{Model, Offsets, finite}
 use Rattle.definition.specs.Refusals.{refusal}
 use Rattle.definition.specs.Parts.{predCov, predInf, filtCov, fStar, fInf, predMean, filtMean, innovations, kindNo}
@@ -72,7 +72,7 @@ filter k = let x = modelOf k in outcome x (offsetsOf k) (k .y) (lentCov x) (lent
 abbrev smooth : Bench → SmoothedCov × SmoothedMean
 smooth k =
     let x = modelOf k in
-    smoothOutcome x (offsetsOf k) (k .y) (lentCov x) (lentMean x) (replicate (smoothedCovNeed x) nan) (replicate (smoothedMeanNeed x) nan)
+    smoothOutcome x (offsetsOf k) (k .y) (lentCov x) (lentMean x) (replicate (smoothedMeanNeed x) nan) (replicate (smoothedCovNeed x) nan)
 
 -- as 01 has it unless said: m = p = 1, T = 1, H = 1, flagged, P* = 0
 abbrev plain : List Float → Bench
@@ -116,8 +116,8 @@ wide n =
       pStar = replicate 64 0ᶠ;
     }
 
-abbrev refusalOf : ℕ → ℕ
-refusalOf n = refusal (wide n) (record { c = replicate 8 0ᶠ; d = 0ᶠ ∷ []; a1 = replicate 8 0ᶠ }) n false true
+abbrev refusalFor : ℕ → ℕ
+refusalFor n = refusal (wide n) (record { c = replicate 8 0ᶠ; d = 0ᶠ ∷ []; a1 = replicate 8 0ᶠ }) n false true
 
 -- ---- what a figure speaks of, for one state
 
@@ -155,12 +155,11 @@ dustNo (suspect reference) = 2
 
 abbrev secondOf : Model → List ℕ
 secondOf x =
-    let z = row 1 (x .zOnce) 1 in
     let f : Fixed = record { diffuse = false; z = x .zOnce; pre = x .pStar; unres = 0ᶠ ∷ [] } in
     let s : Inner = record { star = x .pStar; pinf = 0ᶠ ∷ []; root = 0ᶠ ∷ []; taken = [] } in
-    let after = elementOf 2 1 (x .h) f 0 s false .1 in
-    let f* = fStarBy 1 z 0ᶠ (matVec 1 (after .star) z) in
-    dustNo (dust 1 z 0ᶠ (x .pStar) (sdOf 1 (x .pStar)) false f*) ∷ map kindNo (join (decisionsOf (covOf x (finite ∷ finite ∷ []) .0)))
+    let e = candidate 2 1 (x .h) f 1 (elementOf 2 1 (x .h) f 0 s false .1) in
+    let f* = fStarBy 1 (e .z) (e .h) (matVec 1 (e .star) (e .z)) in
+    dustNo (dust 1 (e .z) (e .h) (e .pre) (e .sd) (e .fresh) f*) ∷ map kindNo (join (decisionsOf (covOf x (finite ∷ finite ∷ []) .0)))
 
 -- ---- the table
 
@@ -213,7 +212,7 @@ figures =
     ∷ (secondOf (modelOf (pinned 40)), 2 ∷ 1 ∷ 1 ∷ [])
     ∷ (secondOf (modelOf (pinned 50)), 1 ∷ 1 ∷ 0 ∷ [])
     -- m = 8 and n = 4096 pass; n = 4097 gives 1
-    ∷ (refusalOf 4096 ∷ refusalOf 4097 ∷ [], 0 ∷ 1 ∷ [])
+    ∷ (refusalFor 4096 ∷ refusalFor 4097 ∷ [], 0 ∷ 1 ∷ [])
     ∷ []
 
 pub table : T (hold figures)

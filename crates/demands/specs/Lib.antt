@@ -2,7 +2,6 @@ pub mod Figures
 pub mod Unheard
 pub mod Values
 pub mod Totals
-pub mod Says
 pub mod Conditions
 pub mod Refusals
 pub mod Call

@@ -2,24 +2,24 @@
 -- answers where none does; 1 to 11 leave every lent part as it was; 12 blanks what is needed of each, and leaves the rest.
 use mathlib.Core.Path.{_≡_, refl, sym, ap, _∙_}
 use mathlib.Core.Logic.{inl, inr, ⊎-elim, _↔_}
-use Prim.Native.Nat.{ℕ, zero, suc, _*_, _/_, _≤_, _<_}
+use Prim.Native.Nat.{ℕ, zero, suc, _*_, _≤_, _<_}
 use native.Mathlib.Omega.{arith}
-use mathlib.Core.Bool.{Bool, true, false, not, cond, _&&_, _||_}
+use mathlib.Core.Bool.{Bool, true, false, cond, _||_}
 use mathlib.Core.List.{List, [], _∷_, _++_, map}
-use lib.Dec.{leb, ltb, eqb}
+use lib.Dec.{ltb, eqb}
 use lib.ListN.{length, getD, drop, replicate, length-map, length-replicate}
-use lib.Ieee.{Float, nan, inf, fin, lt, eq}
+use lib.Ieee.{Float, nan, lt, eq}
 use Rattle.definition.specs.Num.{0ᶠ, isZero, isFinite, isInfinite, at, ent}
 use Rattle.definition.specs.Run.{anyOf}
 use Rattle.definition.specs.Inputs.{Model, Offsets, classOf, isInfinity, isFlagged, noise}
-use Rattle.definition.specs.Refusals.{outside, designFits, inputsFit, badLength, badSystem, badStart, negativeAt, negative, notPsd, offAt, offRow, offDiagonal, shapeAt, shapeRow, shapeOf, startShape, drivenAt, drivenRow, mixedDriven, notFinite, firstOf, tests, refusal}
-use Rattle.definition.specs.Parts.{CovPart, predCov, predInf, filtCov, fStar, fInf, mStar, mInf, MeanPart, predMean, filtMean, innovations}
+use Rattle.definition.specs.Refusals.{outside, badLength, badSystem, badStart, negativeAt, negative, notPsd, offAt, offRow, offDiagonal, shapeAt, shapeRow, shapeOf, startShape, drivenAt, drivenRow, mixedDriven, notFinite, firstOf, ofSizes, ofLengths, ofSystem, ofStart, ofH, ofReadings, ofStep, tests, refusal}
+use Rattle.definition.specs.Parts.{CovPart, MeanPart}
 use Rattle.definition.specs.Outcome.{CovParts, MeanParts, CovOutcome, MeanOutcome, SmoothedCov, SmoothedMean, Ending, turned, silent, endingOf, numberOf, ending, after, kindsNeed, covNeed, meanNeed, smoothedCovNeed, smoothedMeanNeed, roomy, roomySmoothed, noInformation, covOutcome, meanOutcome, outcome, outcomeAt, smoothedCov, smoothedMean, smoothOutcome, smoothOutcomeAt}
-use Rattle.laws.specs.Any.{of-map, of-cong}
-use Rattle.laws.specs.ReadBack.{AllOf}
-use Rattle.laws.specs.Numbered.{refusal-le}
-use Rattle.demands.specs.Says.{Says, says-itself, says-as, says-of, says-not, says-and, says-or, says-eq, says-le, says-lt, says-below, says-within}
-use Rattle.demands.specs.Conditions.{NotFinite, Negative, Some, OutOf, Dimension, Once, Listed, Lengths, NonFiniteSystem, NonFiniteStart, NotPsd, OffDiagonal, Flagged, Misshapen, StartShape, InfiniteReading, MixedDriven, ran, NoInformation, Room, RoomSmooth, table, First}
+use Rattle.laws.specs.Any.{infinite-classes}
+use Rattle.laws.specs.Accepted.{InputsFit, positive, says-inputs, says-roomy}
+use Rattle.laws.specs.Numbered.{orElse, joined, refusal-le}
+use Rattle.laws.specs.Says.{Says, says-itself, says-as, says-of, says-not, says-and, says-or, says-eq, says-le, says-lt, says-below, says-within}
+use Rattle.demands.specs.Conditions.{NotFinite, Negative, Some, OutOf, Dimension, Lengths, NonFiniteSystem, NonFiniteStart, NotPsd, OffDiagonal, Flagged, Misshapen, StartShape, InfiniteReading, MixedDriven, ran, NoInformation, Room, RoomSmooth, OfSizes, OfLengths, OfSystem, OfStart, OfH, OfReadings, OfStep, OfRun, table, First}
 
 -- ---- each test of the definition says its condition
 
@@ -33,71 +33,52 @@ says-dimension : (x : Model) → Says (outside (x .p) (x .m) (x .r) (x .n)) (Dim
 unfolding outside
 says-dimension x = says-or (says-or (says-or (says-out 8 (x .p)) (says-out 8 (x .m))) (says-out 8 (x .r))) (says-out 4096 (x .n))
 
-says-once : (pm once list : ℕ) → Says (eqb once pm && eqb list 0) (Once pm once list)
-says-once pm once list =
-    says-as (λ h. record { whole = h .0; none = h .1 }) (λ h. (h .whole, h .none)) (says-and (says-eq once pm) (says-eq list 0))
-
-says-listed : (pm once list : ℕ) → Says (eqb once 0 && eqb list (list / pm * pm) && not (eqb (list / pm) 0) && leb (list / pm) 4096) (Listed pm once list)
-says-listed pm once list =
-    says-as
-    (λ h. record { none = h .0 .0 .0; whole = h .0 .0 .1; some = h .0 .1; few = h .1 })
-    (λ h. (((h .none, h .whole), h .some), h .few))
-    (says-and (says-and (says-and (says-eq once 0) (says-eq list (list / pm * pm))) (says-not (says-eq (list / pm) 0))) (says-le (list / pm) 4096))
-
 says-lengths : (x : Model) (o : Offsets) (y : List Float) (room : Bool) (Room : Type 0) → Says room Room → Says (badLength x o (length (map classOf y)) room) (Lengths x o y Room → ⊥)
-unfolding badLength inputsFit designFits
+unfolding badLength
 says-lengths x o y room Room s =
-    let is : (a b : ℕ) → Says (eqb a b) (a ≡ b) = says-eq in
-    let pm = x .p * x .m in
-    let a = length (x .zOnce) in
-    let b = length (x .zList) in
     says-not
     (says-as
     (λ h.
+    let i = h .0 .0 in
     record {
-      z = h .0 .0 .0 .0 .0 .0 .0 .0 .0 .0 .0;
-      h = h .0 .0 .0 .0 .0 .0 .0 .0 .0 .0 .1;
-      t = h .0 .0 .0 .0 .0 .0 .0 .0 .0 .1;
-      rr = h .0 .0 .0 .0 .0 .0 .0 .0 .1;
-      q = h .0 .0 .0 .0 .0 .0 .0 .1;
-      c = h .0 .0 .0 .0 .0 .0 .1;
-      d = h .0 .0 .0 .0 .0 .1;
-      a1 = h .0 .0 .0 .0 .1;
-      pStar = h .0 .0 .0 .1;
-      flags = h .0 .0 .1;
+      z = ⊎-elim (λ d. inl (record { whole = d .one; none = d .none })) (λ d. inr (record { none = d .none; whole = d .whole; some = λ e. omega (arith, d .some); few = d .most })) (i .design);
+      h = i .h;
+      t = i .t;
+      rr = i .rr;
+      q = i .q;
+      c = i .c;
+      d = i .d;
+      a1 = i .a1;
+      pStar = i .pStar;
+      flags = i .flags;
       readings = sym (length-map y classOf) ∙ h .0 .1;
       room = h .1;
     })
     (λ h.
-    (((((((((((h .z, h .h), h .t), h .rr), h .q), h .c), h .d), h .a1), h .pStar), h .flags), length-map y classOf ∙ h .readings), h .room))
-    (says-and
-    (says-and
-    (says-and
-    (says-and
-    (says-and
-    (says-and
-    (says-and
-    (says-and
-    (says-and
-    (says-and (says-and (says-or (says-once pm a b) (says-listed pm a b)) (is (length (x .h)) (x .p * x .p))) (is (length (x .t)) (x .m * x .m)))
-    (is (length (x .rr)) (x .m * x .r)))
-    (is (length (x .q)) (x .r * x .r)))
-    (is (length (o .c)) (x .m)))
-    (is (length (o .d)) (x .p)))
-    (is (length (o .a1)) (x .m)))
-    (is (length (x .pStar)) (x .m * x .m)))
-    (is (length (x .flags)) (x .m)))
-    (is (length (map classOf y)) (x .n * x .p)))
-    s))
+    let i : InputsFit x o =
+    record {
+      design = ⊎-elim (λ d. inl (record { one = d .whole; none = d .none })) (λ d. inr (record { none = d .none; whole = d .whole; some = positive _ (d .some); most = d .few })) (h .z);
+      h = h .h;
+      t = h .t;
+      rr = h .rr;
+      q = h .q;
+      c = h .c;
+      d = h .d;
+      a1 = h .a1;
+      pStar = h .pStar;
+      flags = h .flags;
+    } in
+    ((i, length-map y classOf ∙ h .readings), h .room))
+    (says-and (says-and (says-inputs x o) (says-eq (length (map classOf y)) (x .n * x .p))) s))
 
-says-system : (x : Model) → Says (badSystem x) (NonFiniteSystem x)
+says-system : (x : Model) → Says (badSystem (x .zOnce) (x .zList) (x .h) (x .t) (x .rr) (x .q)) (NonFiniteSystem x)
 unfolding badSystem
 says-system x =
     says-or
     (says-or (says-or (says-or (says-or (says-finite (x .zOnce)) (says-finite (x .zList))) (says-finite (x .h))) (says-finite (x .t))) (says-finite (x .rr)))
     (says-finite (x .q))
 
-says-start : (x : Model) (o : Offsets) → Says (badStart x o) (NonFiniteStart x o)
+says-start : (x : Model) (o : Offsets) → Says (badStart (o .c) (o .d) (o .a1) (x .pStar)) (NonFiniteStart x o)
 unfolding badStart
 says-start x o = says-or (says-or (says-or (says-finite (o .c)) (says-finite (o .d))) (says-finite (o .a1))) (says-finite (x .pStar))
 
@@ -105,7 +86,7 @@ says-negative : (k : ℕ) (a : List Float) (i : ℕ) → Says (negativeAt k a i)
 unfolding negativeAt
 says-negative k a i = says-itself (lt (ent k a i i) 0ᶠ)
 
-says-psd : (x : Model) → Says (notPsd x) (NotPsd x)
+says-psd : (x : Model) → Says (notPsd (x .p) (x .h) (x .r) (x .q)) (NotPsd x)
 unfolding notPsd negative
 says-psd x = says-or (says-below (says-negative (x .p) (x .h)) (x .p)) (says-below (says-negative (x .r) (x .q)) (x .r))
 
@@ -135,15 +116,8 @@ says-shape x o =
     (says-below (λ j. says-misshapen x i j) (x .m)))
     (x .m))
 
-infinite-is : (v : Float) → isInfinity (classOf v) ≡ isInfinite v
-unfolding classOf isInfinite
-infinite-is nan = refl
-infinite-is (inf s) = refl
-infinite-is (fin s m e) = refl
-
 says-infinite : (y : List Float) → Says (anyOf isInfinity (map classOf y)) (InfiniteReading y)
-says-infinite y =
-    says-of (of-map isInfinity classOf y ∙ of-cong (λ (v : Float). isInfinity (classOf v)) isInfinite y infinite-is) (says-within (λ v. says-itself (isInfinite v)) y nan)
+says-infinite y = says-of (infinite-classes y) (says-within (λ v. says-itself (isInfinite v)) y nan)
 
 says-driven : (x : Model) → Says (mixedDriven (x .m) (x .t) (x .flags)) (MixedDriven x)
 unfolding mixedDriven drivenRow drivenAt
@@ -165,13 +139,13 @@ says-silent x y = says-and (says-lt 0 (ran x y .heard)) (says-eq (ran x y .news)
 
 -- ---- the first test of a numbered list and the first condition of a table
 
-abbrev Table : List (ℕ × Bool) → List (ℕ × Type 0) → Type 0
+abbrev pub Table : List (ℕ × Bool) → List (ℕ × Type 0) → Type 0
 Table [] [] = Unit {0}
 Table [] (e ∷ es) = ⊥
 Table (b ∷ bs) [] = ⊥
 Table (b ∷ bs) (e ∷ es) = ((b .0 ≡ e .0) × Says (b .1) (e .1)) × Table bs es
 
-first-to : (bs : List (ℕ × Bool)) (es : List (ℕ × Type 0)) → Table bs es → (k : ℕ) → firstOf bs ≡ k → First k es
+pub first-to : (bs : List (ℕ × Bool)) (es : List (ℕ × Type 0)) → Table bs es → (k : ℕ) → firstOf bs ≡ k → First k es
 unfolding firstOf
 first-to [] [] s k e = sym e
 first-to [] (c ∷ es) s k e = absurd s
@@ -182,7 +156,7 @@ first-to (b ∷ bs) (c ∷ es) s k e = pick (b .1) (s .0 .1) e (first-to bs es (
     pick true t e rest = inl (sym e ∙ s .0 .0, t .to tt)
     pick false t e rest = inr (t .from, rest e)
 
-first-from : (bs : List (ℕ × Bool)) (es : List (ℕ × Type 0)) → Table bs es → (k : ℕ) → First k es → firstOf bs ≡ k
+pub first-from : (bs : List (ℕ × Bool)) (es : List (ℕ × Type 0)) → Table bs es → (k : ℕ) → First k es → firstOf bs ≡ k
 unfolding firstOf
 first-from [] [] s k e = sym e
 first-from [] (c ∷ es) s k e = absurd s
@@ -197,128 +171,86 @@ first-from (b ∷ bs) (c ∷ es) s k e = ⊎-elim (λ h. here (b .1) (s .0 .1) (
     there true t h e = absurd (h (t .to tt))
     there false t h e = e
 
--- the ending's number is that of the first test, 12 being judged last
-last : (es : List (ℕ × Bool)) (q : Bool) → AllOf (λ e. 0 < e .0) es → numberOf (endingOf (firstOf es) q) ≡ firstOf (es ++ ((12, q) ∷ []))
+-- ---- a segment of the tests reads as a segment of the table, and so do two in a row
+
+pub record Reads (bs : List (ℕ × Bool)) (es : List (ℕ × Type 0)) : Type 0 where
+  pub rows : Table bs es
+
+rows-joined : (bs bs′ : List (ℕ × Bool)) (es es′ : List (ℕ × Type 0)) → Table bs es → Table bs′ es′ → Table (bs ++ bs′) (es ++ es′)
+rows-joined [] bs′ [] es′ s r = r
+rows-joined [] bs′ (e ∷ es) es′ s r = absurd s
+rows-joined (b ∷ bs) bs′ [] es′ s r = absurd s
+rows-joined (b ∷ bs) bs′ (e ∷ es) es′ s r = (s .0, rows-joined bs bs′ es es′ (s .1) r)
+
+infixl 65 _then_
+pub _then_ : {bs bs′ : List (ℕ × Bool)} {es es′ : List (ℕ × Type 0)} → Reads bs es → Reads bs′ es′ → Reads (bs ++ bs′) (es ++ es′)
+_then_ {bs} {bs′} {es} {es′} s r = record { rows = rows-joined bs bs′ es es′ (s .rows) (r .rows) }
+
+pub reads-sizes : (x : Model) → Reads (ofSizes x) (OfSizes x)
+reads-sizes x = record { rows = ((refl, says-dimension x), tt) }
+
+pub reads-lengths : (x : Model) (o : Offsets) (y : List Float) (room : Bool) (Room : Type 0) → Says room Room
+    → Reads (ofLengths x o (length (map classOf y)) room) (OfLengths x o y Room)
+reads-lengths x o y room Room s = record { rows = ((refl, says-lengths x o y room Room s), tt) }
+
+pub reads-system : (x : Model) → Reads (ofSystem x) (OfSystem x)
+reads-system x = record { rows = ((refl, says-system x), ((refl, says-psd x), ((refl, says-off (x .r) (x .q)), tt))) }
+
+pub reads-start : (x : Model) (o : Offsets) → Reads (ofStart x o) (OfStart x o)
+reads-start x o = record { rows = ((refl, says-start x o), ((refl, says-shape x o), tt)) }
+
+pub reads-h : (x : Model) → Reads (ofH x) (OfH x)
+reads-h x = record { rows = ((refl, says-off (x .p) (x .h)), tt) }
+
+pub reads-readings : (y : List Float) → Reads (ofReadings (anyOf isInfinity (map classOf y))) (OfReadings y)
+reads-readings y = record { rows = ((refl, says-infinite y), tt) }
+
+pub reads-step : (x : Model) → Reads (ofStep x) (OfStep x)
+reads-step x = record { rows = ((refl, says-driven x), ((refl, says-finite (noise x)), tt)) }
+
+pub reads-run : (x : Model) (y : List Float) → Reads ((12, noInformation (ran x y)) ∷ []) (OfRun x y)
+reads-run x y = record { rows = ((refl, says-silent x y), tt) }
+
+-- the ending's number: that of the early refusal, else 12 where the run has no information
+number-of : (early : ℕ) (q : Bool) → numberOf (endingOf early q) ≡ orElse early (firstOf ((12, q) ∷ []))
 unfolding firstOf endingOf numberOf
-last [] true h = refl
-last [] false h = refl
-last (e ∷ es) q h = pick (e .1) (e .0) (h .0) (last es q (h .1))
-  where
-    pick : (t : Bool) (j : ℕ) → 0 < j → numberOf (endingOf (firstOf es) q) ≡ firstOf (es ++ ((12, q) ∷ [])) → numberOf (endingOf (cond t j (firstOf es)) q) ≡ cond t j (firstOf (es ++ ((12, q) ∷ [])))
-    pick true zero l ih = absurd (omega arith)
-    pick true (suc j) l ih = refl
-    pick false j l ih = ih
+number-of zero true = refl
+number-of zero false = refl
+number-of (suc k) q = refl
 
 module _ (x : Model) (o : Offsets) (y : List Float) (room : Bool) (Room : Type 0) (s : Says room Room) where
+  abbrev before : List (ℕ × Bool)
+  before = tests x o (length (map classOf y)) (anyOf isInfinity (map classOf y)) room
+
   abbrev all : List (ℕ × Bool)
-  all = tests x o (length (map classOf y)) (anyOf isInfinity (map classOf y)) room ++ ((12, noInformation (ran x y)) ∷ [])
+  all = before ++ ((12, noInformation (ran x y)) ∷ [])
 
   number-is : numberOf (ending x o (map classOf y) room) ≡ firstOf all
   unfolding ending refusal tests
-  number-is =
-      last
-      (tests x o (length (map classOf y)) (anyOf isInfinity (map classOf y)) room)
-      (noInformation (ran x y))
-      (omega arith, (omega arith, (omega arith, (omega arith, (omega arith, (omega arith, (omega arith, (omega arith, (omega arith, (omega arith, (omega arith, tt)))))))))))
+  number-is = number-of (firstOf before) (noInformation (ran x y)) ∙ sym (joined before ((12, noInformation (ran x y)) ∷ []) tt)
 
-  reads : Table all (table x o y Room)
+  reads : Reads all (table x o y Room)
   unfolding tests
-  reads = (
-    (refl, says-dimension x),
-    (
-      (refl, says-lengths x o y room Room s),
-      (
-        (refl, says-system x),
-        (
-          (refl, says-psd x),
-          (
-            (refl, says-off (x .r) (x .q)),
-            (
-              (refl, says-start x o),
-              (
-                (refl, says-shape x o),
-                (
-                  (refl, says-off (x .p) (x .h)),
-                  (
-                    (refl, says-infinite y),
-                    (
-                      (refl, says-driven x),
-                      (
-                        (refl, says-finite (noise x)),
-                        (
-                          (refl, says-silent x y),
-                          tt,
-                        ),
-                      ),
-                    ),
-                  ),
-                ),
-              ),
-            ),
-          ),
-        ),
-      ),
-    ),
-  )
+  reads =
+      reads-sizes x then reads-lengths x o y room Room s then reads-system x then reads-start x o then reads-h x then reads-readings y
+      then reads-step x then reads-run x y
 
   first-is : (k : ℕ) → (numberOf (ending x o (map classOf y) room) ≡ k) ↔ First k (table x o y Room)
-  first-is k =
-      (λ e. first-to all (table x o y Room) reads k (sym number-is ∙ e), λ h. number-is ∙ first-from all (table x o y Room) reads k h)
-
-of-cov : (P : CovPart → Type 0) → P predCov → P predInf → P filtCov → P fStar → P fInf → P mStar → P mInf → (q : CovPart) → P q
-of-cov P a b c d e f g predCov = a
-of-cov P a b c d e f g predInf = b
-of-cov P a b c d e f g filtCov = c
-of-cov P a b c d e f g fStar = d
-of-cov P a b c d e f g fInf = e
-of-cov P a b c d e f g mStar = f
-of-cov P a b c d e f g mInf = g
-
-of-mean : (P : MeanPart → Type 0) → P predMean → P filtMean → P innovations → (q : MeanPart) → P q
-of-mean P a b c predMean = a
-of-mean P a b c filtMean = b
-of-mean P a b c innovations = c
+  first-is k = (
+    λ e. first-to all (table x o y Room) (reads .rows) k (sym number-is ∙ e),
+    λ h. number-is ∙ first-from all (table x o y Room) (reads .rows) k h,
+  )
 
 says-room : (x : Model) (b : CovParts) (b′ : MeanParts) → Says (roomy x b b′) (Room x b b′)
-unfolding roomy
 says-room x b b′ =
-    let c : (q : CovPart) → Says (leb (covNeed x q) (length (b .part q))) (covNeed x q ≤ length (b .part q)) = λ q. says-le (covNeed x q) (length (b .part q)) in
-    let s : (q : MeanPart) → Says (leb (meanNeed x q) (length (b′ q))) (meanNeed x q ≤ length (b′ q)) = λ q. says-le (meanNeed x q) (length (b′ q)) in
     says-as
-    (λ h.
-    record {
-      kinds = h .0 .0 .0 .0 .0 .0 .0 .0 .0 .0;
-      covs =
-          of-cov
-          (λ q. covNeed x q ≤ length (b .part q))
-          (h .0 .0 .0 .0 .0 .0 .0 .0 .0 .1)
-          (h .0 .0 .0 .0 .0 .0 .0 .0 .1)
-          (h .0 .0 .0 .0 .0 .0 .0 .1)
-          (h .0 .0 .0 .0 .0 .0 .1)
-          (h .0 .0 .0 .0 .0 .1)
-          (h .0 .0 .0 .0 .1)
-          (h .0 .0 .0 .1);
-      means = of-mean (λ q. meanNeed x q ≤ length (b′ q)) (h .0 .0 .1) (h .0 .1) (h .1);
-    })
-    (λ h.
-    ((((((((((h .kinds, h .covs predCov), h .covs predInf), h .covs filtCov), h .covs fStar), h .covs fInf), h .covs mStar), h .covs mInf), h .means predMean), h .means filtMean), h .means innovations))
-    (says-and
-    (says-and
-    (says-and
-    (says-and
-    (says-and
-    (says-and
-    (says-and (says-and (says-and (says-and (says-le (kindsNeed x) (length (b .kinds))) (c predCov)) (c predInf)) (c filtCov)) (c fStar))
-    (c fInf))
-    (c mStar))
-    (c mInf))
-    (s predMean))
-    (s filtMean))
-    (s innovations))
+    (λ h. record { kinds = h .kinds; covs = h .cov; means = h .mean })
+    (λ h. record { kinds = h .kinds; cov = h .covs; mean = h .means })
+    (says-roomy x b b′)
 
-says-room-smooth : (x : Model) (b : CovParts) (b′ : MeanParts) (sc sm : List Float) → Says (roomySmoothed x b b′ sc sm) (RoomSmooth x b b′ sc sm)
+says-room-smooth : (x : Model) (b : CovParts) (b′ : MeanParts) (sm sc : List Float) → Says (roomySmoothed x b b′ sm sc) (RoomSmooth x b b′ sm sc)
 unfolding roomySmoothed
-says-room-smooth x b b′ sc sm =
+says-room-smooth x b b′ sm sc =
     says-as
     (λ h. record { filter = h .0 .0; covs = h .0 .1; means = h .1 })
     (λ h. ((h .filter, h .covs), h .means))
@@ -381,13 +313,13 @@ module _ (x : Model) (o : Offsets) (y : List Float) (b : CovParts) (b′ : MeanP
 
 -- ---- the smoother's call
 
-module _ (x : Model) (o : Offsets) (y : List Float) (b : CovParts) (b′ : MeanParts) (sc sm : List Float) where
+module _ (x : Model) (o : Offsets) (y : List Float) (b : CovParts) (b′ : MeanParts) (sm sc : List Float) where
   abbrev ended : SmoothedCov × SmoothedMean
-  ended = smoothOutcome x o y b b′ sc sm
+  ended = smoothOutcome x o y b b′ sm sc
 
-  pub refuses-smooth : (k : ℕ) → (ended .0 .filter .refused ≡ k) ↔ First k (table x o y (RoomSmooth x b b′ sc sm))
+  pub refuses-smooth : (k : ℕ) → (ended .0 .filter .refused ≡ k) ↔ First k (table x o y (RoomSmooth x b b′ sm sc))
   unfolding smoothOutcome smoothOutcomeAt covOutcome
-  refuses-smooth = first-is x o y (roomySmoothed x b b′ sc sm) (RoomSmooth x b b′ sc sm) (says-room-smooth x b b′ sc sm)
+  refuses-smooth = first-is x o y (roomySmoothed x b b′ sm sc) (RoomSmooth x b b′ sm sc) (says-room-smooth x b b′ sm sc)
 
   pub keeps-smooth : (k : ℕ) → 0 < k → k < 12 → ended .0 .filter .refused ≡ k
       → (ended .0 .filter .parts ≡ b) × (ended .1 .filter .parts ≡ b′) × (ended .0 .smoothed ≡ sc) × (ended .1 .smoothed ≡ sm)
@@ -407,7 +339,7 @@ module _ (x : Model) (o : Offsets) (y : List Float) (b : CovParts) (b′ : MeanP
   unfolding smoothOutcome smoothOutcomeAt covOutcome meanOutcome smoothedCov smoothedMean ending
   blanked-smooth e =
       let f = twelfth _ _ (refusal-le x o _ _ _) e in
-      let g = ending x o (map classOf y) (roomySmoothed x b b′ sc sm) in (
+      let g = ending x o (map classOf y) (roomySmoothed x b b′ sm sc) in (
         record {
           kinds = blanks g _ (b .kinds) (kindsNeed x) 0 f;
           covs = λ q. blanks g _ (b .part q) (covNeed x q) 0ᶠ f;

@@ -156,6 +156,6 @@ module _ (x : Model) (o : Offsets) (y : List Float) (b : CovParts) (b′ : MeanP
   unfolding outcome outcomeAt covOutcome ending
   totals e = total x o y b (roomy x b b′) (none-refused _ _ e)
 
-  pub totals-smooth : (sc sm : List Float) → smoothOutcome x o y b b′ sc sm .0 .filter .refused ≡ 0 → Totals x y (smoothOutcome x o y b b′ sc sm .0 .filter)
+  pub totals-smooth : (sm sc : List Float) → smoothOutcome x o y b b′ sm sc .0 .filter .refused ≡ 0 → Totals x y (smoothOutcome x o y b b′ sm sc .0 .filter)
   unfolding smoothOutcome smoothOutcomeAt covOutcome ending
-  totals-smooth sc sm e = total x o y b (roomySmoothed x b b′ sc sm) (none-refused _ _ e)
+  totals-smooth sm sc e = total x o y b (roomySmoothed x b b′ sm sc) (none-refused _ _ e)

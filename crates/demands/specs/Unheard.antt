@@ -4,7 +4,7 @@ use Prim.Native.Nat.{ℕ, zero, suc, _+_, _*_, _<_}
 use native.Mathlib.Omega.{arith}
 use mathlib.Core.List.{List, [], _∷_, map}
 use mathlib.Core.Bool.{Bool, true, false, not, _&&_}
-use lib.Dec.{T, ltb, eqb, eqb→eq, eqb·suc-zero}
+use lib.Dec.{T, ltb, eqb, eqb·suc-zero}
 use lib.ListN.{length, getD, set, length-set, length-map, List·getD-map, List·getD-append}
 use lib.Seq.{map-set-same}
 use lib.Ieee.{Float, nan}
@@ -14,14 +14,14 @@ use Rattle.definition.specs.Dense.{row}
 use Rattle.definition.specs.Cov.{System, Cov, Fixed, Inner, CovPeriod, Decision, skipped, usual, diffuse, verdict, apply, elementOf, isLive, entered, ended, periodOf, period, covRun}
 use Rattle.definition.specs.Mean.{Frame, Shift, Mean, MeanPeriod, hear, meanEnded, meanPeriodOf, meanPeriod, meanRun}
 use Rattle.definition.specs.Inputs.{Model, Offsets, Class, gap, finite, classOf, isGap, isInfinity, systemOf, frameOf, startOf, gapRows}
-use Rattle.definition.specs.Refusals.{refusal, tests, inputsFit, badLength}
+use Rattle.definition.specs.Refusals.{refusal}
 use Rattle.definition.specs.Parts.{kindNo, kindBlock}
 use Rattle.definition.specs.Outcome.{answered, endingOf, ending, kindsWritten, covOf, meanOf, countsOf, decisionsOf, noInformation}
 use Rattle.definition.specs.Tracks.{finite-class, skip-unheard}
 use Rattle.laws.specs.Lists.{scan-set, map-set, pairs-set, pairs-at, chunks-set, length-chunks, chunks-each, Each, join-at, length-join, each-at, place-lt, count-set, anyOf-set}
 use Rattle.laws.specs.ReadBack.{getD-map-in, kinds-join, each-many}
 use Rattle.laws.specs.Shapes.{run-whole, run-length}
-use Rattle.laws.specs.Numbered.{none-refused}
+use Rattle.laws.specs.Accepted.{accepted}
 
 -- ---- the covariance track
 
@@ -126,15 +126,8 @@ answered-by zero true e = absurd (let z : _≡_ {A = ℕ} 0 1 = cc in omega arit
 answered-by zero false e = (refl, refl)
 answered-by (suc r) quiet e = absurd (let z : _≡_ {A = ℕ} 0 1 = cc in omega arith)
 
-all-three : (a b c : Bool) → not (a && b && c) ≡ false → T b
-all-three true true c e = tt
-all-three true false c e = absurd (let z : _≡_ {A = ℕ} 0 1 = cc in omega arith)
-all-three false b c e = absurd (let z : _≡_ {A = ℕ} 0 1 = cc in omega arith)
-
 pub readings-fit : (x : Model) (o : Offsets) (readings : ℕ) (infinity room : Bool) → refusal x o readings infinity room ≡ 0 → readings ≡ x .n * x .p
-unfolding tests badLength
-readings-fit x o readings infinity room e =
-    eqb→eq readings (x .n * x .p) (all-three (inputsFit x o) (eqb readings (x .n * x .p)) room (none-refused x o readings infinity room e .1 .0))
+readings-fit x o readings infinity room e = accepted x o readings infinity room e .readings
 
 skips : (d : Decision) → kindNo d ≡ 0 → d ≡ skipped
 skips skipped e = refl
@@ -229,9 +222,9 @@ module _
     unfolding classOf
     seen = List·getD-map classOf y (t * x .p + i) nan ∙ finite-class (at y (t * x .p + i)) read
 
-    -- another finite number there is of the same kind
-    pub same-kinds : (v : Float) → T (isFinite v) → map classOf (set y (t * x .p + i) v) ≡ map classOf y
-    same-kinds v h = map-set-same classOf y (t * x .p + i) v nan (finite-class v h ∙ sym (finite-class (at y (t * x .p + i)) read))
+    -- another finite number there is of the same class
+    pub same-classes : (v : Float) → T (isFinite v) → map classOf (set y (t * x .p + i) v) ≡ map classOf y
+    same-classes v h = map-set-same classOf y (t * x .p + i) v nan (finite-class v h ∙ sym (finite-class (at y (t * x .p + i)) read))
 
     -- one reading less is heard
     pub one-less : suc (countsOf (covOf x (map classOf y) .0) muted .heard) ≡ countsOf (covOf x (map classOf y) .0) (map classOf y) .heard

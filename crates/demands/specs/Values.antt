@@ -21,7 +21,7 @@ use Rattle.definition.specs.Parts.{predCov, predInf, filtCov, fStar, fInf, mSta
 use Rattle.definition.specs.Outcome.{CovParts, MeanParts, CovOutcome, MeanOutcome, SmoothedCov, SmoothedMean, Counts, Ending, turned, silent, answered, ending, after, countsIn, numberOf, roomy, roomySmoothed, kindsWritten, kindsNeed, covNeed, covWritten, meanWritten, meanNeed, smoothedCovNeed, smoothedMeanNeed, loglikIn, covOf, meanOf, countsOf, decisionsOf, covOutcome, meanOutcome, outcome, outcomeAt, smoothedCov, smoothedMean, smoothOutcome, smoothOutcomeAt}
 use Rattle.definition.specs.Tracks.{finite-class, by-classes, smooth-by-classes}
 use Rattle.laws.specs.Lists.{map-set}
-use Rattle.demands.specs.Unheard.{deaf, same-kinds, quiet, one-less, answered-still, within, readings-fit, answered-by}
+use Rattle.demands.specs.Unheard.{deaf, same-classes, quiet, one-less, answered-still, within, readings-fit, answered-by}
 
 -- ---- the first half
 
@@ -58,9 +58,9 @@ all-same c c′ e =
       mInfs = ap (λ (c : CovOutcome). c .parts .part mInf) e;
     }
 
-pub alike-kinds : (y y′ : List Float) → Alike y y′ → map classOf y ≡ map classOf y′
+pub alike-classes : (y y′ : List Float) → Alike y y′ → map classOf y ≡ map classOf y′
 unfolding classOf
-alike-kinds y y′ l =
+alike-classes y y′ l =
     ext-getD
     gap
     (map classOf y)
@@ -73,14 +73,14 @@ alike-kinds y y′ l =
 
 module _ (x : Model) (o : Offsets) (y y′ : List Float) (alike : Alike y y′) (b : CovParts) (b′ : MeanParts) where
   pub values : Same (outcome x o y b b′ .0) (outcome x o y′ b b′ .0)
-  values = all-same _ _ (by-classes x o y y′ (alike-kinds y y′ alike) b b′)
+  values = all-same _ _ (by-classes x o y y′ (alike-classes y y′ alike) b b′)
 
   -- and with them the smoothed covariances
-  pub values-smooth : (sc sm : List Float)
-      → Same (smoothOutcome x o y b b′ sc sm .0 .filter) (smoothOutcome x o y′ b b′ sc sm .0 .filter)
-      × (smoothOutcome x o y b b′ sc sm .0 .smoothed ≡ smoothOutcome x o y′ b b′ sc sm .0 .smoothed)
-  values-smooth sc sm =
-      let e = smooth-by-classes x o y y′ (alike-kinds y y′ alike) b b′ sc sm in (all-same _ _ (ap (λ (c : SmoothedCov). c .filter) e), ap (λ (c : SmoothedCov). c .smoothed) e)
+  pub values-smooth : (sm sc : List Float)
+      → Same (smoothOutcome x o y b b′ sm sc .0 .filter) (smoothOutcome x o y′ b b′ sm sc .0 .filter)
+      × (smoothOutcome x o y b b′ sm sc .0 .smoothed ≡ smoothOutcome x o y′ b b′ sm sc .0 .smoothed)
+  values-smooth sm sc =
+      let e = smooth-by-classes x o y y′ (alike-classes y y′ alike) b b′ sm sc in (all-same _ _ (ap (λ (c : SmoothedCov). c .filter) e), ap (λ (c : SmoothedCov). c .smoothed) e)
 
 -- ---- the second half
 
@@ -135,21 +135,21 @@ module _ (x : Model) (o : Offsets) (y : List Float) (b : CovParts) (room : Bool)
   means : (v : Float) → meanOf x o (covOf x (map classOf y) .0) (set y (t * x .p + i) v) ≡ meanOf x o (covOf x (map classOf y) .0) y
   means = deaf x o y room (b .kinds) t i inT inI (h .read) ok real-skip
 
-  kinds : (v : Float) → T (isFinite v) → map classOf (set y (t * x .p + i) v) ≡ map classOf y
-  kinds = same-kinds x o y room (b .kinds) t i inT inI (h .read) ok real-skip
+  classes : (v : Float) → T (isFinite v) → map classOf (set y (t * x .p + i) v) ≡ map classOf y
+  classes = same-classes x o y room (b .kinds) t i inT inI (h .read) ok real-skip
 
-  gap-kinds : map classOf (set y (t * x .p + i) nan) ≡ set (map classOf y) (t * x .p + i) gap
+  gap-classes : map classOf (set y (t * x .p + i) nan) ≡ set (map classOf y) (t * x .p + i) gap
   unfolding classOf
-  gap-kinds = map-set classOf y (t * x .p + i) nan
+  gap-classes = map-set classOf y (t * x .p + i) nan
 
-  gap-fate : ending x o (map classOf (set y (t * x .p + i) nan)) room ≡ ending x o (map classOf y) room
-  gap-fate =
-      ap (λ (ks : List Class). ending x o ks room) gap-kinds
+  gap-ending : ending x o (map classOf (set y (t * x .p + i) nan)) room ≡ ending x o (map classOf y) room
+  gap-ending =
+      ap (λ (ks : List Class). ending x o ks room) gap-classes
       ∙ answered-still x o y room (b .kinds) t i inT inI (h .read) ok real-skip real-news
       ∙ sym ok
 
   gap-run : covOf x (map classOf (set y (t * x .p + i) nan)) ≡ covOf x (map classOf y)
-  gap-run = ap (covOf x) gap-kinds ∙ quiet x o y room (b .kinds) t i inT inI (h .read) ok real-skip
+  gap-run = ap (covOf x) gap-classes ∙ quiet x o y room (b .kinds) t i inT inI (h .read) ok real-skip
 
   gap-means : meanOf x o (covOf x (map classOf (set y (t * x .p + i) nan)) .0) (set y (t * x .p + i) nan) ≡ meanOf x o (covOf x (map classOf y) .0) y
   gap-means = ap (λ (r : List CovPeriod × Cov). meanOf x o (r .0) (set y (t * x .p + i) nan)) gap-run ∙ means nan
@@ -161,11 +161,11 @@ module _ (x : Model) (o : Offsets) (y : List Float) (b : CovParts) (room : Bool)
       let gs = map classOf (set y (t * x .p + i) nan) in
       let counted : (f : Ending) (l : Counts) → f ≡ answered → countsIn f l ≡ l = λ f l e. ap (λ (f : Ending). countsIn f l) e in
       let old = counted (ending x o ks room) (countsOf (covOf x ks .0) ks) ok in
-      let new = counted (ending x o gs room) (countsOf (covOf x gs .0) gs) (gap-fate ∙ ok) in
+      let new = counted (ending x o gs room) (countsOf (covOf x gs .0) gs) (gap-ending ∙ ok) in
       record {
         heard =
             ap (λ (l : Counts). suc (l .heard)) new
-            ∙ ap (λ (ks : List Class). suc (count not (map isGap ks))) gap-kinds
+            ∙ ap (λ (ks : List Class). suc (count not (map isGap ks))) gap-classes
             ∙ one-less x o y room (b .kinds) t i inT inI (h .read) ok real-skip
             ∙ sym (ap (λ (l : Counts). l .heard) old);
         news =
@@ -176,11 +176,11 @@ module _ (x : Model) (o : Offsets) (y : List Float) (b : CovParts) (room : Bool)
             ap (λ (l : Counts). l .dDiffuse) new
             ∙ ap (λ (r : List CovPeriod × Cov). count (λ (c : CovPeriod). c .diffuse) (r .0)) gap-run
             ∙ sym (ap (λ (l : Counts). l .dDiffuse) old);
-        refusals = ap numberOf gap-fate;
+        refusals = ap numberOf gap-ending;
         parts =
             ap₂
             (λ (f : Ending) (r : List CovPeriod × Cov). partsFrom x f r b)
-            gap-fate
+            gap-ending
             gap-run;
       }
 
@@ -216,10 +216,10 @@ module _ (x : Model) (o : Offsets) (y : List Float) (b : CovParts) (b′ : MeanP
       let made : Ending → List MeanPeriod × Mean → MeanOutcome = λ f r. record { loglik = loglikIn f (r .1 .loglik); parts = λ q. after f (meanWritten r q) (zeros (meanNeed x q)) (b′ q) } in
       record {
         number = λ v fv.
-            ap (λ (ks : List Class). outcomeAt x o ks (set y (t * x .p + i) v) b b′) (kinds x o y b room t i inT inI h v fv)
+            ap (λ (ks : List Class). outcomeAt x o ks (set y (t * x .p + i) v) b b′) (classes x o y b room t i inT inI h v fv)
             ∙ ap (λ (r : List MeanPeriod × Mean). (covOutcome x f (map classOf y) b, made f r)) (means x o y b room t i inT inI h v);
         gapCov = gap-covs x o y b room t i inT inI h;
-        gapMean = ap₂ made (gap-fate x o y b room t i inT inI h) (gap-means x o y b room t i inT inI h);
+        gapMean = ap₂ made (gap-ending x o y b room t i inT inI h) (gap-means x o y b room t i inT inI h);
       }
 
   pub no-news : (k : ℕ) → NoNews y (outcome x o y b b′ .0) k → Unmoved x o y b b′ k
@@ -234,17 +234,17 @@ module _ (x : Model) (o : Offsets) (y : List Float) (b : CovParts) (b′ : MeanP
 
 -- ---- the smoother's call
 
-pub record UnmovedSmooth (x : Model) (o : Offsets) (y : List Float) (b : CovParts) (b′ : MeanParts) (sc sm : List Float) (k : ℕ) : Type 0 where
-  pub number : (v : Float) → T (isFinite v) → smoothOutcome x o (set y k v) b b′ sc sm ≡ smoothOutcome x o y b b′ sc sm
-  pub gapCov : OneLess (smoothOutcome x o y b b′ sc sm .0 .filter) (smoothOutcome x o (set y k nan) b b′ sc sm .0 .filter)
-  pub gapSmoothed : smoothOutcome x o (set y k nan) b b′ sc sm .0 .smoothed ≡ smoothOutcome x o y b b′ sc sm .0 .smoothed
-  pub gapMean : smoothOutcome x o (set y k nan) b b′ sc sm .1 ≡ smoothOutcome x o y b b′ sc sm .1
+pub record UnmovedSmooth (x : Model) (o : Offsets) (y : List Float) (b : CovParts) (b′ : MeanParts) (sm sc : List Float) (k : ℕ) : Type 0 where
+  pub number : (v : Float) → T (isFinite v) → smoothOutcome x o (set y k v) b b′ sm sc ≡ smoothOutcome x o y b b′ sm sc
+  pub gapCov : OneLess (smoothOutcome x o y b b′ sm sc .0 .filter) (smoothOutcome x o (set y k nan) b b′ sm sc .0 .filter)
+  pub gapSmoothed : smoothOutcome x o (set y k nan) b b′ sm sc .0 .smoothed ≡ smoothOutcome x o y b b′ sm sc .0 .smoothed
+  pub gapMean : smoothOutcome x o (set y k nan) b b′ sm sc .1 ≡ smoothOutcome x o y b b′ sm sc .1
 
-module _ (x : Model) (o : Offsets) (y : List Float) (b : CovParts) (b′ : MeanParts) (sc sm : List Float) where
-  at-element-smooth : (t i : ℕ) → t < x .n → i < x .p → NoNews y (smoothOutcome x o y b b′ sc sm .0 .filter) (t * x .p + i) → UnmovedSmooth x o y b b′ sc sm (t * x .p + i)
+module _ (x : Model) (o : Offsets) (y : List Float) (b : CovParts) (b′ : MeanParts) (sm sc : List Float) where
+  at-element-smooth : (t i : ℕ) → t < x .n → i < x .p → NoNews y (smoothOutcome x o y b b′ sm sc .0 .filter) (t * x .p + i) → UnmovedSmooth x o y b b′ sm sc (t * x .p + i)
   unfolding smoothOutcome smoothOutcomeAt meanOutcome smoothedCov smoothedMean
   at-element-smooth t i inT inI h =
-      let room = roomySmoothed x b b′ sc sm in
+      let room = roomySmoothed x b b′ sm sc in
       let f = ending x o (map classOf y) room in
       let made : Ending → List CovPeriod → List MeanPeriod × Mean → SmoothedMean =
       λ f cs r. record {
@@ -254,25 +254,25 @@ module _ (x : Model) (o : Offsets) (y : List Float) (b : CovParts) (b′ : MeanP
       let cs = covOf x (map classOf y) .0 in
       record {
         number = λ v fv.
-            ap (λ (ks : List Class). smoothOutcomeAt x o ks (set y (t * x .p + i) v) b b′ sc sm) (kinds x o y b room t i inT inI h v fv)
+            ap (λ (ks : List Class). smoothOutcomeAt x o ks (set y (t * x .p + i) v) b b′ sm sc) (classes x o y b room t i inT inI h v fv)
             ∙ ap (λ (r : List MeanPeriod × Mean). (record { filter = covOutcome x f (map classOf y) b; smoothed = smoothedCov x f (map classOf y) sc }, made f cs r)) (means x o y b room t i inT inI h v);
         gapCov = gap-covs x o y b room t i inT inI h;
         gapSmoothed =
             ap₂
             (λ (f : Ending) (r : List CovPeriod × Cov). after f (join (smoothCov (frameOf x) (r .0))) (zeros (smoothedCovNeed x)) sc)
-            (gap-fate x o y b room t i inT inI h)
+            (gap-ending x o y b room t i inT inI h)
             (gap-run x o y b room t i inT inI h);
         gapMean =
-            ap₂ (λ (f : Ending) (r : List CovPeriod × Cov). made f (r .0) (meanOf x o (r .0) (set y (t * x .p + i) nan))) (gap-fate x o y b room t i inT inI h) (gap-run x o y b room t i inT inI h)
+            ap₂ (λ (f : Ending) (r : List CovPeriod × Cov). made f (r .0) (meanOf x o (r .0) (set y (t * x .p + i) nan))) (gap-ending x o y b room t i inT inI h) (gap-run x o y b room t i inT inI h)
             ∙ ap (made f cs) (means x o y b room t i inT inI h nan);
       }
 
-  pub no-news-smooth : (k : ℕ) → NoNews y (smoothOutcome x o y b b′ sc sm .0 .filter) k → UnmovedSmooth x o y b b′ sc sm k
+  pub no-news-smooth : (k : ℕ) → NoNews y (smoothOutcome x o y b b′ sm sc .0 .filter) k → UnmovedSmooth x o y b b′ sm sc k
   unfolding smoothOutcome smoothOutcomeAt
   no-news-smooth k h =
-      let at-k = place (x .n) (x .p) k (in-range x o y b (roomySmoothed x b b′ sc sm) k h) in
+      let at-k = place (x .n) (x .p) k (in-range x o y b (roomySmoothed x b b′ sm sc) k h) in
       subst
-      (λ (j : ℕ). NoNews y (smoothOutcome x o y b b′ sc sm .0 .filter) j → UnmovedSmooth x o y b b′ sc sm j)
+      (λ (j : ℕ). NoNews y (smoothOutcome x o y b b′ sm sc .0 .filter) j → UnmovedSmooth x o y b b′ sm sc j)
       (div-add-mod' k (x .p))
       (at-element-smooth (k / x .p) (k % x .p) (at-k .0) (at-k .1))
       h

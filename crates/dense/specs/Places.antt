@@ -1,6 +1,6 @@
 -- Where the kernels may read and write, and what the moves leave.
 use Prim.Native.Nat.{ℕ, _≤_, _<_}
-use mathlib.Core.Path.{_≡_}
+use mathlib.Core.Path.{_≡_, ap, _∙_}
 use mathlib.Core.List.{List}
 use lib.ListN.{length, take}
 
@@ -33,3 +33,7 @@ pub record Entry (r k c i j : ℕ) : Type 0 where
 pub record Saved {A : Type 0} (n : ℕ) (a out : List A) : Type 0 where
   pub holds : out ≡ take n a
   pub kept : length out ≡ n
+
+-- such a part, of k places
+pub saved : {A : Type 0} {n k : ℕ} {a out : List A} → n ≡ k → Saved n a out → out ≡ take k a
+saved {a = a} e h = h .holds ∙ ap (λ (i : ℕ). take i a) e

@@ -23,7 +23,9 @@ fn is_zero(x: f64) -> bool
     x == 0.0
 }
 
-// A reference to an array that is lent as a slice tells its length.
+// ---- proof devices: `sized`, `sized8` and `sized_bytes` do nothing at run time. A reference to an array does not tell a
+// proof how long its list is; lent as a slice, it does. A kernel that writes through `&mut` calls one of them first.
+
 pub fn sized(a: &[f64; 64])
     ensures { λ _. ⌜ length (now (a .entry)) ≡ 64 ⌝ }
 {

@@ -26,23 +26,25 @@ use Rattle.definition.specs.Cov.{
   judge,
   fStarBy,
   apply,
+  candidate,
   verdict,
   elementOf,
   none-yet,
   sdOf,
 }
 use Rattle.definition.specs.Star.{againOf}
+use Rattle.laws.specs.Flat.{Flat}
 use Rattle.dense.specs.Views.{vec, mat, rect}
 use Rattle.dense.proofs.Laws as dense
-use Rattle.star.specs.Views.{Sound, Holds, Downdated, projectedAt}
+use Rattle.star.specs.Views.{Sound, Replayed, Downdated, projectedAt}
 use Rattle.star.specs.declared.StarRoot.{StarRoot}
 use Rattle.star.proofs.Laws as roots
 use Rattle.acceptance.specs.declared.Finding.{Finding}
 use Rattle.acceptance.specs.declared.Finding.the-variants as finding
-use Rattle.acceptance.specs.Views.{found, judgedBy, Judged}
+use Rattle.acceptance.specs.Views.{decisionBy, judgedAs, judgedBy, UsualBy, Judged}
 use Rattle.element.specs.declared.Step.{Step}
 use Rattle.element.specs.declared.Step.the-variants as step
-use Rattle.element.specs.Views.{Updated, Notes, Books, notes, books, innerOf, fixedOf, Entered, Recorded, takenBy, Moved, Settled, Did, Done, Went, ByRoot}
+use Rattle.element.specs.Views.{Updated, Carried, carried, innerOf, fixedOf, Entered, Recorded, takenBy, Applied, Settled, ElementIs, ElementDone, WithoutRoot, ByRoot}
 
 module _ (m : ℕ) (z r : List Float) {u bu g r′ : List Float} {d : Float} where
   pub root-less : u ≡ matTVec m r z → bu ≡ matVec m r u → d ≡ dot m u u → g ≡ over m u d → r′ ≡ outerSub m r bu g → r′ ≡ rootLess m z r
@@ -64,39 +66,39 @@ pub one-more : {A : Type 0} (l : List A) (i : ℕ) (x : A) → length l ≡ 8 �
 one-more l i x e h = rw add-one (take-suc-set l i x (omega arith))
 
 -- unused gain vectors are +0.0
-module _ (i m : ℕ) {n n′ : Notes} (h : m ≤ 8) where
+module _ (i m : ℕ) {n n′ : Flat} (h : m ≤ 8) where
   pub recorded-skipped : Entered i m 0 0ᶠ 0ᶠ (vec m (replicate 8 0ᶠ)) (vec m (replicate 8 0ᶠ)) n n′ → Recorded m i skipped n n′
-  recorded-skipped w = record { kinds = w .kinds; fs = w .fs; fi = w .fi; ms = w .ms ∙ ap (λ (x : List Float). rect i m (n .ms) ++ x) (dense.vec-zeros m 8 h); mi = w .mi ∙ ap (λ (x : List Float). rect i m (n .mi) ++ x) (dense.vec-zeros m 8 h) }
+  recorded-skipped w = record { kinds = w .kinds; fStars = w .fStars; fInfs = w .fInfs; mStars = w .mStars ∙ ap (λ (x : List Float). rect i m (n .mStars) ++ x) (dense.vec-zeros m 8 h); mInfs = w .mInfs ∙ ap (λ (x : List Float). rect i m (n .mInfs) ++ x) (dense.vec-zeros m 8 h) }
 
   pub recorded-usual : (f : Float) (a : List Float) → Entered i m 1 f 0ᶠ a (vec m (replicate 8 0ᶠ)) n n′ → Recorded m i (usual f a) n n′
-  recorded-usual f a w = record { kinds = w .kinds; fs = w .fs; fi = w .fi; ms = w .ms; mi = w .mi ∙ ap (λ (x : List Float). rect i m (n .mi) ++ x) (dense.vec-zeros m 8 h) }
+  recorded-usual f a w = record { kinds = w .kinds; fStars = w .fStars; fInfs = w .fInfs; mStars = w .mStars; mInfs = w .mInfs ∙ ap (λ (x : List Float). rect i m (n .mInfs) ++ x) (dense.vec-zeros m 8 h) }
 
 -- ---- a decision, carried out
-module _ (m i : ℕ) (z : List Float) (b b′ : Books) where
-  pub moved-none : b′ .star ≡ b .star → b′ .pinf ≡ b .pinf → b′ .root ≡ b .root → Recorded m i skipped (b .notes) (b′ .notes) → Moved m i z skipped step.Passed b b′
+module _ (m i : ℕ) (z : List Float) (b b′ : Carried) where
+  pub moved-none : b′ .star ≡ b .star → b′ .pinf ≡ b .pinf → b′ .root ≡ b .root → Recorded m i skipped (b .flat) (b′ .flat) → Applied m i z skipped step.Passed b b′
   unfolding apply
   moved-none e1 e2 e3 w = record { inner = λ taken. rw (e1, e2, e3); recorded = w; told = refl }
 
   pub moved-usual : (f : Float) (a : List Float) → mat m (b′ .star) ≡ outerSub m (mat m (b .star)) a (over m a f) → b′ .pinf ≡ b .pinf → b′ .root ≡ b .root
-      → Recorded m i (usual f a) (b .notes) (b′ .notes) → Moved m i z (usual f a) step.Taken b b′
+      → Recorded m i (usual f a) (b .flat) (b′ .flat) → Applied m i z (usual f a) step.Taken b b′
   unfolding apply
   moved-usual f a e1 e2 e3 w = record { inner = λ taken. rw (e1, e2, e3); recorded = w; told = refl }
 
   pub moved-diffuse : (f g : Float) (a c : List Float) → Updated m (b .star) (b .pinf) a c f g (b′ .star) (b′ .pinf) → mat m (b′ .root) ≡ rootLess m z (mat m (b .root))
-      → Recorded m i (diffuse f g (vec m a) (vec m c)) (b .notes) (b′ .notes) → Moved m i z (diffuse f g (vec m a) (vec m c)) step.Taken b b′
+      → Recorded m i (diffuse f g (vec m a) (vec m c)) (b .flat) (b′ .flat) → Applied m i z (diffuse f g (vec m a) (vec m c)) step.Taken b b′
   unfolding apply
   moved-diffuse f g a c u e w = record { inner = λ taken. rw (u .star, u .pinf, e); recorded = w; told = refl }
 
-module _ (m i : ℕ) (z : List Float) (f : Float) {d : Finding} (a c : List Float) {r : Step} (b b′ : Books) where
-  pub settled-nothing : d ≡ finding.Nothing → Moved m i z skipped r b b′ → Settled m i z f d a c r b b′
+module _ (m i : ℕ) (z : List Float) (f : Float) {d : Finding} (a c : List Float) {r : Step} (b b′ : Carried) where
+  pub settled-nothing : d ≡ finding.Nothing → Applied m i z skipped r b b′ → Settled m i z f d a c r b b′
   unfolding Settled
   settled-nothing e w = rw e w
 
-  pub settled-usual : d ≡ finding.Usual → Moved m i z (usual f (vec m a)) r b b′ → Settled m i z f d a c r b b′
+  pub settled-usual : d ≡ finding.Usual → Applied m i z (usual f (vec m a)) r b b′ → Settled m i z f d a c r b b′
   unfolding Settled
   settled-usual e w = rw e w
 
-  pub settled-diffuse : (g : Float) → d ≡ finding.Diffuse g → Moved m i z (diffuse f g (vec m a) (vec m c)) r b b′ → Settled m i z f d a c r b b′
+  pub settled-diffuse : (g : Float) → d ≡ finding.Diffuse g → Applied m i z (diffuse f g (vec m a) (vec m c)) r b b′ → Settled m i z f d a c r b b′
   unfolding Settled
   settled-diffuse g e w = rw e w
 
@@ -108,13 +110,13 @@ module _ (m i : ℕ) (z : List Float) (f : Float) {d : Finding} (a c : List Floa
 
 -- before the period's first update the standard deviations are not read
 judged-known : (m : ℕ) (z : List Float) (h : Float) (live : Bool) (pre sd sd′ : List Float) (again : Float) (fresh : Bool) (unres star pinf root : List Float) (f : Float) (m* : List Float)
-    → (fresh ≡ false → sd ≡ sd′) → judgedBy m z h live pre sd again fresh unres star pinf root f m* ≡ judgedBy m z h live pre sd′ again fresh unres star pinf root f m*
+    → (fresh ≡ false → sd ≡ sd′) → judgedBy m (judgedAs z h live pre sd unres fresh again star pinf root) f m* ≡ judgedBy m (judgedAs z h live pre sd′ unres fresh again star pinf root) f m*
 unfolding judgedBy diffusely usually usualTest dust
 judged-known m z h live pre sd sd′ again true unres star pinf root f m* k = refl
 judged-known m z h live pre sd sd′ again false unres star pinf root f m* k = rw (k refl)
 
 judged-is : (m : ℕ) (z : List Float) (h : Float) (live : Bool) (pre sd : List Float) (again : Float) (fresh : Bool) (unres star pinf root : List Float) {f : Float} {m* : List Float}
-    → m* ≡ matVec m star z → f ≡ fStarBy m z h m* → judgedBy m z h live pre sd again fresh unres star pinf root f m* ≡ judge m z h live pre sd again fresh unres star pinf root
+    → m* ≡ matVec m star z → f ≡ fStarBy m z h m* → judgedBy m (judgedAs z h live pre sd unres fresh again star pinf root) f m* ≡ judge m (judgedAs z h live pre sd unres fresh again star pinf root)
 unfolding judgedBy judge
 judged-is m z h live pre sd again fresh unres star pinf root e1 e2 = rw (e2, e1)
 
@@ -131,19 +133,19 @@ module _ (p m : ℕ) (hs : List Float) (fix : Fixed) (i : ℕ) (s : Inner) where
   gap-is e = rw e
 
   element-is : {gap : Bool} {z : List Float} {h : Float} {d : Decision} → gap ≡ false → z ≡ row m (fix .z) i → h ≡ ent p hs i i
-      → d ≡ judge m z h (fix .diffuse) (fix .pre) (sdOf m (fix .pre)) (againOf p m (fix .z) hs (fix .pre) i (s .taken)) (none-yet (s .taken)) (fix .unres) (s .star) (s .pinf) (s .root)
+      → d ≡ judge m (judgedAs z h (fix .diffuse) (fix .pre) (sdOf m (fix .pre)) (fix .unres) (none-yet (s .taken)) (againOf p m (fix .z) hs (fix .pre) i (s .taken)) (s .star) (s .pinf) (s .root))
       → (d, apply m z i s d) ≡ elementOf p m hs fix i s gap
-  unfolding elementOf verdict
+  unfolding elementOf verdict candidate
   element-is e e1 e2 w = rw (e, sym e1, sym e2, sym w)
 
 -- a decision that was carried out, of what the definition has
-did : (m i : ℕ) (z : List Float) (d : Decision) {want : Decision × Inner} (taken : List ℕ) (r : Step) (b b′ : Books) → (d, apply m z i (innerOf m b taken) d) ≡ want → Moved m i z d r b b′ → Did m i want r b b′
-did m i z d {want} taken r b b′ e w = subst (λ (x : Decision × Inner). Did m i x r b b′) e
+did : (m i : ℕ) (z : List Float) (d : Decision) {want : Decision × Inner} (taken : List ℕ) (r : Step) (b b′ : Carried) → (d, apply m z i (innerOf m b taken) d) ≡ want → Applied m i z d r b b′ → ElementIs m i want r b b′
+did m i z d {want} taken r b b′ e w = subst (λ (x : Decision × Inner). ElementIs m i x r b b′) e
     (record { inner = ap (λ (t : List ℕ). innerOf m b′ t) (applied-taken m z i (innerOf m b taken) d) ∙ w .inner taken; recorded = w .recorded; told = w .told })
 
-module _ (p m : ℕ) (hs : List Float) (fix : Fixed) (fresh : Bool) (i : ℕ) {gap : Bool} (b b′ : Books) where
-  pub went-gap : gap ≡ true → b′ .star ≡ b .star → b′ .pinf ≡ b .pinf → b′ .root ≡ b .root → Recorded m i skipped (b .notes) (b′ .notes) → Went p m hs fix fresh i gap b b′ step.Passed
-  unfolding Went apply
+module _ (p m : ℕ) (hs : List Float) (fix : Fixed) (fresh : Bool) (i : ℕ) {gap : Bool} (b b′ : Carried) where
+  pub went-gap : gap ≡ true → b′ .star ≡ b .star → b′ .pinf ≡ b .pinf → b′ .root ≡ b .root → Recorded m i skipped (b .flat) (b′ .flat) → WithoutRoot p m hs fix fresh i gap b b′ step.Passed
+  unfolding WithoutRoot apply
   went-gap e e1 e2 e3 w = λ taken k. did m i [] skipped taken step.Passed b b′ (gap-is p m hs fix i (innerOf m b taken) e) (moved-none m i [] b b′ e1 e2 e3 w)
 
   module _ {z : List Float} {h f : Float} (a c : List Float) {sd : List Float} (r : Step) (e : gap ≡ false) (ez : z ≡ row m (fix .z) i) (eh : h ≡ ent p hs i i) (ek : fresh ≡ false → sd ≡ sdOf m (fix .pre))
@@ -151,10 +153,10 @@ module _ (p m : ℕ) (hs : List Float) (fix : Fixed) (fresh : Bool) (i : ℕ) {g
     abbrev Judges : Finding → Type 0
     Judges d = Judged m z h (fix .diffuse) (fix .pre) sd fresh (fix .unres) (mat m (b .star)) (mat m (b .pinf)) (mat m (b .root)) f c d
 
-    done : (d : Finding) (dec : Decision) → Judges d → ((again : Float) → found m again f d a c ≡ dec) → Moved m i z dec r b b′ → Done p m hs fix fresh i gap b b′ r
+    done : (d : Finding) (dec : Decision) → Judges d → ((again : Float) → decisionBy m again f d a c ≡ dec) → Applied m i z dec r b b′ → ElementDone p m hs fix fresh i gap b b′ r
     done d dec w k v = λ taken n.
         let again = againOf p m (fix .z) hs (fix .pre) i taken in
-        let j : dec ≡ judge m z h (fix .diffuse) (fix .pre) (sdOf m (fix .pre)) again (none-yet taken) (fix .unres) (mat m (b .star)) (mat m (b .pinf)) (mat m (b .root)) =
+        let j : dec ≡ judge m (judgedAs z h (fix .diffuse) (fix .pre) (sdOf m (fix .pre)) (fix .unres) (none-yet taken) again (mat m (b .star)) (mat m (b .pinf)) (mat m (b .root))) =
         sym (k again)
         ∙ w .finds again a
         ∙ judged-known m z h (fix .diffuse) (fix .pre) sd (sdOf m (fix .pre)) again fresh (fix .unres) (mat m (b .star)) (mat m (b .pinf)) (mat m (b .root)) f (vec m a) ek
@@ -162,8 +164,8 @@ module _ (p m : ℕ) (hs : List Float) (fix : Fixed) (fresh : Bool) (i : ℕ) {g
         ∙ rw n in
         did m i z dec taken r b b′ (element-is p m hs fix i (innerOf m b taken) e ez eh j) v
 
-    pub went : (d : Finding) → Judges d → Settled m i z f d a c r b b′ → Went p m hs fix fresh i gap b b′ r
-    unfolding Settled Went found
+    pub went : (d : Finding) → Judges d → Settled m i z f d a c r b b′ → WithoutRoot p m hs fix fresh i gap b b′ r
+    unfolding Settled WithoutRoot decisionBy
     went finding.Nothing w v = rw (v .told) (rw (v .told) at (done finding.Nothing skipped w (λ again. refl) v))
     went finding.Usual w v = rw (v .told) (rw (v .told) at (done finding.Usual (usual f (vec m a)) w (λ again. refl) v))
     went (finding.Diffuse g) w v = rw (v .told) (rw (v .told) at (done (finding.Diffuse g) (diffuse f g (vec m a) (vec m c)) w (λ again. refl) v))
@@ -171,47 +173,53 @@ module _ (p m : ℕ) (hs : List Float) (fix : Fixed) (fresh : Bool) (i : ℕ) {g
 
 -- ---- with the star root at hand
 
-stale-next : (taken : List ℕ) (i : ℕ) → none-yet (taken ++ (i ∷ [])) ≡ false
+pub stale-next : (taken : List ℕ) (i : ℕ) → none-yet (taken ++ (i ∷ [])) ≡ false
 stale-next [] i = refl
 stale-next (x ∷ taken) i = refl
 
-module _ (p m : ℕ) (hs design pre : List Float) (i : ℕ) (gap : Bool) (star : List Float) (n : Notes) (root : StarRoot) (star′ : List Float) (n′ : Notes) where
+module _ (p m : ℕ) (hs design pre : List Float) (i : ℕ) (gap : Bool) (star : List Float) (n : Flat) (root : StarRoot) (star′ : List Float) (n′ : Flat) where
   by-root : (z : List Float) (d : Decision) (root′ : StarRoot) (r : Step)
-      → ((p∞ b unres : List Float) (taken : List ℕ) → none-yet taken ≡ false → Holds p m (rect p m design) hs (mat m pre) taken root
-      → (d, apply m z i (innerOf m (books star p∞ b n) taken) d) ≡ elementOf p m hs (fixedOf p m false design pre unres) i (innerOf m (books star p∞ b n) taken) gap)
-      → ((p∞ b : List Float) → Moved m i z d r (books star p∞ b n) (books star′ p∞ b n′))
-      → ((taken : List ℕ) → none-yet taken ≡ false → Holds p m (rect p m design) hs (mat m pre) taken root → Holds p m (rect p m design) hs (mat m pre) (takenBy d taken i) root′ × (none-yet (takenBy d taken i) ≡ false))
+      → ((p∞ b unres : List Float) (taken : List ℕ) → none-yet taken ≡ false → Replayed p m (rect p m design) hs (mat m pre) taken root
+      → (d, apply m z i (innerOf m (carried star p∞ b n) taken) d) ≡ elementOf p m hs (fixedOf p m false design pre unres) i (innerOf m (carried star p∞ b n) taken) gap)
+      → ((p∞ b : List Float) → Applied m i z d r (carried star p∞ b n) (carried star′ p∞ b n′))
+      → ((taken : List ℕ) → none-yet taken ≡ false → Replayed p m (rect p m design) hs (mat m pre) taken root → Replayed p m (rect p m design) hs (mat m pre) (takenBy d taken i) root′ × (none-yet (takenBy d taken i) ≡ false))
       → ByRoot p m hs design pre i gap star n root star′ n′ root′
   by-root z d root′ r is moves keeps = λ p∞ b unres taken s w.
       let e = is p∞ b unres taken s w in
-      let g = did m i z d taken r (books star p∞ b n) (books star′ p∞ b n′) e (moves p∞ b) in
-      let t : elementOf p m hs (fixedOf p m false design pre unres) i (innerOf m (books star p∞ b n) taken) gap .1 .taken ≡ takenBy d taken i =
-      ap (λ (x : Decision × Inner). x .1 .taken) (sym e) ∙ applied-taken m z i (innerOf m (books star p∞ b n) taken) d in
-      record { inner = g .inner; recorded = g .recorded; holds = rw t (keeps taken s w .0); stale = rw t (keeps taken s w .1) }
+      let g = did m i z d taken r (carried star p∞ b n) (carried star′ p∞ b n′) e (moves p∞ b) in
+      let t : elementOf p m hs (fixedOf p m false design pre unres) i (innerOf m (carried star p∞ b n) taken) gap .1 .taken ≡ takenBy d taken i =
+      ap (λ (x : Decision × Inner). x .1 .taken) (sym e) ∙ applied-taken m z i (innerOf m (carried star p∞ b n) taken) d in
+      record { inner = g .inner; recorded = g .recorded; replayed = rw t (keeps taken s w .0); stale = rw t (keeps taken s w .1) }
 
   pub by-root-gap : gap ≡ true → star′ ≡ star → Recorded m i skipped n n′ → ByRoot p m hs design pre i gap star n root star′ n′ root
   unfolding apply
   by-root-gap e s v = by-root [] skipped root step.Passed
-      (λ p∞ b unres taken k w. gap-is p m hs (fixedOf p m false design pre unres) i (innerOf m (books star p∞ b n) taken) e)
-      (λ p∞ b. moved-none m i [] (books star p∞ b n) (books star′ p∞ b n′) s refl refl v)
+      (λ p∞ b unres taken k w. gap-is p m hs (fixedOf p m false design pre unres) i (innerOf m (carried star p∞ b n) taken) e)
+      (λ p∞ b. moved-none m i [] (carried star p∞ b n) (carried star′ p∞ b n′) s refl refl v)
       (λ taken k w. (w, k))
 
   module _ {z : List Float} {h f : Float} {a sd : List Float} {t : Bool} (e : gap ≡ false) (ez : z ≡ row m (rect p m design) i) (eh : h ≡ ent p hs i i) (ek : sd ≡ sdOf m (mat m pre))
-      (ea : a ≡ matVec m (mat m star) z) (ef : f ≡ fStarBy m z h a) (et : t ≡ usualTest m z h false (mat m pre) sd (projectedAt root z h) false (mat m star) f) where
-    decided : (d : Decision) → d ≡ cond t (usual f a) skipped → (p∞ b unres : List Float) (taken : List ℕ) → none-yet taken ≡ false → Holds p m (rect p m design) hs (mat m pre) taken root
-        → (d, apply m z i (innerOf m (books star p∞ b n) taken) d) ≡ elementOf p m hs (fixedOf p m false design pre unres) i (innerOf m (books star p∞ b n) taken) gap
+      (ea : a ≡ matVec m (mat m star) z) (ef : f ≡ fStarBy m z h a) (et : UsualBy m z h false (mat m pre) sd false (projectedAt root z h) (mat m star) f t) where
+    decided : (d : Decision) → d ≡ cond t (usual f a) skipped → (p∞ b unres : List Float) (taken : List ℕ) → none-yet taken ≡ false → Replayed p m (rect p m design) hs (mat m pre) taken root
+        → (d, apply m z i (innerOf m (carried star p∞ b n) taken) d) ≡ elementOf p m hs (fixedOf p m false design pre unres) i (innerOf m (carried star p∞ b n) taken) gap
     unfolding judge usually
     decided d g p∞ b unres taken k w =
         let again : projectedAt root z h ≡ againOf p m (rect p m design) hs (mat m pre) i taken = rw (ez, eh) (roots.kept-again p m (rect p m design) hs (mat m pre) taken root w i) in
-        element-is p m hs (fixedOf p m false design pre unres) i (innerOf m (books star p∞ b n) taken) e ez eh (rw (k, sym again, sym ek, sym ea, sym ef, sym et) g)
+        element-is p m hs (fixedOf p m false design pre unres) i (innerOf m (carried star p∞ b n) taken) e ez eh (rw (k, sym again, sym ek, sym ea, sym ef, sym (et .says (mat m unres) (mat m p∞) (mat m b))) g)
 
-    pub by-root-no : t ≡ false → star′ ≡ star → Recorded m i skipped n n′ → ByRoot p m hs design pre i gap star n root star′ n′ root
-    by-root-no g s v = by-root z skipped root step.Passed (decided skipped (rw g)) (λ p∞ b. moved-none m i z (books star p∞ b n) (books star′ p∞ b n′) s refl refl v) (λ taken k w. (w, k))
+    -- the test hands the root back: what goes on, or is downdated, is that one
+    module _ {back : StarRoot} (q : Sound m root) (handed : back ≡ root) where
+      pub by-root-no : t ≡ false → star′ ≡ star → Recorded m i skipped n n′ → Sound m back × ByRoot p m hs design pre i gap star n root star′ n′ back
+      by-root-no g s v = rw handed (
+        q,
+        by-root z skipped root step.Passed (decided skipped (rw g)) (λ p∞ b. moved-none m i z (carried star p∞ b n) (carried star′ p∞ b n′) s refl refl v) (λ taken k w. (w, k)),
+      )
 
-    pub by-root-yes : (root′ : StarRoot) → Sound m root → t ≡ true → mat m star′ ≡ outerSub m (mat m star) a (over m a f) → Recorded m i (usual f a) n n′ → Downdated z h root root′
-        → Sound m root′ × ByRoot p m hs design pre i gap star n root star′ n′ root′
-    by-root-yes root′ q g s v u = (
-      roots.sound-by m z h root root′ q u,
-      by-root z (usual f a) root′ step.Taken (decided (usual f a) (rw g)) (λ p∞ b. moved-usual m i z (books star p∞ b n) (books star′ p∞ b n′) f a s refl refl v)
-          (λ taken k w. (roots.kept-next p m (rect p m design) hs (mat m pre) taken root w i root′ (rw (ez, eh) at u), stale-next taken i)),
-    )
+      pub by-root-yes : (root′ : StarRoot) → t ≡ true → mat m star′ ≡ outerSub m (mat m star) a (over m a f) → Recorded m i (usual f a) n n′ → Downdated z h back root′
+          → Sound m root′ × ByRoot p m hs design pre i gap star n root star′ n′ root′
+      by-root-yes root′ g s v u =
+          let d : Downdated z h root root′ = rw handed at u in (
+            roots.sound-by m z h root root′ q d,
+            by-root z (usual f a) root′ step.Taken (decided (usual f a) (rw g)) (λ p∞ b. moved-usual m i z (carried star p∞ b n) (carried star′ p∞ b n′) f a s refl refl v)
+                (λ taken k w. (roots.kept-next p m (rect p m design) hs (mat m pre) taken root w i root′ (rw (ez, eh) at d), stale-next taken i)),
+          )

@@ -1,15 +1,17 @@
-// filter.rs, one element of a period on the covariance track: the updates and the record that its verdict brings. Its mean is worked out elsewhere.
-// The star root is seldom asked. So `element` goes without it and stops at an element that needs it, and `element_by_root` has it at hand.
+// filter.rs, one element of a period on the covariance track: the updates and the record that its verdict brings. Its
+// mean is the crate mean's. The star root is seldom asked. So `element` goes without it and stops at an element that
+// needs it, and `element_by_root` has it at hand.
 ghost use mathlib.Core.Path.{_≡_};
 ghost use mathlib.Core.Bool.{false};
 ghost use Prim.Native.Nat.{_≤_, _<_};
 ghost use Rattle.definition.specs.Cov.{k1Of, rootLess, skipped, usual, sdOf, sdAt};
 ghost use Rattle.definition.specs.Dense.{outerSub, over};
+ghost use Rattle.laws.specs.Flat.{flatIn};
 ghost use Rattle.dense.specs.Views.{vec, mat};
 ghost use Rattle.star.specs.Views.{Sound};
-ghost use Rattle.element.specs.Views.{notes, books, fixedOf, Updated, Entered, Recorded, Settled, Here, Known, Went, ByRoot};
+ghost use Rattle.element.specs.Views.{carried, fixedOf, Updated, Entered, Recorded, Settled, InPeriod, SdKnown, WithoutRoot, ByRoot};
 
-// How an element ended: nothing moved, or it was taken; or the star root has to say.
+// How an element ended: nothing moved, or it was taken; or it is left as it was, since the star root has to say.
 pub enum Step {
     Passed,
     Taken,
@@ -43,7 +45,9 @@ fn root_less(root: &mut [f64; 64], z: &[f64; 8], m: usize)
 // P* - M* K'.
 fn usual_update(star: &mut [f64; 64], m_star: &[f64; 8], f: f64, m: usize)
     requires { ⌜ m ≤ 8 ⌝ }
-    ensures { λ _. ⌜ mat m (now (star .exit)) ≡ outerSub m (mat m (now (star .entry))) (vec m (now («m_star» .entry))) (over m (vec m (now («m_star» .entry))) f) ⌝ }
+    ensures { λ _. ⌜ mat m (now (star .exit))
+        ≡ outerSub m (mat m (now (star .entry))) (vec m (now («m_star» .entry)))
+        (over m (vec m (now («m_star» .entry))) f) ⌝ }
 {
     let k = dense::over(m_star, f, m);
     dense::outer_sub(star, m_star, &k, m);
@@ -60,7 +64,8 @@ fn diffuse_update(
     m: usize,
 )
     requires { ⌜ m ≤ 8 ⌝ }
-    ensures { λ _. ⌜ Updated m (now (star .entry)) (now («p_inf» .entry)) (now («m_star» .entry)) (now («m_inf» .entry)) f «f_inf» (now (star .exit)) (now («p_inf» .exit)) ⌝ }
+    ensures { λ _. ⌜ Updated m (now (star .entry)) (now («p_inf» .entry)) (now («m_star» .entry)) (now («m_inf» .entry))
+        f «f_inf» (now (star .exit)) (now («p_inf» .exit)) ⌝ }
 {
     let k0 = dense::over(m_inf, f_inf, m);
     let k1 = k1(m_star, &k0, f, f_inf, m);
@@ -86,8 +91,8 @@ fn enter(
 )
     requires { ⌜ (i < 8) × (m ≤ 8) ⌝ }
     ensures { λ _. ⌜ Entered i m kind f g (vec m (now («m_star» .entry))) (vec m (now («m_inf» .entry)))
-        (notes (now (kinds .entry)) (now (fs .entry)) (now (fi .entry)) (now (ms .entry)) (now (mi .entry)))
-        (notes (now (kinds .exit)) (now (fs .exit)) (now (fi .exit)) (now (ms .exit)) (now (mi .exit))) ⌝ }
+        (flatIn (now (kinds .entry)) (now (fs .entry)) (now (fi .entry)) (now (ms .entry)) (now (mi .entry)))
+        (flatIn (now (kinds .exit)) (now (fs .exit)) (now (fi .exit)) (now (ms .exit)) (now (mi .exit))) ⌝ }
 {
     dense::sized_bytes(kinds);
     dense::sized8(fs);
@@ -99,6 +104,7 @@ fn enter(
     dense::put_row(mi, m_inf, i, m);
 }
 
+// The record of an element that is skipped: its numbers and vectors are +0.0.
 fn record_skipped(
     kinds: &mut [u8; 8],
     fs: &mut [f64; 8],
@@ -110,13 +116,27 @@ fn record_skipped(
 )
     requires { ⌜ (i < 8) × (m ≤ 8) ⌝ }
     ensures { λ _. ⌜ Recorded m i skipped
-        (notes (now (kinds .entry)) (now (fs .entry)) (now (fi .entry)) (now (ms .entry)) (now (mi .entry)))
-        (notes (now (kinds .exit)) (now (fs .exit)) (now (fi .exit)) (now (ms .exit)) (now (mi .exit))) ⌝ }
+        (flatIn (now (kinds .entry)) (now (fs .entry)) (now (fi .entry)) (now (ms .entry)) (now (mi .entry)))
+        (flatIn (now (kinds .exit)) (now (fs .exit)) (now (fi .exit)) (now (ms .exit)) (now (mi .exit))) ⌝ }
 {
     let none = [0.0; 8];
-    enter(kinds, fs, fi, ms, mi, 0, 0.0, 0.0, &none, &none, i, m);
+    enter(
+        kinds,
+        fs,
+        fi,
+        ms,
+        mi,
+        promise::SKIPPED,
+        0.0,
+        0.0,
+        &none,
+        &none,
+        i,
+        m,
+    );
 }
 
+// The record of a usual element: F∞ and M∞ are +0.0.
 fn record_usual(
     kinds: &mut [u8; 8],
     fs: &mut [f64; 8],
@@ -130,11 +150,24 @@ fn record_usual(
 )
     requires { ⌜ (i < 8) × (m ≤ 8) ⌝ }
     ensures { λ _. ⌜ Recorded m i (usual f (vec m (now («m_star» .entry))))
-        (notes (now (kinds .entry)) (now (fs .entry)) (now (fi .entry)) (now (ms .entry)) (now (mi .entry)))
-        (notes (now (kinds .exit)) (now (fs .exit)) (now (fi .exit)) (now (ms .exit)) (now (mi .exit))) ⌝ }
+        (flatIn (now (kinds .entry)) (now (fs .entry)) (now (fi .entry)) (now (ms .entry)) (now (mi .entry)))
+        (flatIn (now (kinds .exit)) (now (fs .exit)) (now (fi .exit)) (now (ms .exit)) (now (mi .exit))) ⌝ }
 {
     let none = [0.0; 8];
-    enter(kinds, fs, fi, ms, mi, 1, f, 0.0, m_star, &none, i, m);
+    enter(
+        kinds,
+        fs,
+        fi,
+        ms,
+        mi,
+        promise::USUAL,
+        f,
+        0.0,
+        m_star,
+        &none,
+        i,
+        m,
+    );
 }
 
 // What a finding brings: the update and the record. A doubtful element leaves all as it was.
@@ -157,8 +190,10 @@ fn settle(
 ) -> Step
     requires { ⌜ (i < 8) × (m ≤ 8) ⌝ }
     ensures { λ r. ⌜ Settled m i (vec m (now (z .entry))) f d (now («m_star» .entry)) (now («m_inf» .entry)) r
-        (books (now (star .entry)) (now («p_inf» .entry)) (now (root .entry)) (notes (now (kinds .entry)) (now (fs .entry)) (now (fi .entry)) (now (ms .entry)) (now (mi .entry))))
-        (books (now (star .exit)) (now («p_inf» .exit)) (now (root .exit)) (notes (now (kinds .exit)) (now (fs .exit)) (now (fi .exit)) (now (ms .exit)) (now (mi .exit)))) ⌝ }
+        (carried (now (star .entry)) (now («p_inf» .entry)) (now (root .entry))
+        (flatIn (now (kinds .entry)) (now (fs .entry)) (now (fi .entry)) (now (ms .entry)) (now (mi .entry))))
+        (carried (now (star .exit)) (now («p_inf» .exit)) (now (root .exit))
+        (flatIn (now (kinds .exit)) (now (fs .exit)) (now (fi .exit)) (now (ms .exit)) (now (mi .exit)))) ⌝ }
 {
     match d {
         acceptance::Finding::Nothing => {
@@ -173,14 +208,29 @@ fn settle(
         acceptance::Finding::Diffuse(g) => {
             diffuse_update(star, p_inf, m_star, m_inf, f, g, m);
             root_less(root, z, m);
-            enter(kinds, fs, fi, ms, mi, 2, f, g, m_star, m_inf, i, m);
+            enter(
+                kinds,
+                fs,
+                fi,
+                ms,
+                mi,
+                promise::DIFFUSE,
+                f,
+                g,
+                m_star,
+                m_inf,
+                i,
+                m,
+            );
             Step::Taken
         }
         acceptance::Finding::Doubtful(_) => Step::Doubtful,
     }
 }
 
-// Element i of a period, the star root not asked; a gap is passed over. The standard deviations are read once the period had an update.
+// Element i of a period, the star root not asked; a gap is passed over. `live`: the period is diffuse. `fresh`: it had
+// no update yet. `pre` is its predicted P*, with the standard deviations `sd`, which are read once the period had an
+// update.
 pub fn element(
     star: &mut [f64; 64],
     p_inf: &mut [f64; 64],
@@ -202,10 +252,13 @@ pub fn element(
     m: usize,
     i: usize,
 ) -> Step
-    requires { ⌜ Here p m i × Known m fresh (now pre) (now sd) ⌝ }
-    ensures { λ r. ⌜ Went p m (mat p (now (hs .entry))) (fixedOf p m live (now (design .entry)) (now (pre .entry)) (now (unres .entry))) fresh i gap
-        (books (now (star .entry)) (now («p_inf» .entry)) (now (root .entry)) (notes (now (kinds .entry)) (now (fs .entry)) (now (fi .entry)) (now (ms .entry)) (now (mi .entry))))
-        (books (now (star .exit)) (now («p_inf» .exit)) (now (root .exit)) (notes (now (kinds .exit)) (now (fs .exit)) (now (fi .exit)) (now (ms .exit)) (now (mi .exit)))) r ⌝ }
+    requires { ⌜ InPeriod p m i × SdKnown m fresh (now pre) (now sd) ⌝ }
+    ensures { λ r. ⌜ WithoutRoot p m (mat p (now (hs .entry)))
+        (fixedOf p m live (now (design .entry)) (now (pre .entry)) (now (unres .entry))) fresh i gap
+        (carried (now (star .entry)) (now («p_inf» .entry)) (now (root .entry))
+        (flatIn (now (kinds .entry)) (now (fs .entry)) (now (fi .entry)) (now (ms .entry)) (now (mi .entry))))
+        (carried (now (star .exit)) (now («p_inf» .exit)) (now (root .exit))
+        (flatIn (now (kinds .exit)) (now (fs .exit)) (now (fi .exit)) (now (ms .exit)) (now (mi .exit)))) r ⌝ }
 {
     if gap {
         record_skipped(kinds, fs, fi, ms, mi, i, m);
@@ -250,7 +303,8 @@ pub fn element(
     )
 }
 
-// Element i of a period that is not diffuse and had an update, with the star root at hand. The root follows an element that is taken.
+// Element i of a period that is not diffuse and had an update, with the star root at hand. The root follows an element
+// that is taken.
 pub fn element_by_root(
     star: &mut [f64; 64],
     kinds: &mut [u8; 8],
@@ -268,10 +322,13 @@ pub fn element_by_root(
     m: usize,
     i: usize,
 ) -> star::StarRoot
-    requires { ⌜ Here p m i × (Known m false (now pre) (now sd) × Sound m root) ⌝ }
-    ensures { λ r. ⌜ Sound m r × (ByRoot p m (mat p (now (hs .entry))) (now (design .entry)) (now (pre .entry)) i gap
-        (now (star .entry)) (notes (now (kinds .entry)) (now (fs .entry)) (now (fi .entry)) (now (ms .entry)) (now (mi .entry))) root
-        (now (star .exit)) (notes (now (kinds .exit)) (now (fs .exit)) (now (fi .exit)) (now (ms .exit)) (now (mi .exit))) r) ⌝ }
+    requires { ⌜ InPeriod p m i × (SdKnown m false (now pre) (now sd) × Sound m root) ⌝ }
+    ensures { λ r. ⌜ Sound m r
+        × (ByRoot p m (mat p (now (hs .entry))) (now (design .entry)) (now (pre .entry)) i gap
+        (now (star .entry))
+        (flatIn (now (kinds .entry)) (now (fs .entry)) (now (fi .entry)) (now (ms .entry)) (now (mi .entry))) root
+        (now (star .exit))
+        (flatIn (now (kinds .exit)) (now (fs .exit)) (now (fi .exit)) (now (ms .exit)) (now (mi .exit))) r) ⌝ }
 {
     if gap {
         record_skipped(kinds, fs, fi, ms, mi, i, m);
@@ -281,7 +338,9 @@ pub fn element_by_root(
     let h = dense::get(hs, p, i, i);
     let m_star = dense::mat_vec(star, &z, m);
     let f = acceptance::f_star(&z, h, &m_star, m);
-    if acceptance::is_usual(root, &z, h, pre, sd, star, f, m) {
+    let asked = acceptance::is_usual(root, &z, h, pre, sd, star, f, m);
+    let root = asked.root;
+    if asked.usual {
         usual_update(star, &m_star, f, m);
         record_usual(kinds, fs, fi, ms, mi, f, &m_star, i, m);
         return root.downdate(&z, h, m);
@@ -290,6 +349,7 @@ pub fn element_by_root(
     root
 }
 
+// The standard deviation of state j by P*; 0 where the variance is not above 0.
 fn sd_at(pre: &[f64; 64], m: usize, j: usize) -> f64
     requires { ⌜ (m ≤ 8) × (j < m) ⌝ }
     ensures { λ r. ⌜ r ≡ sdAt m (mat m (now (pre .entry))) j ⌝ }

@@ -1,4 +1,5 @@
-// smoother.rs, one element back: L, and N0, N1, N2 and r0, r1 from those after the element. Gains here multiply by 1 / F.
+// smoother.rs, one element back through the covariances: N0, N1 and N2 from those after it; and L and K1, of which the means' way back takes entries
+// too. Gains here multiply by 1 / F.
 ghost use mathlib.Core.Path.{_≡_};
 ghost use Prim.Native.Nat.{_≤_};
 ghost use mathlib.Core.Bool.{Bool, cond};
@@ -12,12 +13,14 @@ ghost use Rattle.dense.specs.Places.{Within};
 ghost use Rattle.laws.specs.Flat.{decisionOf};
 ghost use Rattle.element_back.specs.View.{nsIn};
 
+// F1 = 1 / F∞. It is also 1 / F* of a usual element.
 pub fn f_one(f_inf: f64) -> f64
     ensures { λ r. ⌜ r ≡ fOne «f_inf» ⌝ }
 {
     1.0 / f_inf
 }
 
+// F2 = - F* F1 F1.
 fn f_two(f: f64, f_inf: f64) -> f64
     ensures { λ r. ⌜ r ≡ fTwo f «f_inf» ⌝ }
 {
@@ -34,6 +37,7 @@ pub fn l_zero_at(k: &[f64; 8], z: &[f64; 8], m: usize, i: usize, j: usize) -> f6
     if i == j { 1.0 - x } else { 0.0 - x }
 }
 
+// I - k z'.
 fn l_zero(k: &[f64; 8], z: &[f64; 8], m: usize) -> [f64; 64]
     requires { ⌜ m ≤ 8 ⌝ }
     ensures { λ r. ⌜ mat m r ≡ lZero m (vec m (now (k .entry))) (vec m (now (z .entry))) ⌝ }
@@ -96,7 +100,8 @@ pub fn l_diffuse(
     m: usize,
 ) -> [f64; 64]
     requires { ⌜ m ≤ 8 ⌝ }
-    ensures { λ r. ⌜ mat m r ≡ lDiffuse m (vec m (now (z .entry))) f «f_inf» (vec m (now («m_star» .entry))) (vec m (now («m_inf» .entry))) ⌝ }
+    ensures { λ r. ⌜ mat m r ≡ lDiffuse m (vec m (now (z .entry))) f «f_inf»
+        (vec m (now («m_star» .entry))) (vec m (now («m_inf» .entry))) ⌝ }
 {
     let k = k_one(f, f_inf, m_star, m_inf, m);
     l_one(&k, z, m)
@@ -107,7 +112,8 @@ pub fn l_diffuse(
 // N0 = z z' / F + L' N0 L, of a usual element, in place: the sum's operands may change places.
 fn usual_n0(n0: &mut [f64; 64], z: &[f64; 8], g: f64, l: &[f64; 64], m: usize)
     requires { ⌜ m ≤ 8 ⌝ }
-    ensures { λ _. ⌜ mat m (now (n0 .exit)) ≡ usualN0 m (vec m (now (z .entry))) g (mat m (now (l .entry))) (mat m (now (n0 .entry))) ⌝ }
+    ensures { λ _. ⌜ mat m (now (n0 .exit)) ≡ usualN0 m (vec m (now (z .entry))) g (mat m (now (l .entry)))
+        (mat m (now (n0 .entry))) ⌝ }
 {
     let mut ln = [0.0; 64];
     products::t_mul_into(&mut ln, l, n0, m);
@@ -119,7 +125,8 @@ fn usual_n0(n0: &mut [f64; 64], z: &[f64; 8], g: f64, l: &[f64; 64], m: usize)
 // N1 L, in a diffuse period alone.
 fn usual_n1(n1: &mut [f64; 64], live: bool, l: &[f64; 64], m: usize)
     requires { ⌜ m ≤ 8 ⌝ }
-    ensures { λ _. ⌜ mat m (now (n1 .exit)) ≡ cond live (mul m (mat m (now (n1 .entry))) (mat m (now (l .entry)))) (mat m (now (n1 .entry))) ⌝ }
+    ensures { λ _. ⌜ mat m (now (n1 .exit)) ≡ cond live (mul m (mat m (now (n1 .entry))) (mat m (now (l .entry))))
+        (mat m (now (n1 .entry))) ⌝ }
 {
     if live {
         let x = products::product(n1, l, m, m, m);
@@ -127,6 +134,7 @@ fn usual_n1(n1: &mut [f64; 64], live: bool, l: &[f64; 64], m: usize)
     }
 }
 
+// A usual element. N2 stays.
 fn back_usual(
     n0: &mut [f64; 64],
     n1: &mut [f64; 64],
@@ -137,7 +145,10 @@ fn back_usual(
     m: usize,
 )
     requires { ⌜ m ≤ 8 ⌝ }
-    ensures { λ _. ⌜ ((n2 : List Float) → record { n0 = mat m (now (n0 .exit)); n1 = mat m (now (n1 .exit)); n2 = n2 } ≡ backN m live (vec m (now (z .entry))) (record { n0 = mat m (now (n0 .entry)); n1 = mat m (now (n1 .entry)); n2 = n2 }) (usual f (vec m (now («m_star» .entry))))) ⌝ }
+    ensures { λ _. ⌜ ((n2 : List Float) → record { n0 = mat m (now (n0 .exit)); n1 = mat m (now (n1 .exit)); n2 = n2 }
+        ≡ backN m live (vec m (now (z .entry)))
+        (record { n0 = mat m (now (n0 .entry)); n1 = mat m (now (n1 .entry)); n2 = n2 })
+        (usual f (vec m (now («m_star» .entry))))) ⌝ }
 {
     let l = l_usual(z, f, m_star, m);
     usual_n0(n0, z, f_one(f), &l, m);
@@ -147,7 +158,8 @@ fn back_usual(
 // A' N B, added to s. One function for all six, so that the caller's frame has no matrix for each of them.
 fn add_quad(s: &mut [f64; 64], a: &[f64; 64], n: &[f64; 64], b: &[f64; 64], m: usize)
     requires { ⌜ m ≤ 8 ⌝ }
-    ensures { λ _. ⌜ mat m (now (s .exit)) ≡ plus m (mat m (now (s .entry))) (quad m (mat m (now (a .entry))) (mat m (now (n .entry))) (mat m (now (b .entry)))) ⌝ }
+    ensures { λ _. ⌜ mat m (now (s .exit)) ≡ plus m (mat m (now (s .entry)))
+        (quad m (mat m (now (a .entry))) (mat m (now (n .entry))) (mat m (now (b .entry)))) ⌝ }
 {
     let q = products::quad(a, n, b, m);
     dense::add(s, &q, m);
@@ -164,7 +176,9 @@ fn diffuse_n1(
     m: usize,
 ) -> [f64; 64]
     requires { ⌜ m ≤ 8 ⌝ }
-    ensures { λ r. ⌜ ((n2 : List Float) → mat m r ≡ diffuseN1 m (vec m (now (z .entry))) f1 (mat m (now (l0 .entry))) (mat m (now (l1 .entry))) (record { n0 = mat m (now (n0 .entry)); n1 = mat m (now (n1 .entry)); n2 = n2 })) ⌝ }
+    ensures { λ r. ⌜ ((n2 : List Float) → mat m r ≡ diffuseN1 m (vec m (now (z .entry))) f1
+        (mat m (now (l0 .entry))) (mat m (now (l1 .entry)))
+        (record { n0 = mat m (now (n0 .entry)); n1 = mat m (now (n1 .entry)); n2 = n2 })) ⌝ }
 {
     let mut s = dense::outer_scaled(z, z, f1, m);
     add_quad(&mut s, l0, n1, l0, m);
@@ -184,7 +198,9 @@ fn diffuse_n2(
     m: usize,
 ) -> [f64; 64]
     requires { ⌜ m ≤ 8 ⌝ }
-    ensures { λ r. ⌜ mat m r ≡ diffuseN2 m (vec m (now (z .entry))) f2 (mat m (now (l0 .entry))) (mat m (now (l1 .entry))) (nsIn m (now (n0 .entry)) (now (n1 .entry)) (now (n2 .entry))) ⌝ }
+    ensures { λ r. ⌜ mat m r ≡ diffuseN2 m (vec m (now (z .entry))) f2
+        (mat m (now (l0 .entry))) (mat m (now (l1 .entry)))
+        (nsIn m (now (n0 .entry)) (now (n1 .entry)) (now (n2 .entry))) ⌝ }
 {
     let mut s = dense::outer_scaled(z, z, f2, m);
     add_quad(&mut s, l0, n2, l0, m);
@@ -195,6 +211,7 @@ fn diffuse_n2(
     s
 }
 
+// A diffuse element. All three are worked out by those after the element, before one is stored.
 fn back_diffuse(
     n0: &mut [f64; 64],
     n1: &mut [f64; 64],
@@ -207,7 +224,9 @@ fn back_diffuse(
     m: usize,
 )
     requires { ⌜ m ≤ 8 ⌝ }
-    ensures { λ _. ⌜ ((live : Bool) → nsIn m (now (n0 .exit)) (now (n1 .exit)) (now (n2 .exit)) ≡ backN m live (vec m (now (z .entry))) (nsIn m (now (n0 .entry)) (now (n1 .entry)) (now (n2 .entry))) (diffuse f «f_inf» (vec m (now («m_star» .entry))) (vec m (now («m_inf» .entry))))) ⌝ }
+    ensures { λ _. ⌜ ((live : Bool) → nsIn m (now (n0 .exit)) (now (n1 .exit)) (now (n2 .exit))
+        ≡ backN m live (vec m (now (z .entry))) (nsIn m (now (n0 .entry)) (now (n1 .entry)) (now (n2 .entry)))
+        (diffuse f «f_inf» (vec m (now («m_star» .entry))) (vec m (now («m_inf» .entry))))) ⌝ }
 {
     let l0 = l_usual(z, f_inf, m_inf, m);
     let l1 = l_diffuse(z, f, f_inf, m_star, m_inf, m);
@@ -219,7 +238,8 @@ fn back_diffuse(
     *n0 = a;
 }
 
-// One element: nothing moves where it was skipped.
+// One element, by what was decided of it: its kind as it stands in the flat parts, F*, F∞, M* and M∞. Nothing moves where it was skipped. It is handed
+// no record: v is the means' alone.
 pub fn back_element(
     n0: &mut [f64; 64],
     n1: &mut [f64; 64],
@@ -234,14 +254,13 @@ pub fn back_element(
     m: usize,
 )
     requires { ⌜ m ≤ 8 ⌝ }
-    ensures { λ _. ⌜ nsIn m (now (n0 .exit)) (now (n1 .exit)) (now (n2 .exit)) ≡ backN m live (vec m (now (z .entry))) (nsIn m (now (n0 .entry)) (now (n1 .entry)) (now (n2 .entry))) (decisionOf kind f «f_inf» (vec m (now («m_star» .entry))) (vec m (now («m_inf» .entry)))) ⌝ }
+    ensures { λ _. ⌜ nsIn m (now (n0 .exit)) (now (n1 .exit)) (now (n2 .exit)) ≡ backN m live (vec m (now (z .entry)))
+        (nsIn m (now (n0 .entry)) (now (n1 .entry)) (now (n2 .entry)))
+        (decisionOf kind f «f_inf» (vec m (now («m_star» .entry))) (vec m (now («m_inf» .entry)))) ⌝ }
 {
-    if kind == 0 {
-        return;
+    match kind {
+        promise::SKIPPED => {}
+        promise::USUAL => back_usual(n0, n1, live, z, f, m_star, m),
+        _ => back_diffuse(n0, n1, n2, z, f, f_inf, m_star, m_inf, m),
     }
-    if kind == 1 {
-        back_usual(n0, n1, live, z, f, m_star, m);
-        return;
-    }
-    back_diffuse(n0, n1, n2, z, f, f_inf, m_star, m_inf, m);
 }

@@ -8,13 +8,13 @@ use lib.ListN.{length}
 use lib.Ieee.{Float}
 use Rattle.definition.specs.Run.{anyOf}
 use Rattle.definition.specs.Inputs.{Model, Offsets, Class, classOf, isInfinity}
-use Rattle.definition.specs.Outcome.{CovParts, MeanParts, Ending, turned, silent, answered, ending, roomy, outcome, outcomeAt}
+use Rattle.definition.specs.Outcome.{CovParts, MeanParts, Ending, turned, silent, answered, ending, roomy, noInformation, outcome, outcomeAt}
 use Rattle.laws.specs.Accepted.{accepted}
 use Rattle.model.specs.Lengths.{Room, by-room}
-use Rattle.mean.specs.declared.Answer.{Answer}
+use Rattle.promise.specs.declared.Answer.{Answer}
 use Rattle.forward.specs.View.{Fit, Ran}
-use Rattle.filter.specs.declared.Outcome.the-variants.{Refused, Answered}
-use Rattle.filter.specs.Promise.{Promise, isSilent}
+use Rattle.promise.specs.declared.Outcome.the-variants.{Refused, Answered}
+use Rattle.promise.specs.Calls.{Promise}
 use Rattle.filter.specs.Blanked.{Blanked}
 use Rattle.filter.specs.Ends as ends
 use Rattle.filter.specs.Ends.{Checked}
@@ -42,8 +42,8 @@ module _ {x : Model} {o : Offsets} {y : List Float} {w : CovParts} {w′ : MeanP
   fit h = record { accepted = accepted x o (length y) (anyOf isInfinity (kinds y)) (roomy x w w′) (sym (ends.none h (e .number))) }
 
   module _ {a : Answer} {b : CovParts} {b′ : MeanParts} (none : k ≤ 0) (r : Ran x o y a w b w′ b′) where
-    pub heard : isSilent (a .heard) (a .news) ≡ false → Promise (outcome x o y w w′) (Answered a) b b′
+    pub heard : noInformation (ends.tallyOf a) ≡ false → Promise (outcome x o y w w′) (Answered a) b b′
     heard h = rw (by-fate x o y w w′ answered (ends.is-answered x o y w w′ r (roomy x w w′) (ends.none none (e .number)) h)) (ends.answered-so x o y w w′ r)
 
-    pub silenced : {c : CovParts} {c′ : MeanParts} → isSilent (a .heard) (a .news) ≡ true → Blanked x b c b′ c′ → Promise (outcome x o y w w′) (Refused 12) c c′
+    pub silenced : {c : CovParts} {c′ : MeanParts} → noInformation (ends.tallyOf a) ≡ true → Blanked x b c b′ c′ → Promise (outcome x o y w w′) (Refused 12) c c′
     silenced h z = rw (by-fate x o y w w′ silent (ends.is-silent x o y w w′ r (roomy x w w′) (ends.none none (e .number)) h)) (ends.silent-so x o y w w′ r z)

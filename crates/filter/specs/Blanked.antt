@@ -11,7 +11,8 @@ use Rattle.definition.specs.Inputs.{Model, Offsets}
 use Rattle.definition.specs.Outcome.{CovParts, MeanParts, kindsNeed, covNeed, meanNeed}
 use Rattle.laws.specs.Accepted.{Roomy, room-of, as-long}
 use Rattle.blank.specs.Stretches.{Sizes, MeanRoom, CovRoom, RecordRoom, MeanBlank, CovBlank, RecordBlank}
-use Rattle.forward.specs.View.{covParts, meanParts, Fit}
+use Rattle.promise.specs.Lent.{covParts, meanParts}
+use Rattle.forward.specs.View.{Fit}
 
 -- ---- past refusal 2 the stretches are there, in parts that are as long as they were lent
 

@@ -10,16 +10,20 @@ use Rattle.definition.specs.Num.{0ᶠ, zeros}
 use Rattle.definition.specs.Run.{anyOf}
 use Rattle.definition.specs.Inputs.{Model, Offsets, Class, classOf, isInfinity}
 use Rattle.definition.specs.Refusals.{refusal}
-use Rattle.definition.specs.Outcome.{CovParts, MeanParts, CovOutcome, MeanOutcome, Ending, turned, silent, answered, endingOf, ending, numberOf, after, countsIn, loglikIn, kindsNeed, covNeed, meanNeed, covOf, countsOf, noInformation, covOutcome, meanOutcome, roomy}
+use Rattle.definition.specs.Outcome.{CovParts, MeanParts, Counts, CovOutcome, MeanOutcome, Ending, turned, silent, answered, endingOf, ending, numberOf, after, countsIn, loglikIn, kindsNeed, covNeed, meanNeed, covOf, countsOf, noInformation, covOutcome, meanOutcome, roomy}
 use Rattle.laws.specs.Passes.{lay-again}
-use Rattle.mean.specs.declared.Answer.{Answer}
+use Rattle.promise.specs.declared.Answer.{Answer}
 use Rattle.forward.specs.View.{Ran}
-use Rattle.filter.specs.declared.Outcome.the-variants.{Refused, Answered}
-use Rattle.filter.specs.Promise.{answerBy, Promise, isSilent}
+use Rattle.promise.specs.declared.Outcome.the-variants.{Refused, Answered}
+use Rattle.promise.specs.Calls.{answerBy, Promise}
 use Rattle.filter.specs.Blanked.{Blanked}
 
 pub none : {k c : ℕ} → k ≤ 0 → k ≡ c → 0 ≡ c
 none h e = omega arith
+
+-- an answer's counts
+abbrev pub tallyOf : Answer → Counts
+tallyOf a = record { dDiffuse = a .«d_diffuse»; heard = a .heard; news = a .news }
 
 module _ (x : Model) (o : Offsets) (y : List Float) where
   abbrev kinds : List Class
@@ -47,15 +51,15 @@ module _ (x : Model) (o : Offsets) (y : List Float) where
     turned-away k = record { answer = refl; kinds = refl; cov = λ q. refl; mean = λ q. refl }
 
     module _ {a : Answer} {b : CovParts} {b′ : MeanParts} (r : Ran x o y a w b w′ b′) where
-      ended : (room t : Bool) → 0 ≡ number room → isSilent (a .heard) (a .news) ≡ t → ending x o kinds room ≡ endingOf 0 t
-      unfolding isSilent noInformation
+      ended : (room t : Bool) → 0 ≡ number room → noInformation (tallyOf a) ≡ t → ending x o kinds room ≡ endingOf 0 t
+      unfolding noInformation
       ended room t e h = by-number room 0 e ∙ ap (endingOf 0) (rw (r .answer) at h)
 
-      pub is-silent : (room : Bool) → 0 ≡ number room → isSilent (a .heard) (a .news) ≡ true → ending x o kinds room ≡ silent
+      pub is-silent : (room : Bool) → 0 ≡ number room → noInformation (tallyOf a) ≡ true → ending x o kinds room ≡ silent
       unfolding endingOf
       is-silent room e h = ended room true e h
 
-      pub is-answered : (room : Bool) → 0 ≡ number room → isSilent (a .heard) (a .news) ≡ false → ending x o kinds room ≡ answered
+      pub is-answered : (room : Bool) → 0 ≡ number room → noInformation (tallyOf a) ≡ false → ending x o kinds room ≡ answered
       unfolding endingOf
       is-answered room e h = ended room false e h
 

@@ -1,22 +1,15 @@
-// filter.rs: the filter's call: the checks (crates/model), the run (crates/passes), refusal 12 with its blanks (crates/blank), the answer.
+// filter.rs: the filter's call: the checks (crates/model), the run (crates/forward), refusal 12 with its blanks (crates/blank), the answer.
 ghost use mathlib.Core.Path.{_≡_};
-ghost use Rattle.definition.specs.Outcome.{outcome};
-ghost use Rattle.model.specs.Given.{modelOf, offsetsOf};
-ghost use Rattle.forward.specs.View.{covParts, meanParts};
-ghost use Rattle.filter.specs.Promise.{Promise, isSilent};
-ghost use Rattle.filter.specs.Ends.{Checked};
-
-// Refused with its number, 1 to 12, or answered.
-pub enum Outcome {
-    Refused(u8),
-    Answered(mean::Answer),
-}
+ghost use Rattle.definition.specs.Outcome.{noInformation};
+ghost use Rattle.promise.specs.Lent.{modelOf, offsetsOf, covParts, meanParts, given, lent};
+ghost use Rattle.promise.specs.Calls.{Filtered};
+ghost use Rattle.filter.specs.Ends.{Checked, tallyOf};
 
 // Refusal 12: readings were heard, and none was news.
-pub fn is_silent(heard: usize, news: usize) -> bool
-    ensures { λ r. ⌜ r ≡ isSilent heard news ⌝ }
+fn is_silent(a: promise::Answer) -> bool
+    ensures { λ r. ⌜ r ≡ noInformation (tallyOf a) ⌝ }
 {
-    (0 < heard) & (news == 0)
+    (0 < a.heard) & (a.news == 0)
 }
 
 // Refusals 1 to 11, of the inputs and of the outputs lent; 0: none. It writes nothing.
@@ -51,7 +44,8 @@ fn refusal(
 ) -> u8
     ensures { λ k. ⌜ Checked (modelOf p m r n (now (z .entry)) (now (zs .entry)) (now (h .entry)) (now (t .entry)) (now (rr .entry)) (now (q .entry)) (now («p_star» .entry)) (now (flags .entry)))
         (offsetsOf (now (c .entry)) (now (d .entry)) (now (a1 .entry))) (now (y .entry))
-        (covParts (now («pred_cov» .entry)) (now («pred_inf» .entry)) (now («filt_cov» .entry)) (now (kinds .entry)) (now («f_star» .entry)) (now («f_inf» .entry)) (now («m_star» .entry)) (now («m_inf» .entry)))
+        (covParts (now («pred_cov» .entry)) (now («pred_inf» .entry)) (now («filt_cov» .entry)) (now (kinds .entry)) (now («f_star» .entry)) (now («f_inf» .entry))
+        (now («m_star» .entry)) (now («m_inf» .entry)))
         (meanParts (now («pred_mean» .entry)) (now («filt_mean» .entry)) (now (v .entry))) k ⌝ }
 {
     let room = model::lengths::room(
@@ -121,13 +115,22 @@ pub fn filter_univariate<'a>(
     f_inf: &mut [f64],
     m_star: &mut [f64],
     m_inf: &mut [f64],
-) -> Outcome
-    ensures { λ o. ⌜ Promise (outcome (modelOf p m r n (now (z .entry)) (now (zs .entry)) (now (h .entry)) (now (t .entry)) (now (rr .entry)) (now (q .entry)) (now («p_star» .entry)) (now (flags .entry)))
-        (offsetsOf (now (c .entry)) (now (d .entry)) (now (a1 .entry))) (now (y .entry))
-        (covParts (now («pred_cov» .entry)) (now («pred_inf» .entry)) (now («filt_cov» .entry)) (now (kinds .entry)) (now («f_star» .entry)) (now («f_inf» .entry)) (now («m_star» .entry)) (now («m_inf» .entry)))
-        (meanParts (now («pred_mean» .entry)) (now («filt_mean» .entry)) (now (v .entry)))) o
-        (covParts (now («pred_cov» .exit)) (now («pred_inf» .exit)) (now («filt_cov» .exit)) (now (kinds .exit)) (now («f_star» .exit)) (now («f_inf» .exit)) (now («m_star» .exit)) (now («m_inf» .exit)))
-        (meanParts (now («pred_mean» .exit)) (now («filt_mean» .exit)) (now (v .exit))) ⌝ }
+) -> promise::Outcome
+    ensures { λ o. ⌜ Filtered
+        (given p m r n
+        (now (z .entry)) (now (zs .entry)) (now (h .entry)) (now (t .entry)) (now (rr .entry)) (now (q .entry))
+        (now (c .entry)) (now (d .entry)) (now (a1 .entry)) (now («p_star» .entry)) (now (flags .entry)) (now (y .entry)))
+        (lent
+        (now («pred_mean» .entry)) (now («pred_cov» .entry)) (now («pred_inf» .entry))
+        (now («filt_mean» .entry)) (now («filt_cov» .entry))
+        (now (kinds .entry)) (now (v .entry)) (now («f_star» .entry)) (now («f_inf» .entry))
+        (now («m_star» .entry)) (now («m_inf» .entry)))
+        o
+        (lent
+        (now («pred_mean» .exit)) (now («pred_cov» .exit)) (now («pred_inf» .exit))
+        (now («filt_mean» .exit)) (now («filt_cov» .exit))
+        (now (kinds .exit)) (now (v .exit)) (now («f_star» .exit)) (now («f_inf» .exit))
+        (now («m_star» .exit)) (now («m_inf» .exit))) ⌝ }
 {
     let k = refusal(
         p,
@@ -159,7 +162,7 @@ pub fn filter_univariate<'a>(
         m_inf,
     );
     if 0 < k {
-        return Outcome::Refused(k);
+        return promise::Outcome::Refused(k);
     }
     let a = forward::run(
         p,
@@ -190,7 +193,7 @@ pub fn filter_univariate<'a>(
         m_star,
         m_inf,
     );
-    if is_silent(a.heard, a.news) {
+    if is_silent(a) {
         blank::filtered(
             pred_mean,
             pred_cov,
@@ -207,7 +210,7 @@ pub fn filter_univariate<'a>(
             m,
             n,
         );
-        return Outcome::Refused(12);
+        return promise::Outcome::Refused(12);
     }
-    Outcome::Answered(a)
+    promise::Outcome::Answered(a)
 }

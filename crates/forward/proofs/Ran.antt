@@ -25,8 +25,9 @@ use Rattle.cov.specs.Counts.{isKept}
 use Rattle.cov.specs.View as covs
 use Rattle.mean.specs.View as means
 use Rattle.mean.specs.Call as means-call
-use Rattle.mean.specs.declared.Answer.{Answer}
-use Rattle.forward.specs.View.{covParts, meanParts, Fit, Ran}
+use Rattle.promise.specs.declared.Answer.{Answer}
+use Rattle.promise.specs.Lent.{covParts, meanParts}
+use Rattle.forward.specs.View.{Fit, Ran}
 
 -- ---- what the passes may ask for
 

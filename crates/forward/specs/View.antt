@@ -3,36 +3,13 @@ use mathlib.Core.Path.{_≡_}
 use Prim.Native.Nat.{ℕ}
 use mathlib.Core.List.{List, map}
 use lib.Ieee.{Float}
-use Rattle.definition.specs.Parts.{CovPart, predCov, predInf, filtCov, fStar, fInf, mStar, mInf, MeanPart, predMean, filtMean, innovations}
+use Rattle.definition.specs.Parts.{CovPart, MeanPart}
 use Rattle.definition.specs.Inputs.{Model, Offsets, classOf}
-use Rattle.definition.specs.Outcome.{CovParts, MeanParts, Counts, kindsNeed, covNeed, meanNeed, kindsWritten, covWritten, meanWritten, covOf, meanOf, countsOf, roomy}
+use Rattle.definition.specs.Outcome.{CovParts, MeanParts, kindsNeed, covNeed, meanNeed, kindsWritten, covWritten, meanWritten, covOf, meanOf, countsOf, roomy}
 use Rattle.laws.specs.Passes.{Laid}
 use Rattle.laws.specs.Accepted.{Accepted}
-use Rattle.mean.specs.declared.Answer.{Answer}
-
--- ---- the lent lists as the definition's parts
-
-unfoldable pub covParts : List Float → List Float → List Float → List ℕ → List Float → List Float → List Float → List Float → CovParts
-covParts pc pi fc ks fs fi ms mi = record { kinds = ks; part = by }
-  where
-    by : CovPart → List Float
-    by predCov = pc
-    by predInf = pi
-    by filtCov = fc
-    by fStar = fs
-    by fInf = fi
-    by mStar = ms
-    by mInf = mi
-
-unfoldable pub meanParts : List Float → List Float → List Float → MeanParts
-meanParts pm fm vs predMean = pm
-meanParts pm fm vs filtMean = fm
-meanParts pm fm vs innovations = vs
-
--- ---- the answer
-
-abbrev pub answerIn : Counts → Float → Answer
-answerIn k l = record { loglik = l; «d_diffuse» = k .dDiffuse; heard = k .heard; news = k .news }
+use Rattle.promise.specs.declared.Answer.{Answer}
+use Rattle.promise.specs.Calls.{answerIn}
 
 -- ---- the run: what it has to have, and what it leaves; w is what was lent, b what it holds afterwards
 

@@ -1,7 +1,7 @@
 // Both passes over the periods, one after the other: the covariance pass is crates/cov, the mean pass crates/mean.
 ghost use lib.ListN.{length};
-ghost use Rattle.model.specs.Given.{modelOf, offsetsOf};
-ghost use Rattle.forward.specs.View.{covParts, meanParts, Fit, Ran};
+ghost use Rattle.promise.specs.Lent.{modelOf, offsetsOf, covParts, meanParts};
+ghost use Rattle.forward.specs.View.{Fit, Ran};
 
 // The two passes, past refusals 1 to 11: every part written, and the answer.
 pub fn run<'a>(
@@ -32,7 +32,7 @@ pub fn run<'a>(
     f_inf: &mut [f64],
     m_star: &mut [f64],
     m_inf: &mut [f64],
-) -> mean::Answer
+) -> promise::Answer
     requires { ⌜ Fit (modelOf p m r n (now z) (now zs) (now h) (now t) (now rr) (now q) (now «p_star») (now flags)) (offsetsOf (now c) (now d) (now a1))
         (length (now y)) (covParts (now «pred_cov») (now «pred_inf») (now «filt_cov») (now kinds) (now «f_star») (now «f_inf») (now «m_star») (now «m_inf»))
         (meanParts (now «pred_mean») (now «filt_mean») (now v)) ⌝ }
@@ -71,7 +71,7 @@ pub fn run<'a>(
     let heard = cov::counts::heard(y);
     let news = cov::counts::news(kinds, n * p);
     mean::mean_pass(
-        mean::Answer {
+        promise::Answer {
             loglik: 0.0,
             d_diffuse,
             heard,

@@ -5,9 +5,9 @@ use mathlib.Core.List.{List}
 use lib.Ieee.{Float}
 use Rattle.definition.specs.Parts.{CovPart, MeanPart}
 use Rattle.definition.specs.Outcome.{CovParts, MeanParts, CovOutcome, MeanOutcome, SmoothedCov, SmoothedMean}
-use Rattle.filter.specs.Promise.{Promise}
-use Rattle.filter.specs.declared.Outcome.{Outcome}
-use Rattle.goxundar.specs.Exported.{Places, numberOf, placesOf, Told, Exported, ExportedSmooth}
+use Rattle.promise.specs.Calls.{Promise}
+use Rattle.promise.specs.declared.Outcome.{Outcome}
+use Rattle.promise.specs.Exported.{Places, numberOf, placesOf, Told, Exported, ExportedSmooth}
 
 pub record Same (k j : ℕ) (new also : Places) (b c : CovParts) (b′ c′ : MeanParts) : Type 0 where
   pub number : k ≡ j

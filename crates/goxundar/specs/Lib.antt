@@ -1,2 +1,1 @@
-pub mod Exported
 pub mod Fixed

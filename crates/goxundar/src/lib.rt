@@ -1,12 +1,16 @@
 // The public library: the filter's call and the smoother's, from Rattle and by the C calling convention. None asks anything of its caller.
-ghost use Rattle.definition.specs.Outcome.{outcome, smoothOutcome};
-ghost use Rattle.model.specs.Given.{modelOf, offsetsOf};
-ghost use Rattle.forward.specs.View.{covParts, meanParts};
-ghost use Rattle.goxundar.specs.Exported.{places, Told, Exported, ExportedSmooth};
+ghost use Rattle.promise.specs.Lent.{given, lent, lentSmooth};
+ghost use Rattle.promise.specs.Exported.{places, Told, FilteredC, SmoothedC};
 
-// The filter's call and the smoother's, as crates/filter and crates/smoother have them: refused with its number, or answered.
-pub use filter::Outcome;
+// The filter's call and the smoother's, as crates/filter and crates/smoother have them: refused with its number, or answered. And both with a list
+// of records lent too, as crates/records has them.
 pub use filter::filter_univariate as filter;
+pub use promise::Answer;
+pub use promise::Kind;
+pub use promise::Outcome;
+pub use promise::Record;
+pub use records::filter_records;
+pub use records::smooth_records;
 pub use smoother::smooth_univariate as smooth;
 
 // ---- by the C calling convention: numbers as themselves, a slice as pointer and length. 0 says that the answer stands in the last four places; 1 to 12
@@ -14,7 +18,7 @@ pub use smoother::smooth_univariate as smooth;
 
 // The outcome as a number, and the answer in its places.
 fn tell(
-    o: filter::Outcome,
+    o: promise::Outcome,
     loglik: &mut f64,
     d_diffuse: &mut usize,
     heard: &mut usize,
@@ -25,8 +29,8 @@ fn tell(
         (places (now (loglik .exit)) (now («d_diffuse» .exit)) (now (heard .exit)) (now (news .exit))) ⌝ }
 {
     match o {
-        filter::Outcome::Refused(k) => k as u32,
-        filter::Outcome::Answered(a) => {
+        promise::Outcome::Refused(k) => k as u32,
+        promise::Outcome::Answered(a) => {
             *loglik = a.loglik;
             *d_diffuse = a.d_diffuse;
             *heard = a.heard;
@@ -71,14 +75,23 @@ pub extern "C" fn goxundar_filter<'a>(
     heard: &mut usize,
     news: &mut usize,
 ) -> u32
-    ensures { λ k. ⌜ Exported (outcome (modelOf p m r n (now (z .entry)) (now (zs .entry)) (now (h .entry)) (now (t .entry)) (now (rr .entry)) (now (q .entry)) (now («p_star» .entry)) (now (flags .entry)))
-        (offsetsOf (now (c .entry)) (now (d .entry)) (now (a1 .entry))) (now (y .entry))
-        (covParts (now («pred_cov» .entry)) (now («pred_inf» .entry)) (now («filt_cov» .entry)) (now (kinds .entry)) (now («f_star» .entry)) (now («f_inf» .entry)) (now («m_star» .entry)) (now («m_inf» .entry)))
-        (meanParts (now («pred_mean» .entry)) (now («filt_mean» .entry)) (now (v .entry)))) k
+    ensures { λ k. ⌜ FilteredC
+        (given p m r n
+        (now (z .entry)) (now (zs .entry)) (now (h .entry)) (now (t .entry)) (now (rr .entry)) (now (q .entry))
+        (now (c .entry)) (now (d .entry)) (now (a1 .entry)) (now («p_star» .entry)) (now (flags .entry)) (now (y .entry)))
+        (lent
+        (now («pred_mean» .entry)) (now («pred_cov» .entry)) (now («pred_inf» .entry))
+        (now («filt_mean» .entry)) (now («filt_cov» .entry))
+        (now (kinds .entry)) (now (v .entry)) (now («f_star» .entry)) (now («f_inf» .entry))
+        (now («m_star» .entry)) (now («m_inf» .entry)))
         (places (now (loglik .entry)) (now («d_diffuse» .entry)) (now (heard .entry)) (now (news .entry)))
-        (places (now (loglik .exit)) (now («d_diffuse» .exit)) (now (heard .exit)) (now (news .exit)))
-        (covParts (now («pred_cov» .exit)) (now («pred_inf» .exit)) (now («filt_cov» .exit)) (now (kinds .exit)) (now («f_star» .exit)) (now («f_inf» .exit)) (now («m_star» .exit)) (now («m_inf» .exit)))
-        (meanParts (now («pred_mean» .exit)) (now («filt_mean» .exit)) (now (v .exit))) ⌝ }
+        k
+        (lent
+        (now («pred_mean» .exit)) (now («pred_cov» .exit)) (now («pred_inf» .exit))
+        (now («filt_mean» .exit)) (now («filt_cov» .exit))
+        (now (kinds .exit)) (now (v .exit)) (now («f_star» .exit)) (now («f_inf» .exit))
+        (now («m_star» .exit)) (now («m_inf» .exit)))
+        (places (now (loglik .exit)) (now («d_diffuse» .exit)) (now (heard .exit)) (now (news .exit))) ⌝ }
 {
     let o = filter::filter_univariate(
         p,
@@ -149,14 +162,25 @@ pub extern "C" fn goxundar_smooth<'a>(
     heard: &mut usize,
     news: &mut usize,
 ) -> u32
-    ensures { λ k. ⌜ ExportedSmooth (smoothOutcome (modelOf p m r n (now (z .entry)) (now (zs .entry)) (now (h .entry)) (now (t .entry)) (now (rr .entry)) (now (q .entry)) (now («p_star» .entry)) (now (flags .entry)))
-        (offsetsOf (now (c .entry)) (now (d .entry)) (now (a1 .entry))) (now (y .entry))
-        (covParts (now («pred_cov» .entry)) (now («pred_inf» .entry)) (now («filt_cov» .entry)) (now (kinds .entry)) (now («f_star» .entry)) (now («f_inf» .entry)) (now («m_star» .entry)) (now («m_inf» .entry)))
-        (meanParts (now («pred_mean» .entry)) (now («filt_mean» .entry)) (now (v .entry))) (now («sm_cov» .entry)) (now («sm_mean» .entry))) k
+    ensures { λ k. ⌜ SmoothedC
+        (given p m r n
+        (now (z .entry)) (now (zs .entry)) (now (h .entry)) (now (t .entry)) (now (rr .entry)) (now (q .entry))
+        (now (c .entry)) (now (d .entry)) (now (a1 .entry)) (now («p_star» .entry)) (now (flags .entry)) (now (y .entry)))
+        (lentSmooth
+        (now («pred_mean» .entry)) (now («pred_cov» .entry)) (now («pred_inf» .entry))
+        (now («filt_mean» .entry)) (now («filt_cov» .entry))
+        (now (kinds .entry)) (now (v .entry)) (now («f_star» .entry)) (now («f_inf» .entry))
+        (now («m_star» .entry)) (now («m_inf» .entry))
+        (now («sm_mean» .entry)) (now («sm_cov» .entry)))
         (places (now (loglik .entry)) (now («d_diffuse» .entry)) (now (heard .entry)) (now (news .entry)))
-        (places (now (loglik .exit)) (now («d_diffuse» .exit)) (now (heard .exit)) (now (news .exit)))
-        (covParts (now («pred_cov» .exit)) (now («pred_inf» .exit)) (now («filt_cov» .exit)) (now (kinds .exit)) (now («f_star» .exit)) (now («f_inf» .exit)) (now («m_star» .exit)) (now («m_inf» .exit)))
-        (meanParts (now («pred_mean» .exit)) (now («filt_mean» .exit)) (now (v .exit))) (now («sm_mean» .exit)) (now («sm_cov» .exit)) ⌝ }
+        k
+        (lentSmooth
+        (now («pred_mean» .exit)) (now («pred_cov» .exit)) (now («pred_inf» .exit))
+        (now («filt_mean» .exit)) (now («filt_cov» .exit))
+        (now (kinds .exit)) (now (v .exit)) (now («f_star» .exit)) (now («f_inf» .exit))
+        (now («m_star» .exit)) (now («m_inf» .exit))
+        (now («sm_mean» .exit)) (now («sm_cov» .exit)))
+        (places (now (loglik .exit)) (now («d_diffuse» .exit)) (now (heard .exit)) (now (news .exit))) ⌝ }
 {
     let o = smoother::smooth_univariate(
         p,

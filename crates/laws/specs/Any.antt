@@ -1,16 +1,18 @@
 -- Whether a test holds somewhere: laws of `anyTo` (at a place below k) and `anyOf` (of an entry of a list), as a loop that goes through the places
 -- needs them. `found` is what the loop has found so far.
 use mathlib.Core.Path.{_≡_, refl, sym, ap, ap₂, _∙_}
-use mathlib.Core.Logic.{⊎-elim}
 use Prim.Native.Nat.{ℕ, zero, suc, _+_, _≤_, _<_}
 use native.Mathlib.Omega.{arith}
 use native.Mathlib.Numerals.{add-one}
-use native.Mathlib.Nat.{eq-or-lt-of-le, le-of-suc-le-suc, not-suc-le-zero}
+use native.Mathlib.Nat.{le-of-suc-le-suc, not-suc-le-zero}
 use mathlib.Core.Bool.{Bool, true, false, _||_}
 use mathlib.Core.List.{List, [], _∷_, map}
 use lib.ListN.{length, getD, take}
 use lib.Seq.{take-length}
+use lib.Ieee.{Float, nan, inf, fin}
+use Rattle.definition.specs.Num.{isInfinite}
 use Rattle.definition.specs.Run.{anyOf, anyTo}
+use Rattle.definition.specs.Inputs.{classOf, isInfinity}
 
 pub or-assoc : (a b c : Bool) → ((a || b) || c) ≡ (a || (b || c))
 or-assoc true b c = refl
@@ -37,19 +39,6 @@ any-next q k found here e h = rw add-one (ap₂ _||_ e h)
 
 pub any-end : (q : ℕ → Bool) {k n : ℕ} {found : Bool} → found ≡ anyTo k q → k ≤ n → n ≤ k → found ≡ anyTo n q
 any-end q {k} {n} {found} e a b = let s : k ≡ n = omega arith in cc
-
-pub any-cong : (q q′ : ℕ → Bool) (k : ℕ) → ((i : ℕ) → i < k → q i ≡ q′ i) → anyTo k q ≡ anyTo k q′
-unfolding anyTo
-any-cong q q′ zero h = refl
-any-cong q q′ (suc k) h = ap₂ _||_ (any-cong q q′ k (λ i b. h i (omega arith))) (h k (omega arith))
-
--- what holds nowhere below n does not hold at i
-pub any-false : (q : ℕ → Bool) (n i : ℕ) → anyTo n q ≡ false → i < n → q i ≡ false
-unfolding anyTo
-any-false q zero i e h = absurd (not-suc-le-zero h)
-any-false q (suc n) i e h =
-    let s = either-false (anyTo n q) (q n) e in
-    ⊎-elim (λ (w : i ≡ n). ap q w ∙ s .1) (λ (w : i < n). any-false q n i (s .0) w) (eq-or-lt-of-le (le-of-suc-le-suc h))
 
 -- ---- of an entry of a list
 
@@ -85,3 +74,13 @@ pub of-map : {A B : Type 0} (q : B → Bool) (f : A → B) (l : List A) → anyO
 unfolding anyOf
 of-map q f [] = refl
 of-map q f (x ∷ l) = ap (λ (b : Bool). q (f x) || b) (of-map q f l)
+
+-- some reading is infinite, by its class
+infinite-class : (v : Float) → isInfinity (classOf v) ≡ isInfinite v
+unfolding classOf isInfinite
+infinite-class nan = refl
+infinite-class (inf s) = refl
+infinite-class (fin s m e) = refl
+
+pub infinite-classes : (y : List Float) → anyOf isInfinity (map classOf y) ≡ anyOf isInfinite y
+infinite-classes y = of-map isInfinity classOf y ∙ of-cong (λ (v : Float). isInfinity (classOf v)) isInfinite y infinite-class

@@ -12,12 +12,12 @@ use lib.Ieee.{Float, nan}
 use borrow.Rule.Slice.PartMut.{midOf, same-len-mid}
 use Rattle.definition.specs.Num.{tabFrom, tabulate, at}
 use Rattle.definition.specs.Dense.{row, rowAt}
-use Rattle.definition.specs.Run.{scanBack, foldBack, join}
+use Rattle.definition.specs.Run.{scanBack, foldBack, pairs, join}
 use Rattle.definition.specs.Cov.{Decision, CovPeriod}
-use Rattle.definition.specs.Mean.{MeanPeriod}
-use Rattle.definition.specs.Smooth.{Look, lookOf, MeanLook, meanLookOf}
+use Rattle.definition.specs.Mean.{Frame, MeanPeriod}
+use Rattle.definition.specs.Smooth.{backCovOf, backMeanOf, backCov, backMean, noNs, noRs, smoothCov, smoothMean}
 use Rattle.definition.specs.Parts.{predCov, predInf, fStar, fInf, mStar, mInf, covBlock, kindBlock, predMean, innovations, meanBlock}
-use Rattle.laws.specs.Flat.{Flat, decisionsAt, decisionRows, blockAt, lookAt, looks, meanLookAt, meanLooks}
+use Rattle.laws.specs.Flat.{Flat, decisionsAt, decisionRows, blockAt, lookOf, meanLookOf, lookAt, looks, meanLookAt, meanLooks}
 use Rattle.laws.specs.Lists.{Each, join-at, length-join, place-lt, tab-at, length-tab, each-at}
 use Rattle.laws.specs.Passes.{over, Laid, block-in}
 use Rattle.laws.specs.ReadBack.{AllOf, Whole, getD-map-in, rows-back}
@@ -134,7 +134,7 @@ module _ (n p m dd : ℕ) (cs : List CovPeriod) (wh : AllOf (λ c. Whole p m (c 
       let p2 : blockAt (m * m) pi t ≡ getD cs t d .predInf = block-back (m * m) (map (covBlock m predInf) cs) t5 t (each-inf m cs sz) (rw length-map t<′) ∙ getD-map-in (covBlock m predInf) cs t d [] t<′ in
       tab-at n 0 t (lookAt p m dd pc pi r) (lookOf d) t< ∙ ap (lookAt p m dd pc pi r) (zero-add t) ∙ same (firsts t t<′) p1 p2 row ∙ sym (getD-map-in lookOf cs t d (lookOf d) t<′))
     where
-      same : {a a′ : Bool} {u u′ v v′ : List Float} {w w′ : List Decision} → a ≡ a′ → u ≡ u′ → v ≡ v′ → w ≡ w′ → _≡_ {A = Look} (record { diffuse = a; pred = u; predInf = v; decisions = w }) (record { diffuse = a′; pred = u′; predInf = v′; decisions = w′ })
+      same : {a a′ : Bool} {u u′ v v′ : List Float} {w w′ : List Decision} → a ≡ a′ → u ≡ u′ → v ≡ v′ → w ≡ w′ → _≡_ {A = CovPeriod} (record { diffuse = a; pred = u; predInf = v; decisions = w; filt = [] }) (record { diffuse = a′; pred = u′; predInf = v′; decisions = w′; filt = [] })
       same e1 e2 e3 e4 = cc
 
 -- ---- and of the means
@@ -165,5 +165,28 @@ module _ (n p m : ℕ) (ss : List MeanPeriod) (sz : AllOf (LongP p m) ss) (long 
       let p2 : blockAt p vs t ≡ getD ss t d .vs = block-back p (map (meanBlock innovations) ss) t1 t (each-vs p m ss sz) (rw length-map t<′) ∙ getD-map-in (meanBlock innovations) ss t d [] t<′ in
       tab-at n 0 t (meanLookAt p m pm vs) (meanLookOf d) t< ∙ ap (meanLookAt p m pm vs) (zero-add t) ∙ same p1 p2 ∙ sym (getD-map-in meanLookOf ss t d (meanLookOf d) t<′))
     where
-      same : {u u′ v v′ : List Float} → u ≡ u′ → v ≡ v′ → _≡_ {A = MeanLook} (record { pred = u; vs = v }) (record { pred = u′; vs = v′ })
+      same : {u u′ v v′ : List Float} → u ≡ u′ → v ≡ v′ → _≡_ {A = MeanPeriod} (record { pred = u; vs = v; filt = [] }) (record { pred = u′; vs = v′; filt = [] })
       same e1 e2 = cc
+
+-- ---- the way back does not read the filtered moments
+
+scan-back-map : {A B S : Type 0} (f : ℕ → S → A → B × S) (g : A → A) → ((t : ℕ) (s : S) (x : A) → f t s (g x) ≡ f t s x) → (xs : List A) (t : ℕ) (s : S) → scanBack f t s (map g xs) ≡ scanBack f t s xs
+unfolding scanBack
+scan-back-map f g e [] t s = refl
+scan-back-map f g e (x ∷ xs) t s = rw (scan-back-map f g e xs (suc t) s, e t) refl
+
+pairs-map : {A B : Type 0} (g : A → A) (h : B → B) (xs : List A) (ys : List B) → pairs (map g xs) (map h ys) ≡ map (λ (e : A × B). (g (e .0), h (e .1))) (pairs xs ys)
+unfolding pairs
+pairs-map g h [] ys = refl
+pairs-map g h (x ∷ xs) [] = refl
+pairs-map g h (x ∷ xs) (y ∷ ys) = ap (λ l. (g x, h y) ∷ l) (pairs-map g h xs ys)
+
+pub cov-looked : (y : Frame) (cs : List CovPeriod) → scanBack (backCov y) 0 (noNs (y .m)) (map lookOf cs) .0 ≡ smoothCov y cs
+unfolding smoothCov backCovOf lookOf
+cov-looked y cs = ap (λ r. r .0) (scan-back-map (backCov y) lookOf (λ t s c. refl) cs 0 (noNs (y .m)))
+
+pub mean-looked : (y : Frame) (cs : List CovPeriod) (ss : List MeanPeriod) → scanBack (backMean y) 0 (noRs (y .m)) (pairs (map lookOf cs) (map meanLookOf ss)) .0 ≡ smoothMean y cs ss
+unfolding smoothMean backMeanOf lookOf meanLookOf
+mean-looked y cs ss =
+    rw (pairs-map lookOf meanLookOf cs ss)
+    (ap (λ r. r .0) (scan-back-map (backMean y) (λ (e : CovPeriod × MeanPeriod). (lookOf (e .0), meanLookOf (e .1))) (λ t s e. refl) (pairs cs ss) 0 (noRs (y .m))))

@@ -3,13 +3,13 @@ use mathlib.Core.Path.{_≡_, refl}
 use Prim.Native.Nat.{ℕ, zero, suc, _+_, _*_, _≤_}
 use native.Mathlib.Nat.{mul-le-mul-right}
 use native.Mathlib.Omega.{arith}
-use mathlib.Core.List.{List}
+use mathlib.Core.List.{List, []}
 use lib.ListN.{length, getD}
 use lib.Dec.{ltb}
 use lib.Ieee.{Float}
 use Rattle.definition.specs.Num.{tabulate, at}
-use Rattle.definition.specs.Smooth.{Look, MeanLook}
-use Rattle.definition.specs.Cov.{Decision, skipped, usual, diffuse}
+use Rattle.definition.specs.Cov.{Decision, skipped, usual, diffuse, CovPeriod}
+use Rattle.definition.specs.Mean.{MeanPeriod}
 
 pub record Flat : Type 0 where
   pub kinds : List ℕ
@@ -70,19 +70,26 @@ decisionsAt p m r t = tabulate p (λ i. readBack m r (t * p + i))
 unfoldable pub decisionRows : ℕ → ℕ → ℕ → Flat → List (List Decision)
 decisionRows n p m r = tabulate n (decisionsAt p m r)
 
--- ---- the way back: a block of a part, and what stands in the parts of period t. It is diffuse where t is below the count of diffuse periods
+-- ---- the way back: a block of a part, and what stands in the parts of period t. It is diffuse where t is below the count of diffuse periods. The
+-- filtered moments are not looked at, and stand empty
 unfoldable pub blockAt : ℕ → List Float → ℕ → List Float
 blockAt k l t = tabulate k (λ j. at l (t * k + j))
 
-unfoldable pub lookAt : ℕ → ℕ → ℕ → List Float → List Float → Flat → ℕ → Look
-lookAt p m dd pc pi r t = record { diffuse = ltb t dd; pred = blockAt (m * m) pc t; predInf = blockAt (m * m) pi t; decisions = decisionsAt p m r t }
+unfoldable pub lookOf : CovPeriod → CovPeriod
+lookOf c = record { diffuse = c .diffuse; pred = c .pred; predInf = c .predInf; decisions = c .decisions; filt = [] }
 
-unfoldable pub looks : ℕ → ℕ → ℕ → ℕ → List Float → List Float → Flat → List Look
+unfoldable pub meanLookOf : MeanPeriod → MeanPeriod
+meanLookOf s = record { pred = s .pred; vs = s .vs; filt = [] }
+
+unfoldable pub lookAt : ℕ → ℕ → ℕ → List Float → List Float → Flat → ℕ → CovPeriod
+lookAt p m dd pc pi r t = record { diffuse = ltb t dd; pred = blockAt (m * m) pc t; predInf = blockAt (m * m) pi t; decisions = decisionsAt p m r t; filt = [] }
+
+unfoldable pub looks : ℕ → ℕ → ℕ → ℕ → List Float → List Float → Flat → List CovPeriod
 looks n p m dd pc pi r = tabulate n (lookAt p m dd pc pi r)
 
 -- and of its means: the predicted one and the innovations
-unfoldable pub meanLookAt : ℕ → ℕ → List Float → List Float → ℕ → MeanLook
-meanLookAt p m pm vs t = record { pred = blockAt m pm t; vs = blockAt p vs t }
+unfoldable pub meanLookAt : ℕ → ℕ → List Float → List Float → ℕ → MeanPeriod
+meanLookAt p m pm vs t = record { pred = blockAt m pm t; vs = blockAt p vs t; filt = [] }
 
-unfoldable pub meanLooks : ℕ → ℕ → ℕ → List Float → List Float → List MeanLook
+unfoldable pub meanLooks : ℕ → ℕ → ℕ → List Float → List Float → List MeanPeriod
 meanLooks n p m pm vs = tabulate n (meanLookAt p m pm vs)

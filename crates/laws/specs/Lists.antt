@@ -1,6 +1,6 @@
 -- Laws of lists: going through one with a state, one place changed, cut in parts and joined; tables, matrices and sums by their entries.
 use mathlib.Core.Path.{_≡_, refl, sym, ap, ap₂, _∙_}
-use Prim.Native.Nat.{ℕ, zero, suc, _+_, _-_, _*_, _/_, _%_, _≤_, _<_}
+use Prim.Native.Nat.{ℕ, zero, suc, _+_, _*_, _/_, _%_, _≤_, _<_}
 use native.Mathlib.Nat.{mul-le-mul, mul-le-mul-right, mod-lt, div-lt-iff-lt-mul, mul-add-div-right, div-eq-of-lt, mul-add-mod-self-right, mod-eq-of-lt, zero-mul, zero-add, add-zero, add-suc, suc-add, not-suc-le-zero, le-of-suc-le-suc}
 use native.Mathlib.Omega.{arith}
 use mathlib.Core.Bool.{Bool, true, false, _||_}
@@ -8,8 +8,10 @@ use mathlib.Core.List.{List, [], _∷_, _++_, map}
 use lib.ListN.{length, getD, set, take, drop, length-append, length-take, length-drop, List·getD-append}
 use lib.Ieee.{Float, nan}
 use Rattle.definition.specs.Num.{_⊕_, sumTo, tabFrom, tabulate, matrix, at, ent}
-use lib.Seq.{take-suc, take-suc-set, take-set-lt, drop-set-lt, take-set-le, drop-set-add, getD-append-add}
+use lib.Seq.{take-suc, take-set-lt, drop-set-lt, take-set-le, drop-set-add, getD-append-add}
 use Rattle.definition.specs.Run.{scan, scanBack, pairs, chunks, join, count, anyOf}
+
+-- ---- going through a list with a state
 
 module _ {A B S : Type 0} (f : ℕ → S → A → B × S) where
   -- Place k holds x′ instead: nothing changes, where the step from what stood there gives the same. P is what is known of its output.
@@ -30,11 +32,18 @@ module _ {A B S : Type 0} (f : ℕ → S → A → B × S) where
   scan-append [] ys t s = rw add-zero
   scan-append (x ∷ xs) ys t s = rw add-suc (ap (λ (r : List B × S). (f t s x .0 ∷ r .0, r .1)) (rw suc-add at (scan-append xs ys (suc t) (f t s x .1))))
 
+  -- one period further: the state of a loop over the periods
+  pub scan-next : (xs : List A) (t : ℕ) (s : S) (d : A) → t < length xs → scan f 0 s (take (suc t) xs) ≡ (scan f 0 s (take t xs) .0 ++ (f t (scan f 0 s (take t xs) .1) (getD xs t d) .0 ∷ []), f t (scan f 0 s (take t xs) .1) (getD xs t d) .1)
+  unfolding scan
+  scan-next xs t s d h = let e : 0 + length (take t xs) ≡ t = simp length-take (omega arith) in ap (scan f 0 s) (take-suc xs t d h) ∙ rw e at (scan-append (take t xs) (getD xs t d ∷ []) 0 s)
+
   -- from the back, the later places know nothing of the earlier
   pub scanBack-append : (xs ys : List A) (t : ℕ) (s : S) → scanBack f t s (xs ++ ys) ≡ (scanBack f t (scanBack f (t + length xs) s ys .1) xs .0 ++ scanBack f (t + length xs) s ys .0, scanBack f t (scanBack f (t + length xs) s ys .1) xs .1)
   unfolding scanBack
   scanBack-append [] ys t s = rw add-zero
   scanBack-append (x ∷ xs) ys t s = rw add-suc (ap (λ (r : List B × S). (f t (r .1) x .0 ∷ r .0, f t (r .1) x .1)) (rw suc-add at (scanBack-append xs ys (suc t) s)))
+
+-- ---- one place changed
 
 module _ {A B : Type 0} where
   pub map-set : (g : A → B) (l : List A) (k : ℕ) (a : A) → map g (set l k a) ≡ set (map g l) k (g a)
@@ -55,6 +64,8 @@ module _ {A B : Type 0} where
   pairs-at (x ∷ xs) [] k a b d h g = absurd (not-suc-le-zero g)
   pairs-at (x ∷ xs) (y ∷ ys) zero a b d h g = refl
   pairs-at (x ∷ xs) (y ∷ ys) (suc k) a b d h g = pairs-at xs ys k a b d (le-of-suc-le-suc h) (le-of-suc-le-suc g)
+
+-- ---- cut in parts and joined; counts
 
 module _ {A : Type 0} where
   pub chunks-set : (n p : ℕ) (l : List A) (t i : ℕ) (a : A) → i < p → chunks n p (set l (t * p + i) a) ≡ set (chunks n p l) t (set (getD (chunks n p l) t []) i a)
@@ -110,8 +121,13 @@ module _ {A : Type 0} where
   anyOf-set q (x ∷ l) zero a d e = ap (λ (b : Bool). b || anyOf q l) e
   anyOf-set q (x ∷ l) (suc k) a d e = ap (λ (b : Bool). q x || b) (anyOf-set q l k a d e)
 
+-- ---- places and sizes: an entry lies within its matrix, and a matrix of at most 8 by 8 has at most 64
+
 pub place-lt : (n p t i : ℕ) → t < n → i < p → t * p + i < n * p
 place-lt n p t i h g = omega (arith, mul-le-mul-right p h)
+
+pub square-le : (m : ℕ) → m ≤ 8 → m * m ≤ 64
+square-le m h = mul-le-mul h h
 
 -- ---- vectors and matrices, once over the size
 
@@ -144,19 +160,6 @@ module _ {A : Type 0} where
   tab-snoc zero k f = rw add-zero
   tab-snoc (suc n) k f = ap (λ (l : List A). f k ∷ l) (rw (suc-add, ← add-suc) at (tab-snoc n (suc k) f))
 
-  pub tab-step : (l : List A) (k : ℕ) (f : ℕ → A) (a : A) → k < length l → take k l ≡ tabFrom 0 k f → a ≡ f k → take (suc k) (set l k a) ≡ tabFrom 0 (suc k) f
-  tab-step l k f a h e g = take-suc-set l k a h ∙ ap₂ (λ (u : List A) (w : A). u ++ (w ∷ [])) e g ∙ sym (rw zero-add at (tab-snoc k 0 f))
-
--- sizes up to 8
-pub square-le : (m : ℕ) → m ≤ 8 → m * m ≤ 64
-square-le m h = mul-le-mul h h
-
-pub row-lt : (m k : ℕ) → 0 < m → m ≤ 8 → k < m * m → k / m < 8
-row-lt m k z h g = (div-lt-iff-lt-mul z) .1 (omega (arith, mul-le-mul-right m h))
-
-pub column-lt : (m k : ℕ) → 0 < m → m ≤ 8 → k % m < 8
-column-lt m k z h = omega (arith, mod-lt k z)
-
 -- ---- what a table, a matrix or a sum reads is what its entries read
 
 pub tab-cong : {A : Type 0} (n k : ℕ) (f g : ℕ → A) → ((i : ℕ) → k ≤ i → i < k + n → f i ≡ g i) → tabFrom k n f ≡ tabFrom k n g
@@ -171,13 +174,3 @@ pub sumTo-cong : (k : ℕ) (f g : ℕ → Float) → ((i : ℕ) → i < k → f 
 unfolding sumTo
 sumTo-cong zero f g h = refl
 sumTo-cong (suc k) f g h = ap₂ _⊕_ (sumTo-cong k f g (λ i u. h i (omega arith))) (h k (omega arith))
-
--- one period further: the state of a loop over the periods
-module _ {A B S : Type 0} (f : ℕ → S → A → B × S) where
-  pub scan-next : (xs : List A) (t : ℕ) (s : S) (d : A) → t < length xs → scan f 0 s (take (suc t) xs) ≡ (scan f 0 s (take t xs) .0 ++ (f t (scan f 0 s (take t xs) .1) (getD xs t d) .0 ∷ []), f t (scan f 0 s (take t xs) .1) (getD xs t d) .1)
-  unfolding scan
-  scan-next xs t s d h = let e : 0 + length (take t xs) ≡ t = simp length-take (omega arith) in ap (scan f 0 s) (take-suc xs t d h) ∙ rw e at (scan-append f (take t xs) (getD xs t d ∷ []) 0 s)
-
--- the loop's end
-pub tab-end : {A : Type 0} (l : List A) (k n : ℕ) (f : ℕ → A) → k ≡ n → take k l ≡ tabFrom 0 k f → take n l ≡ tabFrom 0 n f
-tab-end l k n f e h = rw e at h

@@ -8,11 +8,10 @@ use lib.Dec.{ltb}
 use lib.Ieee.{Float}
 use Rattle.definition.specs.Run.{count, join}
 use Rattle.definition.specs.Cov.{System, Cov, CovPeriod, period, covRun}
-use Rattle.definition.specs.Smooth.{lookOf}
 use Rattle.definition.specs.Parts.{predCov, predInf, fStar, fInf, mStar, mInf, covBlock}
 use Rattle.definition.specs.Inputs.{Model, Class, gapRows, systemFrom, systemOf, startInf, startFrom, startOf}
 use Rattle.definition.specs.Outcome.{kindsWritten, covWritten, covOf}
-use Rattle.laws.specs.Flat.{looks}
+use Rattle.laws.specs.Flat.{lookOf, looks}
 use Rattle.laws.specs.Lists.{length-tab, length-scan}
 use Rattle.laws.specs.Passes.{Laid}
 use Rattle.laws.specs.ReadBack.{AllOf, Whole}

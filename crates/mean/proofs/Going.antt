@@ -16,8 +16,8 @@ use Rattle.laws.specs.Lists.{tab-at, length-tab, length-chunks, pairs-at}
 use Rattle.laws.specs.Flat.{Flat, decisionsAt, decisionRows}
 use Rattle.laws.specs.Passes.{Wrote, wrote-none, wrote-next, wrote-all, state-next, state-all, chunk-at, block-in, over, lay-last}
 use Rattle.dense.specs.Views.{vec, mat}
-use Rattle.blocks.specs.Block.{Put}
-use Rattle.mean.specs.declared.Answer.{Answer}
+use Rattle.dense.specs.Places.{Saved, saved}
+use Rattle.promise.specs.declared.Answer.{Answer}
 use Rattle.mean.specs.View.{meanIn, leftIn, withLoglik, entryAt, entries, Room, Looped, Passed}
 use Rattle.mean.proofs.Laws.{length-pairs}
 
@@ -100,19 +100,19 @@ pub framed : (p m t : ℕ) (z zs tr c d design : List Float) (s : Mean) (e : Lis
 unfolding frameFrom
 framed p m t z zs tr c d design s e q h = h ∙ ap (λ (l : List Float). meanPeriodOf m tr c d l s e) q
 
--- place n written after the loop
-placed : {p m n : ℕ} (r : List MeanPeriod × Mean) {w w′ : Answer} {a′ pm₀ pm′ pm″ fm₀ fm′ v₀ v′ : List Float} → Looped p m n r w w′ a′ pm₀ pm′ fm₀ fm′ v₀ v′ → Put n m a′ pm′ pm″ → Passed p m n r w w′ pm₀ pm″ fm₀ fm′ v₀ v′
+-- place n written after the loop, through its part
+placed : {p m n k : ℕ} (r : List MeanPeriod × Mean) {w w′ : Answer} {a′ pm₀ pm′ fm₀ fm′ v₀ v′ : List Float} (b : List Float) → Looped p m n r w w′ a′ pm₀ pm′ fm₀ fm′ v₀ v′ → k ≡ m → Saved k a′ b → Passed p m n r w w′ pm₀ (over n m pm′ b) fm₀ fm′ v₀ v′
 unfolding meanWritten vec
-placed {m = m} {n} r {a′ = a′} {pm₀} {pm′} g q =
+placed {m = m} {n} r {a′ = a′} {pm₀} {pm′} b g e q =
     record {
       answer = g .answer;
-      pm = rw (q .is, ← ap (λ (s : Mean). s .a) (g .state)) (lay-last n m (join (map (meanBlock predMean) (r .0))) (take m a′) pm₀ pm′ (g .pm) (q .long));
+      pm = rw (← ap (λ (s : Mean). s .a) (g .state), ← saved e q) (lay-last n m (join (map (meanBlock predMean) (r .0))) b pm₀ pm′ (g .pm) (q .kept ∙ e));
       fm = g .fm;
       vs = g .vs;
     }
 
 -- T, c and a1 loaded before it
-pub passed : (p m n : ℕ) (z zs t c d a1 tr sh a : List Float) (es : List (List Decision × List Float)) {w w′ : Answer} {a′ pm₀ pm′ pm″ fm₀ fm′ v₀ v′ : List Float}
-    → Looped p m n (meanRun (frameFrom p m z zs (mat m tr)) (record { c = vec m sh; d = d }) 0 (meanIn m a (w .loglik)) es) w w′ a′ pm₀ pm′ fm₀ fm′ v₀ v′ → mat m tr ≡ t → vec m sh ≡ c → vec m a ≡ a1 → Put n m a′ pm′ pm″
-    → Passed p m n (meanRun (frameFrom p m z zs t) (record { c = c; d = d }) 0 (record { a = a1; loglik = w .loglik }) es) w w′ pm₀ pm″ fm₀ fm′ v₀ v′
-passed p m n z zs t c d a1 tr sh a es g et ec ea q = placed _ (rw (et, ec, ea) at g) q
+pub passed : (p m n : ℕ) (z zs t c d a1 tr sh a : List Float) (es : List (List Decision × List Float)) {k : ℕ} {w w′ : Answer} {a′ pm₀ pm′ fm₀ fm′ v₀ v′ : List Float} (b : List Float)
+    → Looped p m n (meanRun (frameFrom p m z zs (mat m tr)) (record { c = vec m sh; d = d }) 0 (meanIn m a (w .loglik)) es) w w′ a′ pm₀ pm′ fm₀ fm′ v₀ v′ → mat m tr ≡ t → vec m sh ≡ c → vec m a ≡ a1 → k ≡ m → Saved k a′ b
+    → Passed p m n (meanRun (frameFrom p m z zs t) (record { c = c; d = d }) 0 (record { a = a1; loglik = w .loglik }) es) w w′ pm₀ (over n m pm′ b) fm₀ fm′ v₀ v′
+passed p m n z zs t c d a1 tr sh a es b g et ec ea e q = placed _ b (rw (et, ec, ea) at g) e q

@@ -19,7 +19,12 @@ use Rattle.laws.specs.Backward.{part-block, part-row}
 use Rattle.dense.specs.Views.{vec, rect, mat}
 use Rattle.dense.specs.Places.{Saved}
 use Rattle.dense.proofs.Laws.{both, vec-at}
-use Rattle.mean.specs.View.{meanIn, entryAt, heardAt, leftIn, Followed}
+use Rattle.promise.specs.declared.Kind.the-variants.{Usual, Diffuse}
+use Rattle.promise.specs.declared.Record.{Record}
+use Rattle.promise.specs.declared.FlatRecord.{FlatRecord}
+use Rattle.promise.specs.Records.{skippedRecord, recordOf, flatOf}
+use Rattle.record.specs.RoundTrip.{v-told}
+use Rattle.mean.specs.View.{meanIn, entryAt, heardAt, leftIn, Followed, Recorded}
 
 -- ---- a part of a slice, loaded and saved
 
@@ -55,22 +60,30 @@ moved-all v f m a gain =
 pub followed-at : (i k : ℕ) (design gains : List Float) {m : ℕ} {a a′ : List Float} {d x f v : Float} → i * m + m ≤ length design → k * m + m ≤ length gains → Followed m (take (i * m + m - i * m) (drop (i * m) design)) d x (take (k * m + m - k * m) (drop (k * m) gains)) f a a′ v → Followed m (row m design i) d x (blockAt m gains k) f a a′ v
 followed-at i k design gains {m} hd hg h = rw (part-row i m design hd, part-block k m gains hg) at h
 
--- what is heard of element i by the record at place k: v, and the state after it
+-- what is heard of element i by the decision at place k
 module _ (m : ℕ) (r : Flat) (design ds : List Float) (i k : ℕ) (a : List Float) (l x : Float) where
-  pub heard-none : getD (r .kinds) k 0 ≡ 0 → _≡_ (0ᶠ, meanIn m a l) (hear m design ds i (meanIn m a l) (readBack m r k, x))
-  unfolding hear readBack decisionOf vOf heed
-  heard-none e = rw e refl
+  pub heard-none : getD (r .kinds) k 0 ≡ 0 → Recorded m design ds i (meanIn m a l) (readBack m r k) x skippedRecord (meanIn m a l)
+  unfolding hear readBack decisionOf vOf heed recordOf
+  heard-none e = record { is = rw e refl; after = rw e refl }
 
   module _ {v l′ : Float} {a′ : List Float} where
     pub heard-usual : getD (r .kinds) k 0 ≡ 1 → Followed m (row m design i) (at ds i) x (blockAt m (r .mStars) k) (at (r .fStars) k) a a′ v → l′ ≡ usualTerm l (at (r .fStars) k) v
-        → _≡_ (v, meanIn m a′ l′) (hear m design ds i (meanIn m a l) (readBack m r k, x))
-    unfolding hear readBack decisionOf vOf heed blockAt
-    heard-usual e h el = rw (e, h .moved, el, h .is) refl
+        → Recorded m design ds i (meanIn m a l) (readBack m r k) x (record { kind = Usual v (at (r .fStars) k) }) (meanIn m a′ l′)
+    unfolding hear readBack decisionOf vOf heed blockAt recordOf
+    heard-usual e h el = record { is = rw (e, h .is) refl; after = rw (e, h .moved, el, h .is) refl }
 
     pub heard-diffuse : (getD (r .kinds) k 0 ≡ 0 → ⊥) → (getD (r .kinds) k 0 ≡ 1 → ⊥) → Followed m (row m design i) (at ds i) x (blockAt m (r .mInfs) k) (at (r .fInfs) k) a a′ v → l′ ≡ diffuseTerm l (at (r .fInfs) k)
-        → _≡_ (v, meanIn m a′ l′) (hear m design ds i (meanIn m a l) (readBack m r k, x))
-    unfolding hear readBack vOf heed blockAt
-    heard-diffuse n o h el = rw (kind-diffuse (getD (r .kinds) k 0) (at (r .fStars) k) (at (r .fInfs) k) (blockAt m (r .mStars) k) (blockAt m (r .mInfs) k) n o, h .moved, el, h .is) refl
+        → Recorded m design ds i (meanIn m a l) (readBack m r k) x (record { kind = Diffuse v (at (r .fStars) k) (at (r .fInfs) k) }) (meanIn m a′ l′)
+    unfolding hear readBack vOf heed blockAt recordOf
+    heard-diffuse n o h el =
+        let q = kind-diffuse (getD (r .kinds) k 0) (at (r .fStars) k) (at (r .fInfs) k) (blockAt m (r .mStars) k) (blockAt m (r .mInfs) k) n o in
+        record { is = rw (q, h .is) refl; after = rw (q, h .moved, el, h .is) refl }
+
+-- what is written of its record is v
+pub v-written : (m : ℕ) (design ds : List Float) (i : ℕ) (s : Mean) (d : Decision) (x : Float) {r : Record} {y : FlatRecord} {s′ : Mean} → Recorded m design ds i s d x r s′ → y ≡ flatOf r → _≡_ (y .v, s′) (hear m design ds i s (d, x))
+unfolding hear
+v-written m design ds i s d x h e =
+    ap₂ (λ (u : Float) (t : Mean). (u, t)) (ap (λ (b : FlatRecord). b .v) (e ∙ ap flatOf (h .is)) ∙ v-told m (row m design i) (at ds i) (s .a) x d) (h .after)
 
 -- ---- the elements of a period, in order
 

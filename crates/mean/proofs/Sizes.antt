@@ -57,24 +57,10 @@ element-in {p} {m} {t} {i} k h b below =
     let gain = block-in k (t * p + p) m below in
     record {
       kind = omega (arith, h .holds .ks);
-      usual =
-          record {
-            m8 = h .m8;
-            row = omega (arith, h .rows);
-            intercept = omega (arith, h .intercepts);
-            reading = omega (arith, h .readings);
-            variance = omega (arith, h .holds .fs);
-            gain = omega (arith, h .holds .ms);
-          };
-      diffuse =
-          record {
-            m8 = h .m8;
-            row = omega (arith, h .rows);
-            intercept = omega (arith, h .intercepts);
-            reading = omega (arith, h .readings);
-            variance = omega (arith, h .holds .fi);
-            gain = omega (arith, h .holds .mi);
-          };
+      fs = omega (arith, h .holds .fs);
+      fi = omega (arith, h .holds .fi);
+      usual = record { m8 = h .m8; row = omega (arith, h .rows); intercept = omega (arith, h .intercepts); reading = omega (arith, h .readings); gain = omega (arith, h .holds .ms) };
+      diffuse = record { m8 = h .m8; row = omega (arith, h .rows); intercept = omega (arith, h .intercepts); reading = omega (arith, h .readings); gain = omega (arith, h .holds .mi) };
     }
 
 -- period t of n

@@ -7,14 +7,16 @@ use lib.Ieee.{Float}
 use Rattle.definition.specs.Run.{join, pairs, chunks}
 use Rattle.definition.specs.Cov.{Decision}
 use Rattle.definition.specs.Dense.{axpy, over}
-use Rattle.definition.specs.Mean.{Mean, MeanPeriod, innovation}
+use Rattle.definition.specs.Mean.{Mean, MeanPeriod, innovation, hear}
 use Rattle.definition.specs.Parts.{predMean, filtMean, innovations, meanBlock}
 use Rattle.definition.specs.Outcome.{meanWritten}
 use Rattle.laws.specs.Flat.{Flat, Holds, decisionsAt, decisionRows}
 use Rattle.laws.specs.Passes.{Laid}
 use Rattle.dense.specs.Views.{vec}
 use Rattle.model.specs.Design.{DesignFits}
-use Rattle.mean.specs.declared.Answer.{Answer}
+use Rattle.promise.specs.declared.Record.{Record}
+use Rattle.promise.specs.Records.{recordOf}
+use Rattle.promise.specs.declared.Answer.{Answer}
 
 -- ---- what the arrays and the flat parts stand for
 
@@ -42,19 +44,20 @@ withLoglik a l = record { loglik = l; «d_diffuse» = a .«d_diffuse»; heard = 
 
 -- ---- what has to be there
 
--- element i of a period, by the record at place k: its row and intercept, its reading, its F and its M
-pub record Place (m i k : ℕ) (design d y fs gains : ℕ) : Type 0 where
+-- element i of a period, by what stands at place k: its row and intercept, its reading, its M
+pub record Place (m i k : ℕ) (design d y gains : ℕ) : Type 0 where
   pub m8 : m ≤ 8
   pub row : i * m + m ≤ design
   pub intercept : i < d
   pub reading : k < y
-  pub variance : k < fs
   pub gain : k * m + m ≤ gains
 
 pub record Element (m i k : ℕ) (design d y : ℕ) (r : Flat) : Type 0 where
   pub kind : k < length (r .kinds)
-  pub usual : Place m i k design d y (length (r .fStars)) (length (r .mStars))
-  pub diffuse : Place m i k design d y (length (r .fInfs)) (length (r .mInfs))
+  pub fs : k < length (r .fStars)
+  pub fi : k < length (r .fInfs)
+  pub usual : Place m i k design d y (length (r .mStars))
+  pub diffuse : Place m i k design d y (length (r .mInfs))
 
 -- the elements of period t: p rows and intercepts, the readings and records of its block, and p places for v
 pub record Period (p m t : ℕ) (design d y v : ℕ) (r : Flat) : Type 0 where
@@ -107,6 +110,11 @@ pub record Rooms (p m n : ℕ) (pm′ fm′ v′ : ℕ) : Type 0 where
 pub record Followed (m : ℕ) (z : List Float) (d reading : Float) (gain : List Float) (f : Float) (a a′ : List Float) (v : Float) : Type 0 where
   pub is : v ≡ innovation m z d (vec m a) reading
   pub moved : vec m a′ ≡ axpy m (vec m a) v (over m gain f)
+
+-- element i, by what was decided of it: its record, with the v that is heard, and the state after it
+pub record Recorded (m : ℕ) (design ds : List Float) (i : ℕ) (s : Mean) (d : Decision) (reading : Float) (r : Record) (s′ : Mean) : Type 0 where
+  pub is : r ≡ recordOf d (hear m design ds i s (d, reading) .0)
+  pub after : s′ ≡ hear m design ds i s (d, reading) .1
 
 -- what the loop leaves, over the run r: the state, the counts as they were, and the periods' blocks laid over the parts
 pub record Looped (p m n : ℕ) (r : List MeanPeriod × Mean) (x x′ : Answer) (a′ pm₀ pm′ fm₀ fm′ v₀ v′ : List Float) : Type 0 where

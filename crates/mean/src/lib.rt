@@ -1,5 +1,5 @@
 // The mean track: one element, one period, the mean pass. It takes the decisions and the gain vectors as the covariance pass left them in the
-// flat parts, and works out v, the means and the log-likelihood.
+// flat parts, and works out each element's record, the means and the log-likelihood.
 ghost use mathlib.Core.Path.{_≡_};
 ghost use Prim.Native.Nat.{_≤_, _*_, _+_};
 ghost use lib.ListN.{length};
@@ -11,19 +11,13 @@ ghost use Rattle.definition.specs.Inputs.{frameFrom};
 ghost use Rattle.laws.specs.Flat.{flatIn, readBack, blockAt};
 ghost use Rattle.dense.specs.Views.{vec, mat};
 ghost use Rattle.mean.specs.View.{meanIn, entryAt, entries, heardAt, leftIn};
-ghost use Rattle.mean.specs.View.{Place, Element, Period, Periods, Room, Ready, Rooms, Followed, Looped, Passed};
+ghost use Rattle.mean.specs.View.{Place, Element, Period, Periods, Room, Ready, Rooms, Followed, Recorded, Looped, Passed};
+use promise::Kind;
+use promise::Record;
 
-// The answer, carried through the loop over the periods.
-pub struct Answer {
-    pub loglik: f64,
-    pub d_diffuse: usize,
-    pub heard: usize,
-    pub news: usize,
-}
-
-// What one element leaves besides the mean: v, and the log-likelihood with its term.
+// What one element leaves besides the mean: its record, and the log-likelihood with its term.
 struct Heard {
-    v: f64,
+    record: Record,
     loglik: f64,
 }
 
@@ -72,38 +66,31 @@ fn follow(a: &mut [f64; 8], reading: f64, d: f64, z: &[f64], gain: &[f64], f: f6
     v
 }
 
-// The same of element i, by the F and the M that stand at place k of fs and gains.
+// The same of element i, by F and by the M that stands at place k of gains.
 fn follow_at(
     a: &mut [f64; 8],
     design: &[f64],
     d: &[f64],
     y: &[f64],
-    fs: &[f64],
+    f: f64,
     gains: &[f64],
     m: usize,
     i: usize,
     k: usize,
 ) -> f64
-    requires { ⌜ Place m i k (length (now design)) (length (now d)) (length (now y)) (length (now fs)) (length (now gains)) ⌝ }
+    requires { ⌜ Place m i k (length (now design)) (length (now d)) (length (now y)) (length (now gains)) ⌝ }
     ensures { λ v. ⌜ Followed m (row m (now (design .entry)) i) (at (now (d .entry)) i) (at (now (y .entry)) k)
-        (blockAt m (now (gains .entry)) k) (at (now (fs .entry)) k) (now (a .entry)) (now (a .exit)) v ⌝ }
+        (blockAt m (now (gains .entry)) k) f (now (a .entry)) (now (a .exit)) v ⌝ }
 {
     let row = i * m;
     let row_end = row + m;
     let from = k * m;
     let to = from + m;
-    follow(
-        a,
-        y[k],
-        d[i],
-        &design[row..row_end],
-        &gains[from..to],
-        fs[k],
-        m,
-    )
+    follow(a, y[k], d[i], &design[row..row_end], &gains[from..to], f, m)
 }
 
-// One element, by the record at place k: v, a and the log-likelihood move by its kind; of a skipped one v is +0.0 and nothing moves.
+// One element, by the decision that stands at place k of the flat parts: its record, with v in it. a and the log-likelihood move by its kind; of a
+// skipped one nothing moves.
 fn hear(
     a: &mut [f64; 8],
     loglik: f64,
@@ -121,30 +108,43 @@ fn hear(
 ) -> Heard
     requires { ⌜ Element m i k (length (now design)) (length (now d)) (length (now y))
         (flatIn (now kinds) (now «f_star») (now «f_inf») (now «m_star») (now «m_inf»)) ⌝ }
-    ensures { λ r. ⌜ _≡_ (r .v, meanIn m (now (a .exit)) (r .loglik)) (hear m (now (design .entry)) (now (d .entry)) i
-        (meanIn m (now (a .entry)) loglik)
-        (readBack m (flatIn (now (kinds .entry)) (now («f_star» .entry)) (now («f_inf» .entry)) (now («m_star» .entry)) (now («m_inf» .entry))) k, at (now (y .entry)) k)) ⌝ }
+    ensures { λ r. ⌜ Recorded m (now (design .entry)) (now (d .entry)) i (meanIn m (now (a .entry)) loglik)
+        (readBack m (flatIn (now (kinds .entry)) (now («f_star» .entry)) (now («f_inf» .entry))
+        (now («m_star» .entry)) (now («m_inf» .entry))) k) (at (now (y .entry)) k)
+        (r .record) (meanIn m (now (a .exit)) (r .loglik)) ⌝ }
 {
     match kinds[k] {
-        0 => Heard { v: 0.0, loglik },
-        1 => {
-            let v = follow_at(a, design, d, y, f_star, m_star, m, i, k);
+        promise::SKIPPED => Heard {
+            record: Record {
+                kind: Kind::Skipped,
+            },
+            loglik,
+        },
+        promise::USUAL => {
+            let f = f_star[k];
+            let v = follow_at(a, design, d, y, f, m_star, m, i, k);
             Heard {
-                v,
-                loglik: usual_term(loglik, f_star[k], v),
+                record: Record {
+                    kind: Kind::Usual(v, f),
+                },
+                loglik: usual_term(loglik, f, v),
             }
         }
         _ => {
-            let v = follow_at(a, design, d, y, f_inf, m_inf, m, i, k);
+            let f = f_inf[k];
+            let v = follow_at(a, design, d, y, f, m_inf, m, i, k);
             Heard {
-                v,
-                loglik: diffuse_term(loglik, f_inf[k]),
+                record: Record {
+                    kind: Kind::Diffuse(v, f_star[k], f),
+                },
+                loglik: diffuse_term(loglik, f),
             }
         }
     }
 }
 
-// The elements of period t, in order: v of each, with a and the log-likelihood moved by all.
+// The elements of period t, in order: v of each one's record, with a and the log-likelihood moved by all. What else is in a record stands in the flat
+// parts already.
 fn elements(
     a: &mut [f64; 8],
     v: &mut [f64],
@@ -163,9 +163,11 @@ fn elements(
 ) -> f64
     requires { ⌜ Period p m t (length (now design)) (length (now d)) (length (now y)) (length (now v))
         (flatIn (now kinds) (now «f_star») (now «f_inf») (now «m_star») (now «m_inf»)) ⌝ }
-    ensures { λ r. ⌜ _≡_ (now (v .exit), meanIn m (now (a .exit)) r) (scan (hear m (now (design .entry)) (now (d .entry))) 0
+    ensures { λ r. ⌜ _≡_ (now (v .exit), meanIn m (now (a .exit)) r)
+        (scan (hear m (now (design .entry)) (now (d .entry))) 0
         (meanIn m (now (a .entry)) loglik)
-        (heardAt p m (flatIn (now (kinds .entry)) (now («f_star» .entry)) (now («f_inf» .entry)) (now («m_star» .entry)) (now («m_inf» .entry))) (now (y .entry)) t)) ⌝ }
+        (heardAt p m (flatIn (now (kinds .entry)) (now («f_star» .entry)) (now («f_inf» .entry))
+        (now («m_star» .entry)) (now («m_inf» .entry))) (now (y .entry)) t)) ⌝ }
 {
     let first = t * p;
     let mut loglik = loglik;
@@ -185,7 +187,8 @@ fn elements(
             i,
             first + i,
         );
-        v[i] = h.v;
+        let flat = record::to_flat(h.record);
+        v[i] = flat.v;
         loglik = h.loglik;
     }
     loglik
@@ -194,7 +197,8 @@ fn elements(
 // a by T, and c added.
 fn mean_step(a: &mut [f64; 8], tr: &[f64; 64], c: &[f64; 8], m: usize)
     requires { ⌜ m ≤ 8 ⌝ }
-    ensures { λ _. ⌜ vec m (now (a .exit)) ≡ meanStep m (mat m (now (tr .entry))) (vec m (now (c .entry))) (vec m (now (a .entry))) ⌝ }
+    ensures { λ _. ⌜ vec m (now (a .exit)) ≡ meanStep m (mat m (now (tr .entry))) (vec m (now (c .entry)))
+        (vec m (now (a .entry))) ⌝ }
 {
     let mut next = dense::mat_vec(tr, a, m);
     dense::axpy(&mut next, 1.0, c, m);
@@ -228,7 +232,8 @@ fn mean_period(
     ensures { λ r. ⌜ _≡_ (leftIn (now (pred .exit)) (now (v .exit)) (now (filt .exit)), meanIn m (now (a .exit)) r)
         (meanPeriodOf m (mat m (now (tr .entry))) (vec m (now (c .entry))) (now (d .entry)) (now (design .entry))
         (meanIn m (now (a .entry)) loglik)
-        (entryAt p m (flatIn (now (kinds .entry)) (now («f_star» .entry)) (now («f_inf» .entry)) (now («m_star» .entry)) (now («m_inf» .entry))) (now (y .entry)) t)) ⌝ }
+        (entryAt p m (flatIn (now (kinds .entry)) (now («f_star» .entry)) (now («f_inf» .entry))
+        (now («m_star» .entry)) (now («m_inf» .entry))) (now (y .entry)) t)) ⌝ }
 {
     dense::save8(pred, a);
     let loglik = elements(
@@ -258,7 +263,7 @@ fn mean_loop<'a>(
     pred_mean: &mut [f64],
     filt_mean: &mut [f64],
     v: &mut [f64],
-    answer: Answer,
+    answer: promise::Answer,
     z: &'a [f64],
     zs: &'a [f64],
     tr: &[f64; 64],
@@ -274,13 +279,14 @@ fn mean_loop<'a>(
     m: usize,
     n: usize,
     listed: usize,
-) -> Answer
+) -> promise::Answer
     requires { ⌜ Periods p m n listed (length (now z)) (length (now zs)) (length (now d)) (length (now y))
         (flatIn (now kinds) (now «f_star») (now «f_inf») (now «m_star») (now «m_inf»))
         × Room p m n (length (now «pred_mean»)) (length (now «filt_mean»)) (length (now v)) ⌝ }
     ensures { λ r. ⌜ Looped p m n (meanRun (frameFrom p m (now (z .entry)) (now (zs .entry)) (mat m (now (tr .entry))))
         (record { c = vec m (now (c .entry)); d = now (d .entry) }) 0 (meanIn m (now (a .entry)) (answer .loglik))
-        (entries n p m (flatIn (now (kinds .entry)) (now («f_star» .entry)) (now («f_inf» .entry)) (now («m_star» .entry)) (now («m_inf» .entry))) (now (y .entry))))
+        (entries n p m (flatIn (now (kinds .entry)) (now («f_star» .entry)) (now («f_inf» .entry))
+        (now («m_star» .entry)) (now («m_inf» .entry))) (now (y .entry))))
         answer r (now (a .exit)) (now («pred_mean» .entry)) (now («pred_mean» .exit))
         (now («filt_mean» .entry)) (now («filt_mean» .exit)) (now (v .entry)) (now (v .exit)) ⌝ }
 {
@@ -318,7 +324,7 @@ fn mean_loop<'a>(
 // The mean pass: v, the predicted and the filtered means of n periods, place n of the predicted ones, and the log-likelihood. The counts of the
 // answer go through as they came. `listed` is how many designs the list has.
 pub fn mean_pass<'a>(
-    answer: Answer,
+    answer: promise::Answer,
     z: &'a [f64],
     zs: &'a [f64],
     t: &[f64],
@@ -338,13 +344,15 @@ pub fn mean_pass<'a>(
     m: usize,
     n: usize,
     listed: usize,
-) -> Answer
-    requires { ⌜ Ready p m n listed (length (now z)) (length (now zs)) (length (now t)) (length (now c)) (length (now d))
-        (length (now a1)) (length (now y)) (flatIn (now kinds) (now «f_star») (now «f_inf») (now «m_star») (now «m_inf»))
+) -> promise::Answer
+    requires { ⌜ Ready p m n listed (length (now z)) (length (now zs)) (length (now t))
+        (length (now c)) (length (now d)) (length (now a1)) (length (now y))
+        (flatIn (now kinds) (now «f_star») (now «f_inf») (now «m_star») (now «m_inf»))
         × Rooms p m n (length (now «pred_mean»)) (length (now «filt_mean»)) (length (now v)) ⌝ }
     ensures { λ r. ⌜ Passed p m n (meanRun (frameFrom p m (now (z .entry)) (now (zs .entry)) (now (t .entry)))
         (record { c = now (c .entry); d = now (d .entry) }) 0 (record { a = now (a1 .entry); loglik = answer .loglik })
-        (entries n p m (flatIn (now (kinds .entry)) (now («f_star» .entry)) (now («f_inf» .entry)) (now («m_star» .entry)) (now («m_inf» .entry))) (now (y .entry))))
+        (entries n p m (flatIn (now (kinds .entry)) (now («f_star» .entry)) (now («f_inf» .entry))
+        (now («m_star» .entry)) (now («m_inf» .entry))) (now (y .entry))))
         answer r (now («pred_mean» .entry)) (now («pred_mean» .exit))
         (now («filt_mean» .entry)) (now («filt_mean» .exit)) (now (v .entry)) (now (v .exit)) ⌝ }
 {
@@ -373,6 +381,8 @@ pub fn mean_pass<'a>(
         n,
         listed,
     );
-    blocks::put8(pred_mean, &a, n, m);
+    let from = n * m;
+    let to = from + m;
+    dense::save8(&mut pred_mean[from..to], &a);
     answer
 }

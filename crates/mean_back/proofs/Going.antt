@@ -10,8 +10,9 @@ use lib.Ieee.{Float}
 use Rattle.definition.specs.Num.{zeros}
 use Rattle.definition.specs.Dense.{axpy}
 use Rattle.definition.specs.Run.{scanBack, join}
-use Rattle.definition.specs.Mean.{Frame}
-use Rattle.definition.specs.Smooth.{Rs, Look, MeanLook, backA, backMeanOf, backMean, noRs}
+use Rattle.definition.specs.Cov.{CovPeriod}
+use Rattle.definition.specs.Mean.{Frame, MeanPeriod}
+use Rattle.definition.specs.Smooth.{Rs, backA, backMeanOf, backMean, noRs}
 use Rattle.definition.specs.Inputs.{designFrom, frameFrom}
 use Rattle.laws.specs.Lists.{tab-at, length-tab, pairs-at}
 use Rattle.laws.specs.Flat.{Flat, lookAt, looks, meanLookAt, meanLooks}
@@ -39,14 +40,14 @@ module _ (n p m dd : ℕ) (pm pc pi vs : List Float) (r : Flat) where
   looked-long : length (looked n p m dd pm pc pi vs r) ≡ n
   looked-long = length-pairs n (looks n p m dd pc pi r) (meanLooks n p m pm vs) looks-long mean-looks-long
 
-  looked-at : (t : ℕ) (d : Look × MeanLook) → t < n → getD (looked n p m dd pm pc pi vs r) t d ≡ lookedAt p m dd pm pc pi vs r t
+  looked-at : (t : ℕ) (d : CovPeriod × MeanPeriod) → t < n → getD (looked n p m dd pm pc pi vs r) t d ≡ lookedAt p m dd pm pc pi vs r t
   unfolding looks meanLooks
   looked-at t d h =
       pairs-at (looks n p m dd pc pi r) (meanLooks n p m pm vs) t (d .0) (d .1) d (rw looks-long h) (rw mean-looks-long h)
-      ∙ ap₂ (λ (a : Look) (b : MeanLook). (a, b)) (tab-at n 0 t (lookAt p m dd pc pi r) (d .0) h ∙ ap (lookAt p m dd pc pi r) (zero-add t)) (tab-at n 0 t (meanLookAt p m pm vs) (d .1) h ∙ ap (meanLookAt p m pm vs) (zero-add t))
+      ∙ ap₂ (λ (a : CovPeriod) (b : MeanPeriod). (a, b)) (tab-at n 0 t (lookAt p m dd pc pi r) (d .0) h ∙ ap (lookAt p m dd pc pi r) (zero-add t)) (tab-at n 0 t (meanLookAt p m pm vs) (d .1) h ∙ ap (meanLookAt p m pm vs) (zero-add t))
 
   module _ (y : Frame) (s₀ : Rs) where
-    abbrev pub es : List (Look × MeanLook)
+    abbrev pub es : List (CovPeriod × MeanPeriod)
     es = looked n p m dd pm pc pi vs r
 
     pub record Going (i : ℕ) (s : Rs) (o₀ o : List Float) : Type 0 where
@@ -81,7 +82,7 @@ module _ (n p m dd : ℕ) (pm pc pi vs : List Float) (r : Flat) where
     going-all {i} {s} {o₀} {o} g h room = let e : i ≡ 0 = omega arith in from-all (backMean y) m es s₀ n o₀ o looked-long room (rw e at (g .out))
 
 -- the frame's period, with the design and T that the code has
-pub framed : (p m t : ℕ) (z zs tr design : List Float) (s : Rs) (c : Look × MeanLook) {b : List Float × Rs} → design ≡ designFrom p m z zs t → b ≡ backMeanOf m tr design s c → b ≡ backMean (frameFrom p m z zs tr) t s c
+pub framed : (p m t : ℕ) (z zs tr design : List Float) (s : Rs) (c : CovPeriod × MeanPeriod) {b : List Float × Rs} → design ≡ designFrom p m z zs t → b ≡ backMeanOf m tr design s c → b ≡ backMean (frameFrom p m z zs tr) t s c
 unfolding frameFrom
 framed p m t z zs tr design s c q h = h ∙ ap (λ (l : List Float). backMeanOf m tr l s c) q
 
@@ -94,6 +95,6 @@ pub started : (m : ℕ) (r0 r1 : List Float) → vec m r0 ≡ zeros m → vec m 
 unfolding noRs
 started m r0 r1 e h = cc
 
-pub passed : (n p m : ℕ) (z zs t tr : List Float) (es : List (Look × MeanLook)) (s : Rs) {o₀ o : List Float} → Laid (n * m) (join (scanBack (backMean (frameFrom p m z zs (mat m tr))) 0 s es .0)) o₀ o → mat m tr ≡ t → s ≡ noRs m
+pub passed : (n p m : ℕ) (z zs t tr : List Float) (es : List (CovPeriod × MeanPeriod)) (s : Rs) {o₀ o : List Float} → Laid (n * m) (join (scanBack (backMean (frameFrom p m z zs (mat m tr))) 0 s es .0)) o₀ o → mat m tr ≡ t → s ≡ noRs m
     → Laid (n * m) (join (scanBack (backMean (frameFrom p m z zs t)) 0 (noRs m) es .0)) o₀ o
 passed n p m z zs t tr es s g et e = rw (et, e) at g

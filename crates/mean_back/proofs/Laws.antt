@@ -14,11 +14,15 @@ use Rattle.definition.specs.Run.{foldBack, pairs}
 use Rattle.definition.specs.Cov.{Decision, skipped, diffuse}
 use Rattle.definition.specs.Smooth.{Rs, lZero, lZeroAt, lOne, lOneAt, fOne, kOne, lUsual, lDiffuse, usualR, diffuseR, backR, backMeanElement, elementsR, backA, stepRs, backMeanOf}
 use Rattle.laws.specs.Lists.{tab-at, length-tab, matrix-at, pairs-at}
-use Rattle.laws.specs.Flat.{Flat, readBack, decisionsAt, blockAt, lookAt, meanLookAt, kind-skipped, kind-usual, kind-diffuse}
+use Rattle.laws.specs.Flat.{Flat, readBack, decisionsAt, blockAt, lookAt, meanLookAt}
 use Rattle.dense.proofs.Laws.{but-next}
 use Rattle.dense.specs.Views.{vec}
 use Rattle.laws.specs.Backward.{fold-none, fold-step, part-block, part-row, block-long}
 use Rattle.mean.proofs.Laws.{length-pairs, loaded}
+use Rattle.promise.specs.declared.Kind.the-variants.{Skipped, Usual, Diffuse}
+use Rattle.promise.specs.declared.Record.{Record}
+use Rattle.promise.specs.Records.{recordAt}
+use Rattle.record.specs.Read.{read-skipped, read-usual, read-diffuse}
 use Rattle.mean_back.specs.View.{lookedAt}
 
 -- ---- L' r by the entries of L
@@ -51,20 +55,19 @@ module _ (m : ℕ) (z : List Float) where
   unfolding backR diffuseR lUsual lDiffuse
   diffuse-r _ _ _ _ _ _ _ _ _ _ _ _ _ _ _ _ _ e1 e2 e3 e4 e5 e6 e7 e8 e9 e10 = cc
 
-  -- by the record at place k
-  module _ (r : Flat) (k : ℕ) (v : Float) where
-    pub back-none : (s : Rs) → getD (r .kinds) k 0 ≡ 0 → s ≡ backR m z s (readBack m r k) v
-    unfolding backR readBack
-    back-none s e = rw (kind-skipped (getD (r .kinds) k 0) (at (r .fStars) k) (at (r .fInfs) k) _ _ e) refl
+  -- by the record that is read at place k
+  module _ (l : Flat) (vs : List Float) (k : ℕ) {r : Record} (read : r ≡ recordAt (l .kinds) vs (l .fStars) (l .fInfs) k) where
+    pub back-none : (s : Rs) → r .kind ≡ Skipped → s ≡ backR m z s (readBack m l k) (at vs k)
+    unfolding backR
+    back-none s e = rw (read-skipped m l vs k read e) refl
 
-    pub back-usual : (a b a′ : List Float) → getD (r .kinds) k 0 ≡ 1 → a′ ≡ usualR m z v (fOne (at (r .fStars) k)) (lUsual m z (at (r .fStars) k) (blockAt m (r .mStars) k)) a
-        → _≡_ {A = Rs} (record { r0 = a′; r1 = b }) (backR m z (record { r0 = a; r1 = b }) (readBack m r k) v)
-    unfolding backR readBack blockAt
-    back-usual a b a′ e h = rw (kind-usual (getD (r .kinds) k 0) (at (r .fStars) k) (at (r .fInfs) k) _ _ e, h) refl
+    pub back-usual : (a b a′ : List Float) {v f : Float} → r .kind ≡ Usual v f → a′ ≡ usualR m z v (fOne f) (lUsual m z f (blockAt m (l .mStars) k)) a
+        → _≡_ {A = Rs} (record { r0 = a′; r1 = b }) (backR m z (record { r0 = a; r1 = b }) (readBack m l k) (at vs k))
+    unfolding backR
+    back-usual a b a′ e h = let q = read-usual m l vs k read e in rw (q .1, q .0, h) refl
 
-    pub back-diffuse : (s s′ : Rs) → (getD (r .kinds) k 0 ≡ 0 → ⊥) → (getD (r .kinds) k 0 ≡ 1 → ⊥) → s′ ≡ backR m z s (diffuse (at (r .fStars) k) (at (r .fInfs) k) (blockAt m (r .mStars) k) (blockAt m (r .mInfs) k)) v → s′ ≡ backR m z s (readBack m r k) v
-    unfolding readBack blockAt
-    back-diffuse s s′ n o h = rw (kind-diffuse (getD (r .kinds) k 0) (at (r .fStars) k) (at (r .fInfs) k) _ _ n o) h
+    pub back-diffuse : (s s′ : Rs) {v f f∞ : Float} → r .kind ≡ Diffuse v f f∞ → s′ ≡ backR m z s (diffuse f f∞ (blockAt m (l .mStars) k) (blockAt m (l .mInfs) k)) v → s′ ≡ backR m z s (readBack m l k) (at vs k)
+    back-diffuse s s′ e h = let q = read-diffuse m l vs k read e in rw (q .1, q .0) h
 
 -- ---- the row of the design, loaded, and the parts that an element and a period read
 

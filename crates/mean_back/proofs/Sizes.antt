@@ -37,8 +37,11 @@ element-in {p} {m} {t} {i} h b =
     let gain = block-in (t * p + i) (t * p + p) m (omega arith) in
     record {
       kind = omega (arith, h .holds .ks);
-      usual = record { m8 = h .m8; row = omega (arith, h .rows); news = omega (arith, h .news); variance = omega (arith, h .holds .fs); gain = omega (arith, h .holds .ms) };
-      diffuse = record { m8 = h .m8; row = omega (arith, h .rows); news = omega (arith, h .news); variance = omega (arith, h .holds .fi); gain = omega (arith, h .holds .mi) };
+      news = omega (arith, h .news);
+      fs = omega (arith, h .holds .fs);
+      fi = omega (arith, h .holds .fi);
+      usual = record { m8 = h .m8; row = omega (arith, h .rows); gain = omega (arith, h .holds .ms) };
+      diffuse = record { m8 = h .m8; row = omega (arith, h .rows); gain = omega (arith, h .holds .mi) };
     }
 
 module _ {p m n listed pm pc pi v : ℕ} {r : Flat} {sm : ℕ} {t : ℕ} (h : t < n) where

@@ -1,5 +1,5 @@
 -- What a call hands the way back through the means once refusals 1 and 2 have passed, and what the pass's run is in the call's outcome.
-use mathlib.Core.Path.{_≡_, ap₂}
+use mathlib.Core.Path.{_≡_, ap₂, _∙_}
 use Prim.Native.Nat.{ℕ, _+_, _*_, _/_, _≤_}
 use native.Mathlib.Nat.{mul-assoc}
 use native.Mathlib.Omega.{arith}
@@ -10,11 +10,12 @@ use lib.Ieee.{Float}
 use Rattle.definition.specs.Run.{scanBack, pairs}
 use Rattle.definition.specs.Cov.{CovPeriod}
 use Rattle.definition.specs.Mean.{MeanPeriod}
-use Rattle.definition.specs.Smooth.{Look, MeanLook, lookOf, meanLookOf, backMean, noRs, smoothMean}
+use Rattle.definition.specs.Smooth.{backMean, noRs, smoothMean}
 use Rattle.definition.specs.Parts.{predCov, predInf, fStar, fInf, mStar, mInf, predMean, innovations}
 use Rattle.definition.specs.Inputs.{Model, Offsets, frameFrom, frameOf}
 use Rattle.definition.specs.Outcome.{kindsNeed, covNeed, meanNeed, smoothedMeanNeed}
-use Rattle.laws.specs.Flat.{Flat, looks, meanLooks}
+use Rattle.laws.specs.Flat.{Flat, lookOf, meanLookOf, looks, meanLooks}
+use Rattle.laws.specs.Backward.{mean-looked}
 use Rattle.laws.specs.Accepted.{Accepted}
 use Rattle.model.specs.Past.{design-fits}
 use Rattle.mean_back.specs.View.{looked, Ready}
@@ -47,6 +48,6 @@ module _ (x : Model) (o : Offsets) where
   -- over parts from which the looks of cs and ss are read back: the outcome's run
   pub run-of : (cs : List CovPeriod) (ss : List MeanPeriod) (dd : ℕ) (pm pc pi vs : List Float) (r : Flat) → looks (x .n) (x .p) (x .m) dd pc pi r ≡ map lookOf cs → meanLooks (x .n) (x .p) (x .m) pm vs ≡ map meanLookOf ss
       → scanBack (backMean (frameFrom (x .p) (x .m) (x .zOnce) (x .zList) (x .t))) 0 (noRs (x .m)) (looked (x .n) (x .p) (x .m) dd pm pc pi vs r) .0 ≡ smoothMean (frameOf x) cs ss
-  unfolding smoothMean frameOf frameFrom
+  unfolding frameOf frameFrom
   run-of cs ss dd pm pc pi vs r e h =
-      ap₂ (λ (l : List Look) (k : List MeanLook). scanBack (backMean (frameFrom (x .p) (x .m) (x .zOnce) (x .zList) (x .t))) 0 (noRs (x .m)) (pairs l k) .0) e h
+      ap₂ (λ (l : List CovPeriod) (k : List MeanPeriod). scanBack (backMean (frameFrom (x .p) (x .m) (x .zOnce) (x .zList) (x .t))) 0 (noRs (x .m)) (pairs l k) .0) e h ∙ mean-looked (frameOf x) cs ss

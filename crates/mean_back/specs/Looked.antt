@@ -9,11 +9,10 @@ use Rattle.definition.specs.Dense.{axpy}
 use Rattle.definition.specs.Run.{scan, pairs, chunks, join}
 use Rattle.definition.specs.Cov.{Decision, CovPeriod}
 use Rattle.definition.specs.Mean.{Frame, Shift, Mean, MeanPeriod, hear, meanStep, meanEnded, meanPeriodOf, meanPeriod, meanRun}
-use Rattle.definition.specs.Smooth.{meanLookOf}
 use Rattle.definition.specs.Parts.{predMean, innovations, meanBlock}
 use Rattle.definition.specs.Inputs.{Model, Offsets, Class, systemFrom, systemOf, frameFrom, frameOf, startOf}
 use Rattle.definition.specs.Outcome.{decisionsOf, covOf, meanOf, meanWritten}
-use Rattle.laws.specs.Flat.{meanLooks}
+use Rattle.laws.specs.Flat.{meanLookOf, meanLooks}
 use Rattle.laws.specs.Lists.{Each, length-tab, length-scan, length-chunks, chunks-each}
 use Rattle.laws.specs.Passes.{Laid}
 use Rattle.laws.specs.ReadBack.{AllOf, Whole}

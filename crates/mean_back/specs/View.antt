@@ -5,16 +5,17 @@ use mathlib.Core.List.{List}
 use lib.ListN.{length}
 use lib.Ieee.{Float}
 use Rattle.definition.specs.Run.{pairs}
-use Rattle.definition.specs.Smooth.{Look, MeanLook}
+use Rattle.definition.specs.Cov.{CovPeriod}
+use Rattle.definition.specs.Mean.{MeanPeriod}
 use Rattle.laws.specs.Flat.{Flat, Holds, lookAt, looks, meanLookAt, meanLooks}
 use Rattle.model.specs.Design.{DesignFits}
 
 -- ---- what a period looks at, and what n periods look at: the parts of the predicted means, of P, of P∞ and of v, and the records
 
-abbrev pub lookedAt : ℕ → ℕ → ℕ → List Float → List Float → List Float → List Float → Flat → ℕ → Look × MeanLook
+abbrev pub lookedAt : ℕ → ℕ → ℕ → List Float → List Float → List Float → List Float → Flat → ℕ → CovPeriod × MeanPeriod
 lookedAt p m dd pm pc pi vs r t = (lookAt p m dd pc pi r t, meanLookAt p m pm vs t)
 
-abbrev pub looked : ℕ → ℕ → ℕ → ℕ → List Float → List Float → List Float → List Float → Flat → List (Look × MeanLook)
+abbrev pub looked : ℕ → ℕ → ℕ → ℕ → List Float → List Float → List Float → List Float → Flat → List (CovPeriod × MeanPeriod)
 looked n p m dd pm pc pi vs r = pairs (looks n p m dd pc pi r) (meanLooks n p m pm vs)
 
 -- ---- what has to be there
@@ -31,18 +32,19 @@ pub record Square (m i a : ℕ) : Type 0 where
   pub row : i < m
   pub whole : a ≡ m * m
 
--- element i of a period, by the record at place k: its row, its v, its F and its M
-pub record Entry (m i k : ℕ) (design v fs gains : ℕ) : Type 0 where
+-- element i of a period, by what stands at place k: its row and its M
+pub record Entry (m i k : ℕ) (design gains : ℕ) : Type 0 where
   pub m8 : m ≤ 8
   pub row : i * m + m ≤ design
-  pub news : k < v
-  pub variance : k < fs
   pub gain : k * m + m ≤ gains
 
 pub record Element (m i k : ℕ) (design v : ℕ) (r : Flat) : Type 0 where
   pub kind : k < length (r .kinds)
-  pub usual : Entry m i k design v (length (r .fStars)) (length (r .mStars))
-  pub diffuse : Entry m i k design v (length (r .fInfs)) (length (r .mInfs))
+  pub news : k < v
+  pub fs : k < length (r .fStars)
+  pub fi : k < length (r .fInfs)
+  pub usual : Entry m i k design (length (r .mStars))
+  pub diffuse : Entry m i k design (length (r .mInfs))
 
 -- the elements of period t: p rows, and the v and the records of its block
 pub record Period (p m t : ℕ) (design v : ℕ) (r : Flat) : Type 0 where

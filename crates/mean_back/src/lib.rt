@@ -1,5 +1,5 @@
-// smoother.rs, the mean half of the way back: r0 and r1 from the last period to the first, and the smoothed means. It takes the decisions, the
-// gain vectors, v and the predicted moments as the two passes forward left them in the flat parts. Gains here multiply by 1 / F.
+// smoother.rs, the mean half of the way back: r0 and r1 from the last period to the first, and the smoothed means. It takes the records, the gain
+// vectors and the predicted moments as the two passes forward left them in the flat parts. Gains here multiply by 1 / F.
 ghost use mathlib.Core.Path.{_≡_};
 ghost use Prim.Native.Nat.{_≤_, _<_, _*_};
 ghost use mathlib.Core.Bool.{cond};
@@ -16,13 +16,16 @@ ghost use Rattle.laws.specs.Passes.{Laid};
 ghost use Rattle.dense.specs.Views.{vec, mat};
 ghost use Rattle.element_back.specs.View.{rsIn};
 ghost use Rattle.mean_back.specs.View.{lookedAt, looked, Vectors, Square, Entry, Element, Period, Smoothed, Block, Periods, Ready};
+use promise::FlatRecord;
+use promise::Kind;
 
 // ---- L' r, with the entries of L worked out as they are read
 
 // Entry j of L0' r, with L0 = I - k z'.
 fn l_zero_t_vec_at(k: &[f64; 8], z: &[f64; 8], r: &[f64; 8], m: usize, j: usize) -> f64
     requires { ⌜ (m ≤ 8) × (j < m) ⌝ }
-    ensures { λ x. ⌜ x ≡ matTVecAt m (lZero m (vec m (now (k .entry))) (vec m (now (z .entry)))) (vec m (now (r .entry))) j ⌝ }
+    ensures { λ x. ⌜ x ≡ matTVecAt m (lZero m (vec m (now (k .entry))) (vec m (now (z .entry))))
+        (vec m (now (r .entry))) j ⌝ }
 {
     let mut s = 0.0;
     for i in 0..m {
@@ -33,7 +36,8 @@ fn l_zero_t_vec_at(k: &[f64; 8], z: &[f64; 8], r: &[f64; 8], m: usize, j: usize)
 
 fn l_zero_t_vec(k: &[f64; 8], z: &[f64; 8], r: &[f64; 8], m: usize) -> [f64; 8]
     requires { ⌜ m ≤ 8 ⌝ }
-    ensures { λ x. ⌜ vec m x ≡ matTVec m (lZero m (vec m (now (k .entry))) (vec m (now (z .entry)))) (vec m (now (r .entry))) ⌝ }
+    ensures { λ x. ⌜ vec m x ≡ matTVec m (lZero m (vec m (now (k .entry))) (vec m (now (z .entry))))
+        (vec m (now (r .entry))) ⌝ }
 {
     let mut out = [0.0; 8];
     for j in 0..m {
@@ -45,7 +49,8 @@ fn l_zero_t_vec(k: &[f64; 8], z: &[f64; 8], r: &[f64; 8], m: usize) -> [f64; 8]
 // Entry j of L1' r, with L1 = - k z'.
 fn l_one_t_vec_at(k: &[f64; 8], z: &[f64; 8], r: &[f64; 8], m: usize, j: usize) -> f64
     requires { ⌜ (m ≤ 8) × (j < m) ⌝ }
-    ensures { λ x. ⌜ x ≡ matTVecAt m (lOne m (vec m (now (k .entry))) (vec m (now (z .entry)))) (vec m (now (r .entry))) j ⌝ }
+    ensures { λ x. ⌜ x ≡ matTVecAt m (lOne m (vec m (now (k .entry))) (vec m (now (z .entry))))
+        (vec m (now (r .entry))) j ⌝ }
 {
     let mut s = 0.0;
     for i in 0..m {
@@ -56,7 +61,8 @@ fn l_one_t_vec_at(k: &[f64; 8], z: &[f64; 8], r: &[f64; 8], m: usize, j: usize) 
 
 fn l_one_t_vec(k: &[f64; 8], z: &[f64; 8], r: &[f64; 8], m: usize) -> [f64; 8]
     requires { ⌜ m ≤ 8 ⌝ }
-    ensures { λ x. ⌜ vec m x ≡ matTVec m (lOne m (vec m (now (k .entry))) (vec m (now (z .entry)))) (vec m (now (r .entry))) ⌝ }
+    ensures { λ x. ⌜ vec m x ≡ matTVec m (lOne m (vec m (now (k .entry))) (vec m (now (z .entry))))
+        (vec m (now (r .entry))) ⌝ }
 {
     let mut out = [0.0; 8];
     for j in 0..m {
@@ -83,7 +89,8 @@ fn gain_back(gain: &[f64], f: f64, m: usize) -> [f64; 8]
 // A usual element: r0 = L' r0 + (v / F) z. r1 stays.
 fn usual_r(r0: &mut [f64; 8], z: &[f64; 8], v: f64, f: f64, gain: &[f64], m: usize)
     requires { ⌜ (m ≤ 8) × (length (now gain) ≡ m) ⌝ }
-    ensures { λ _. ⌜ vec m (now (r0 .exit)) ≡ usualR m (vec m (now (z .entry))) v (fOne f) (lUsual m (vec m (now (z .entry))) f (now (gain .entry))) (vec m (now (r0 .entry))) ⌝ }
+    ensures { λ _. ⌜ vec m (now (r0 .exit)) ≡ usualR m (vec m (now (z .entry))) v (fOne f)
+        (lUsual m (vec m (now (z .entry))) f (now (gain .entry))) (vec m (now (r0 .entry))) ⌝ }
 {
     let g = element_back::f_one(f);
     let k = gain_back(gain, f, m);
@@ -105,7 +112,8 @@ fn diffuse_r(
     m: usize,
 )
     requires { ⌜ Vectors m (length (now «m_star»)) (length (now «m_inf»)) ⌝ }
-    ensures { λ _. ⌜ rsIn m (now (r0 .exit)) (now (r1 .exit)) ≡ backR m (vec m (now (z .entry))) (rsIn m (now (r0 .entry)) (now (r1 .entry)))
+    ensures { λ _. ⌜ rsIn m (now (r0 .exit)) (now (r1 .exit)) ≡ backR m (vec m (now (z .entry)))
+        (rsIn m (now (r0 .entry)) (now (r1 .entry)))
         (diffuse f «f_inf» (now («m_star» .entry)) (now («m_inf» .entry))) v ⌝ }
 {
     let g = element_back::f_one(f_inf);
@@ -122,47 +130,47 @@ fn diffuse_r(
     *r0 = next0;
 }
 
-// The same of element i, by the record at place k.
+// The same of element i, by its v and its F, and by the M that stands at place k.
 fn usual_at(
     r0: &mut [f64; 8],
     design: &[f64],
-    v: &[f64],
-    f_star: &[f64],
+    v: f64,
+    f: f64,
     m_star: &[f64],
     m: usize,
     i: usize,
     k: usize,
 )
-    requires { ⌜ Entry m i k (length (now design)) (length (now v)) (length (now «f_star»)) (length (now «m_star»)) ⌝ }
-    ensures { λ _. ⌜ vec m (now (r0 .exit)) ≡ usualR m (row m (now (design .entry)) i) (at (now (v .entry)) k) (fOne (at (now («f_star» .entry)) k))
-        (lUsual m (row m (now (design .entry)) i) (at (now («f_star» .entry)) k) (blockAt m (now («m_star» .entry)) k)) (vec m (now (r0 .entry))) ⌝ }
+    requires { ⌜ Entry m i k (length (now design)) (length (now «m_star»)) ⌝ }
+    ensures { λ _. ⌜ vec m (now (r0 .exit)) ≡ usualR m (row m (now (design .entry)) i) v (fOne f)
+        (lUsual m (row m (now (design .entry)) i) f (blockAt m (now («m_star» .entry)) k)) (vec m (now (r0 .entry))) ⌝ }
 {
     let row = i * m;
     let row_end = row + m;
     let from = k * m;
     let to = from + m;
     let z = dense::load8(&design[row..row_end]);
-    usual_r(r0, &z, v[k], f_star[k], &m_star[from..to], m);
+    usual_r(r0, &z, v, f, &m_star[from..to], m);
 }
 
 fn diffuse_at(
     r0: &mut [f64; 8],
     r1: &mut [f64; 8],
     design: &[f64],
-    v: &[f64],
-    f_star: &[f64],
-    f_inf: &[f64],
+    v: f64,
+    f: f64,
+    f_inf: f64,
     m_star: &[f64],
     m_inf: &[f64],
     m: usize,
     i: usize,
     k: usize,
 )
-    requires { ⌜ Entry m i k (length (now design)) (length (now v)) (length (now «f_star»)) (length (now «m_star»))
-        × Entry m i k (length (now design)) (length (now v)) (length (now «f_inf»)) (length (now «m_inf»)) ⌝ }
-    ensures { λ _. ⌜ rsIn m (now (r0 .exit)) (now (r1 .exit)) ≡ backR m (row m (now (design .entry)) i) (rsIn m (now (r0 .entry)) (now (r1 .entry)))
-        (diffuse (at (now («f_star» .entry)) k) (at (now («f_inf» .entry)) k) (blockAt m (now («m_star» .entry)) k) (blockAt m (now («m_inf» .entry)) k))
-        (at (now (v .entry)) k) ⌝ }
+    requires { ⌜ Entry m i k (length (now design)) (length (now «m_star»))
+        × Entry m i k (length (now design)) (length (now «m_inf»)) ⌝ }
+    ensures { λ _. ⌜ rsIn m (now (r0 .exit)) (now (r1 .exit)) ≡ backR m (row m (now (design .entry)) i)
+        (rsIn m (now (r0 .entry)) (now (r1 .entry)))
+        (diffuse f «f_inf» (blockAt m (now («m_star» .entry)) k) (blockAt m (now («m_inf» .entry)) k)) v ⌝ }
 {
     let row = i * m;
     let row_end = row + m;
@@ -173,16 +181,16 @@ fn diffuse_at(
         r0,
         r1,
         &z,
-        v[k],
-        f_star[k],
-        f_inf[k],
+        v,
+        f,
+        f_inf,
         &m_star[from..to],
         &m_inf[from..to],
         m,
     );
 }
 
-// One element back, by its kind: where it was skipped nothing moves.
+// One element back, by the record that stands at place k of the flat parts: where it was skipped nothing moves.
 fn back_element(
     r0: &mut [f64; 8],
     r1: &mut [f64; 8],
@@ -197,14 +205,26 @@ fn back_element(
     i: usize,
     k: usize,
 )
-    requires { ⌜ Element m i k (length (now design)) (length (now v)) (flatIn (now kinds) (now «f_star») (now «f_inf») (now «m_star») (now «m_inf»)) ⌝ }
-    ensures { λ _. ⌜ rsIn m (now (r0 .exit)) (now (r1 .exit)) ≡ backR m (row m (now (design .entry)) i) (rsIn m (now (r0 .entry)) (now (r1 .entry)))
-        (readBack m (flatIn (now (kinds .entry)) (now («f_star» .entry)) (now («f_inf» .entry)) (now («m_star» .entry)) (now («m_inf» .entry))) k) (at (now (v .entry)) k) ⌝ }
+    requires { ⌜ Element m i k (length (now design)) (length (now v))
+        (flatIn (now kinds) (now «f_star») (now «f_inf») (now «m_star») (now «m_inf»)) ⌝ }
+    ensures { λ _. ⌜ rsIn m (now (r0 .exit)) (now (r1 .exit)) ≡ backR m (row m (now (design .entry)) i)
+        (rsIn m (now (r0 .entry)) (now (r1 .entry)))
+        (readBack m (flatIn (now (kinds .entry)) (now («f_star» .entry)) (now («f_inf» .entry))
+        (now («m_star» .entry)) (now («m_inf» .entry))) k) (at (now (v .entry)) k) ⌝ }
 {
-    match kinds[k] {
-        0 => {}
-        1 => usual_at(r0, design, v, f_star, m_star, m, i, k),
-        _ => diffuse_at(r0, r1, design, v, f_star, f_inf, m_star, m_inf, m, i, k),
+    let r = record::from_flat(FlatRecord {
+        kind: kinds[k],
+        v: v[k],
+        f_star: f_star[k],
+        f_inf: f_inf[k],
+    });
+    let kind = r.kind;
+    match kind {
+        Kind::Skipped => {}
+        Kind::Usual(v, f) => usual_at(r0, design, v, f, m_star, m, i, k),
+        Kind::Diffuse(v, f, f_inf) => {
+            diffuse_at(r0, r1, design, v, f, f_inf, m_star, m_inf, m, i, k)
+        }
     }
 }
 
@@ -223,9 +243,12 @@ fn elements_back(
     m: usize,
     t: usize,
 )
-    requires { ⌜ Period p m t (length (now design)) (length (now v)) (flatIn (now kinds) (now «f_star») (now «f_inf») (now «m_star») (now «m_inf»)) ⌝ }
-    ensures { λ _. ⌜ rsIn m (now (r0 .exit)) (now (r1 .exit)) ≡ elementsR m (now (design .entry)) (rsIn m (now (r0 .entry)) (now (r1 .entry)))
-        (pairs (decisionsAt p m (flatIn (now (kinds .entry)) (now («f_star» .entry)) (now («f_inf» .entry)) (now («m_star» .entry)) (now («m_inf» .entry))) t)
+    requires { ⌜ Period p m t (length (now design)) (length (now v))
+        (flatIn (now kinds) (now «f_star») (now «f_inf») (now «m_star») (now «m_inf»)) ⌝ }
+    ensures { λ _. ⌜ rsIn m (now (r0 .exit)) (now (r1 .exit)) ≡ elementsR m (now (design .entry))
+        (rsIn m (now (r0 .entry)) (now (r1 .entry)))
+        (pairs (decisionsAt p m (flatIn (now (kinds .entry)) (now («f_star» .entry)) (now («f_inf» .entry))
+        (now («m_star» .entry)) (now («m_inf» .entry))) t)
         (blockAt p (now (v .entry)) t)) ⌝ }
 {
     let first = t * p;
@@ -285,7 +308,8 @@ fn part_vec(a: &[f64], x: &[f64; 8], m: usize) -> [f64; 8]
 // x + A r.
 fn add_product(x: &mut [f64; 8], a: &[f64], r: &[f64; 8], m: usize)
     requires { ⌜ (m ≤ 8) × (length (now a) ≡ m * m) ⌝ }
-    ensures { λ _. ⌜ vec m (now (x .exit)) ≡ axpy m (vec m (now (x .entry))) 1ᶠ (matVec m (now (a .entry)) (vec m (now (r .entry)))) ⌝ }
+    ensures { λ _. ⌜ vec m (now (x .exit)) ≡ axpy m (vec m (now (x .entry))) 1ᶠ
+        (matVec m (now (a .entry)) (vec m (now (r .entry)))) ⌝ }
 {
     let moved = part_vec(a, r, m);
     dense::axpy(x, 1.0, &moved, m);
@@ -294,7 +318,9 @@ fn add_product(x: &mut [f64; 8], a: &[f64], r: &[f64; 8], m: usize)
 // The same in a diffuse period, and else x as it is.
 fn add_diffuse(x: &mut [f64; 8], live: bool, a: &[f64], r: &[f64; 8], m: usize)
     requires { ⌜ (m ≤ 8) × (length (now a) ≡ m * m) ⌝ }
-    ensures { λ _. ⌜ vec m (now (x .exit)) ≡ cond live (axpy m (vec m (now (x .entry))) 1ᶠ (matVec m (now (a .entry)) (vec m (now (r .entry))))) (vec m (now (x .entry))) ⌝ }
+    ensures { λ _. ⌜ vec m (now (x .exit)) ≡ cond live
+        (axpy m (vec m (now (x .entry))) 1ᶠ (matVec m (now (a .entry)) (vec m (now (r .entry)))))
+        (vec m (now (x .entry))) ⌝ }
 {
     if live {
         add_product(x, a, r, m);
@@ -313,7 +339,8 @@ fn smooth(
     m: usize,
 )
     requires { ⌜ Smoothed m (length (now out)) (length (now pred)) (length (now cov)) (length (now inf)) ⌝ }
-    ensures { λ _. ⌜ now (out .exit) ≡ backA m live (now (cov .entry)) (now (inf .entry)) (now (pred .entry)) (rsIn m (now (r0 .entry)) (now (r1 .entry))) ⌝ }
+    ensures { λ _. ⌜ now (out .exit) ≡ backA m live (now (cov .entry)) (now (inf .entry)) (now (pred .entry))
+        (rsIn m (now (r0 .entry)) (now (r1 .entry))) ⌝ }
 {
     let mut x = dense::load8(pred);
     add_product(&mut x, cov, r0, m);
@@ -333,8 +360,10 @@ fn smooth_at(
     m: usize,
     t: usize,
 )
-    requires { ⌜ (length (now out) ≡ m) × Block m t (length (now «pred_mean»)) (length (now «pred_cov»)) (length (now «pred_inf»)) ⌝ }
-    ensures { λ _. ⌜ now (out .exit) ≡ backA m (ltb t «d_diffuse») (blockAt (m * m) (now («pred_cov» .entry)) t) (blockAt (m * m) (now («pred_inf» .entry)) t)
+    requires { ⌜ (length (now out) ≡ m)
+        × Block m t (length (now «pred_mean»)) (length (now «pred_cov»)) (length (now «pred_inf»)) ⌝ }
+    ensures { λ _. ⌜ now (out .exit) ≡ backA m (ltb t «d_diffuse»)
+        (blockAt (m * m) (now («pred_cov» .entry)) t) (blockAt (m * m) (now («pred_inf» .entry)) t)
         (blockAt m (now («pred_mean» .entry)) t) (rsIn m (now (r0 .entry)) (now (r1 .entry))) ⌝ }
 {
     let mean = t * m;
@@ -359,7 +388,8 @@ fn smooth_at(
 // r0 and r1 by T'.
 fn step_back(r0: &mut [f64; 8], r1: &mut [f64; 8], tr: &[f64; 64], m: usize)
     requires { ⌜ m ≤ 8 ⌝ }
-    ensures { λ _. ⌜ rsIn m (now (r0 .exit)) (now (r1 .exit)) ≡ stepRs m (mat m (now (tr .entry))) (rsIn m (now (r0 .entry)) (now (r1 .entry))) ⌝ }
+    ensures { λ _. ⌜ rsIn m (now (r0 .exit)) (now (r1 .exit)) ≡ stepRs m (mat m (now (tr .entry)))
+        (rsIn m (now (r0 .entry)) (now (r1 .entry))) ⌝ }
 {
     let next0 = dense::mat_t_vec(tr, r0, m);
     let next1 = dense::mat_t_vec(tr, r1, m);
@@ -388,11 +418,16 @@ fn period_back(
     m: usize,
     t: usize,
 )
-    requires { ⌜ (length (now out) ≡ m) × (Block m t (length (now «pred_mean»)) (length (now «pred_cov»)) (length (now «pred_inf»))
-        × Period p m t (length (now design)) (length (now v)) (flatIn (now kinds) (now «f_star») (now «f_inf») (now «m_star») (now «m_inf»))) ⌝ }
-    ensures { λ _. ⌜ _≡_ (now (out .exit), rsIn m (now (r0 .exit)) (now (r1 .exit))) (backMeanOf m (mat m (now (tr .entry))) (now (design .entry)) (rsIn m (now (r0 .entry)) (now (r1 .entry)))
-        (lookedAt p m «d_diffuse» (now («pred_mean» .entry)) (now («pred_cov» .entry)) (now («pred_inf» .entry)) (now (v .entry))
-        (flatIn (now (kinds .entry)) (now («f_star» .entry)) (now («f_inf» .entry)) (now («m_star» .entry)) (now («m_inf» .entry))) t)) ⌝ }
+    requires { ⌜ (length (now out) ≡ m)
+        × (Block m t (length (now «pred_mean»)) (length (now «pred_cov»)) (length (now «pred_inf»))
+        × Period p m t (length (now design)) (length (now v))
+        (flatIn (now kinds) (now «f_star») (now «f_inf») (now «m_star») (now «m_inf»))) ⌝ }
+    ensures { λ _. ⌜ _≡_ (now (out .exit), rsIn m (now (r0 .exit)) (now (r1 .exit)))
+        (backMeanOf m (mat m (now (tr .entry))) (now (design .entry)) (rsIn m (now (r0 .entry)) (now (r1 .entry)))
+        (lookedAt p m «d_diffuse» (now («pred_mean» .entry)) (now («pred_cov» .entry))
+        (now («pred_inf» .entry)) (now (v .entry))
+        (flatIn (now (kinds .entry)) (now («f_star» .entry)) (now («f_inf» .entry))
+        (now («m_star» .entry)) (now («m_inf» .entry))) t)) ⌝ }
 {
     elements_back(
         r0,
@@ -435,11 +470,16 @@ fn loop_back<'a>(
     n: usize,
     listed: usize,
 )
-    requires { ⌜ Periods p m n listed (length (now z)) (length (now zs)) (length (now «pred_mean»)) (length (now «pred_cov»)) (length (now «pred_inf»)) (length (now v))
+    requires { ⌜ Periods p m n listed (length (now z)) (length (now zs)) (length (now «pred_mean»))
+        (length (now «pred_cov»)) (length (now «pred_inf»)) (length (now v))
         (flatIn (now kinds) (now «f_star») (now «f_inf») (now «m_star») (now «m_inf»)) (length (now «sm_mean»)) ⌝ }
-    ensures { λ _. ⌜ Laid (n * m) (join (scanBack (backMean (frameFrom p m (now (z .entry)) (now (zs .entry)) (mat m (now (tr .entry))))) 0 (rsIn m (now (r0 .entry)) (now (r1 .entry)))
-        (looked n p m «d_diffuse» (now («pred_mean» .entry)) (now («pred_cov» .entry)) (now («pred_inf» .entry)) (now (v .entry))
-        (flatIn (now (kinds .entry)) (now («f_star» .entry)) (now («f_inf» .entry)) (now («m_star» .entry)) (now («m_inf» .entry)))) .0))
+    ensures { λ _. ⌜ Laid (n * m)
+        (join (scanBack (backMean (frameFrom p m (now (z .entry)) (now (zs .entry)) (mat m (now (tr .entry))))) 0
+        (rsIn m (now (r0 .entry)) (now (r1 .entry)))
+        (looked n p m «d_diffuse» (now («pred_mean» .entry)) (now («pred_cov» .entry))
+        (now («pred_inf» .entry)) (now (v .entry))
+        (flatIn (now (kinds .entry)) (now («f_star» .entry)) (now («f_inf» .entry))
+        (now («m_star» .entry)) (now («m_inf» .entry)))) .0))
         (now («sm_mean» .entry)) (now («sm_mean» .exit)) ⌝ }
 {
     let mut t = n;
@@ -492,11 +532,15 @@ pub fn mean_back<'a>(
     n: usize,
     listed: usize,
 )
-    requires { ⌜ Ready p m n listed (length (now z)) (length (now zs)) (length (now t)) (length (now «pred_mean»)) (length (now «pred_cov»)) (length (now «pred_inf»)) (length (now v))
+    requires { ⌜ Ready p m n listed (length (now z)) (length (now zs)) (length (now t)) (length (now «pred_mean»))
+        (length (now «pred_cov»)) (length (now «pred_inf»)) (length (now v))
         (flatIn (now kinds) (now «f_star») (now «f_inf») (now «m_star») (now «m_inf»)) (length (now «sm_mean»)) ⌝ }
-    ensures { λ _. ⌜ Laid (n * m) (join (scanBack (backMean (frameFrom p m (now (z .entry)) (now (zs .entry)) (now (t .entry)))) 0 (noRs m)
-        (looked n p m «d_diffuse» (now («pred_mean» .entry)) (now («pred_cov» .entry)) (now («pred_inf» .entry)) (now (v .entry))
-        (flatIn (now (kinds .entry)) (now («f_star» .entry)) (now («f_inf» .entry)) (now («m_star» .entry)) (now («m_inf» .entry)))) .0))
+    ensures { λ _. ⌜ Laid (n * m)
+        (join (scanBack (backMean (frameFrom p m (now (z .entry)) (now (zs .entry)) (now (t .entry)))) 0 (noRs m)
+        (looked n p m «d_diffuse» (now («pred_mean» .entry)) (now («pred_cov» .entry))
+        (now («pred_inf» .entry)) (now (v .entry))
+        (flatIn (now (kinds .entry)) (now («f_star» .entry)) (now («f_inf» .entry))
+        (now («m_star» .entry)) (now («m_inf» .entry)))) .0))
         (now («sm_mean» .entry)) (now («sm_mean» .exit)) ⌝ }
 {
     let tr = dense::load64(t);

@@ -1,47 +1,32 @@
--- Laws for the leaves: the places of a matrix; readings by their kinds.
-use mathlib.Core.Path.{_≡_, refl, sym, _∙_}
+-- Laws for the leaves: the places of a matrix, products of sizes in range, the noise and the start of arrays that hold the inputs.
+use mathlib.Core.Path.{_≡_}
 use mathlib.Core.Bool.{Bool, true, false}
-use mathlib.Core.List.{List, map}
+use mathlib.Core.List.{List}
 use Prim.Native.Nat.{ℕ, _+_, _*_, _≤_, _<_}
 use native.Mathlib.Omega.{arith}
 use native.Mathlib.Nat.{mul-le-mul}
 use lib.ListN.{length}
 use lib.Dec.{eqb}
-use lib.Ieee.{Float, nan, inf, fin}
-use Rattle.definition.specs.Num.{isInfinite}
+use lib.Ieee.{Float}
 use Rattle.definition.specs.Run.{anyOf}
 use Rattle.definition.specs.Dense.{product, transpose, symmetrise}
-use Rattle.definition.specs.Inputs.{isInfinity, classOf, noiseOf, startInf, startRoot, startFrom}
+use Rattle.definition.specs.Inputs.{noiseOf, startInf, startRoot, startFrom}
 use Rattle.laws.specs.Lists.{place-lt}
-use Rattle.laws.specs.Any.{of-cong, of-map}
 use Rattle.laws.specs.Accepted.{InRange}
 use Rattle.dense.specs.Views.{vec, rect}
-use Rattle.dense.proofs.Laws.{loaded-rect}
+use Rattle.dense.proofs.Laws.{area, loaded-rect}
 use Rattle.model.specs.Places.{Place, NoiseFits, StartFits}
 use Rattle.model.specs.Start.{covOf}
-
-pub product-most : {a b : ℕ} → a ≤ 8 → b ≤ 8 → a * b ≤ 64
-product-most {a} {b} h g = mul-le-mul {n₁ = a} {m₁ = b} {n₂ = 8} {m₂ = 8} h g
 
 -- a place lies within its matrix, and is small
 pub place-in : {k size i j : ℕ} → Place k size i j → i * k + j < size
 place-in {k} {size} {i} {j} h = omega (arith, place-lt k k i j (h .row) (h .col), h .whole)
 
 pub place-most : {k size i j : ℕ} → Place k size i j → i * k + j < 64
-place-most {k} {size} {i} {j} h = omega (arith, place-lt k k i j (h .row) (h .col), product-most (h .most) (h .most))
+place-most {k} {size} {i} {j} h = omega (arith, place-lt k k i j (h .row) (h .col), area (h .most) (h .most))
 
 pub product-some : {a b : ℕ} → 0 < a → 0 < b → 0 < a * b
 product-some {a} {b} h g = mul-le-mul {n₁ = 1} {m₁ = 1} {n₂ = a} {m₂ = b} h g
-
--- an infinite reading, by its kind
-infinite-kind : (x : Float) → isInfinite x ≡ isInfinity (classOf x)
-unfolding isInfinite classOf
-infinite-kind nan = refl
-infinite-kind (inf s) = refl
-infinite-kind (fin s m e) = refl
-
-pub infinite-kinds : (y : List Float) → anyOf isInfinite y ≡ anyOf isInfinity (map classOf y)
-infinite-kinds y = of-cong isInfinite (λ (x : Float). isInfinity (classOf x)) y infinite-kind ∙ sym (of-map isInfinity classOf y)
 
 -- sizes in range: their products are small
 pub record Small (p m r n : ℕ) : Type 0 where
@@ -57,14 +42,14 @@ pub record Small (p m r n : ℕ) : Type 0 where
 
 pub small : {p m r n : ℕ} → InRange p m r n → Small p m r n
 small {p} {m} {r} {n} i =
-    let pm = product-most (i .p8) (i .m8) in
-    let mm = product-most (i .m8) (i .m8) in
+    let pm = area (i .p8) (i .m8) in
+    let mm = area (i .m8) (i .m8) in
     record {
-      pp = product-most (i .p8) (i .p8);
+      pp = area (i .p8) (i .p8);
       pm = pm;
       mm = mm;
-      mr = product-most (i .m8) (i .r8);
-      rr = product-most (i .r8) (i .r8);
+      mr = area (i .m8) (i .r8);
+      rr = area (i .r8) (i .r8);
       np = mul-le-mul {n₁ = n} {m₁ = p} {n₂ = 4096} {m₂ = 8} (i .n4096) (i .p8);
       nm = mul-le-mul {n₁ = n} {m₁ = m} {n₂ = 4096} {m₂ = 8} (i .n4096) (i .m8);
       npm = mul-le-mul {n₁ = n} {m₁ = p * m} {n₂ = 4096} {m₂ = 64} (i .n4096) pm;

@@ -11,18 +11,26 @@ use Rattle.definition.specs.Refusals.{outside, designFits, inputsFit, firstOf, 
 use Rattle.definition.specs.Parts.{predCov, predInf, filtCov, fStar, fInf, mStar, mInf, predMean, filtMean, innovations}
 use Rattle.definition.specs.Outcome.{CovParts, MeanParts, kindsNeed, covNeed, meanNeed, smoothedCovNeed, smoothedMeanNeed, roomy, roomySmoothed}
 
--- of the inputs: Z, Zs, H, T, R, Q, c, d, a1, P* and the flags
-unfoldable pub lengthsFit : ℕ → ℕ → ℕ → ℕ → ℕ → ℕ → ℕ → ℕ → ℕ → ℕ → ℕ → ℕ → ℕ → ℕ → Bool
-lengthsFit p m r z zs h t rr q c d a1 p* flags =
-    designFits (p * m) z zs && eqb h (p * p) && eqb t (m * m) && eqb rr (m * r) && eqb q (r * r) && eqb c m && eqb d p && eqb a1 m && eqb p* (m * m)
+-- of the inputs: Z, Zs, H, T, R, Q, c, d, a1, P*, the flags and the readings
+unfoldable pub lengthsFit : (p m r n z zs h t rr q c d a1 p* flags y : ℕ) → Bool
+lengthsFit p m r n z zs h t rr q c d a1 p* flags y =
+    designFits (p * m) z zs && eqb h (p * p) && eqb t (m * m) && eqb rr (m * r) && eqb q (r * r) && eqb c m && eqb d p
+    && eqb a1 m
+    && eqb p* (m * m)
     && eqb flags m
+    && eqb y (n * p)
 
--- of the filter's outputs, in the order of the call: predicted mean, covariance and diffuse covariance, filtered mean and covariance, kinds, v, F*,
--- F∞, M*, M∞
-unfoldable pub rooms : ℕ → ℕ → ℕ → ℕ → ℕ → ℕ → ℕ → ℕ → ℕ → ℕ → ℕ → ℕ → ℕ → ℕ → Bool
+-- of the filter's outputs, in the order of the call: predicted mean, covariance and diffuse covariance, filtered mean and
+-- covariance, kinds, v, F*, F∞, M*, M∞
+unfoldable pub rooms : (p m n pm pc pi fm fc ks vs fs fi ms mi : ℕ) → Bool
 rooms p m n pm pc pi fm fc ks vs fs fi ms mi =
-    leb (n * p) ks && leb (n * (m * m) + m * m) pc && leb (n * (m * m) + m * m) pi && leb (n * (m * m)) fc && leb (n * p) fs && leb (n * p) fi
-    && leb (n * (p * m)) ms && leb (n * (p * m)) mi && leb (n * m + m) pm && leb (n * m) fm && leb (n * p) vs
+    leb (n * p) ks && leb (n * (m * m) + m * m) pc && leb (n * (m * m) + m * m) pi && leb (n * (m * m)) fc && leb (n * p) fs
+    && leb (n * p) fi
+    && leb (n * (p * m)) ms
+    && leb (n * (p * m)) mi
+    && leb (n * m + m) pm
+    && leb (n * m) fm
+    && leb (n * p) vs
 
 -- and of the smoother's two, covariance and mean
 unfoldable pub roomsSmoothed : ℕ → ℕ → Bool → ℕ → ℕ → Bool
@@ -30,38 +38,57 @@ roomsSmoothed m n room sm sc = room && leb (n * (m * m)) sc && leb (n * m) sm
 
 -- ---- they are the definition's
 
-pub lengths-fit : (x : Model) (o : Offsets) → inputsFit x o ≡ lengthsFit (x .p) (x .m) (x .r) (length (x .zOnce)) (length (x .zList)) (length (x .h)) (length (x .t)) (length (x .rr)) (length (x .q)) (length (o .c)) (length (o .d)) (length (o .a1)) (length (x .pStar)) (length (x .flags))
+pub lengths-fit : (x : Model) (o : Offsets) (y : ℕ)
+    → (inputsFit x o && eqb y (x .n * x .p))
+    ≡ lengthsFit (x .p) (x .m) (x .r) (x .n) (length (x .zOnce)) (length (x .zList)) (length (x .h)) (length (x .t))
+    (length (x .rr)) (length (x .q)) (length (o .c)) (length (o .d)) (length (o .a1)) (length (x .pStar)) (length (x .flags)) y
 unfolding inputsFit lengthsFit
-lengths-fit x o = refl
+lengths-fit x o y = refl
 
-pub rooms-are : (x : Model) (b : CovParts) (b′ : MeanParts) → roomy x b b′ ≡ rooms (x .p) (x .m) (x .n) (length (b′ predMean)) (length (b .part predCov)) (length (b .part predInf)) (length (b′ filtMean)) (length (b .part filtCov)) (length (b .kinds)) (length (b′ innovations)) (length (b .part fStar)) (length (b .part fInf)) (length (b .part mStar)) (length (b .part mInf))
+-- the rooms of lent parts
+abbrev pub roomsOf : Model → CovParts → MeanParts → Bool
+roomsOf x b b′ =
+    rooms (x .p) (x .m) (x .n) (length (b′ predMean)) (length (b .part predCov)) (length (b .part predInf)) (length (b′ filtMean))
+    (length (b .part filtCov)) (length (b .kinds)) (length (b′ innovations)) (length (b .part fStar)) (length (b .part fInf))
+    (length (b .part mStar)) (length (b .part mInf))
+
+pub rooms-are : (x : Model) (b : CovParts) (b′ : MeanParts) → roomy x b b′ ≡ roomsOf x b b′
 unfolding roomy kindsNeed covNeed meanNeed rooms
 rooms-are x b b′ = refl
 
-pub rooms-smoothed-are : (x : Model) (b : CovParts) (b′ : MeanParts) (sc sm : List Float) → roomySmoothed x b b′ sc sm ≡ roomsSmoothed (x .m) (x .n) (roomy x b b′) (length sm) (length sc)
+pub rooms-smoothed-are : (x : Model) (b : CovParts) (b′ : MeanParts) (sm sc : List Float)
+    → roomySmoothed x b b′ sm sc ≡ roomsSmoothed (x .m) (x .n) (roomy x b b′) (length sm) (length sc)
 unfolding roomySmoothed smoothedCovNeed smoothedMeanNeed roomsSmoothed
-rooms-smoothed-are x b b′ sc sm = refl
+rooms-smoothed-are x b b′ sm sc = refl
 
 -- ---- what the code's `room` and `room_smoothed` do for the refusal's number
 
--- out of range, refusal 1 comes first: the room is not asked
-room-unseen : (x : Model) (o : Offsets) (readings : ℕ) (infinity : Bool) {room room′ : Bool} → (outside (x .p) (x .m) (x .r) (x .n) ≡ false → room ≡ room′) → refusal x o readings infinity room ≡ refusal x o readings infinity room′
-unfolding refusal tests firstOf
-room-unseen x o readings infinity {room} {room′} h = by-test (outside (x .p) (x .m) (x .r) (x .n)) refl
-  where
-    by-test : (t : Bool) → outside (x .p) (x .m) (x .r) (x .n) ≡ t → refusal x o readings infinity room ≡ refusal x o readings infinity room′
-    by-test true e = rw e refl
-    by-test false e = ap (refusal x o readings infinity) (h e)
+module _ (x : Model) (o : Offsets) (readings : ℕ) (infinity : Bool) where
+  abbrev within : Type 0
+  within = outside (x .p) (x .m) (x .r) (x .n) ≡ false
 
-module _ (x : Model) (o : Offsets) (readings : ℕ) (infinity : Bool) (b : CovParts) (b′ : MeanParts) where
-  -- what `room` ensures
-  abbrev pub Room : Bool → Type 0
-  Room room = outside (x .p) (x .m) (x .r) (x .n) ≡ false → room ≡ rooms (x .p) (x .m) (x .n) (length (b′ predMean)) (length (b .part predCov)) (length (b .part predInf)) (length (b′ filtMean)) (length (b .part filtCov)) (length (b .kinds)) (length (b′ innovations)) (length (b .part fStar)) (length (b .part fInf)) (length (b .part mStar)) (length (b .part mInf))
+  -- out of range, refusal 1 comes first: the room is not asked
+  room-unseen : {room room′ : Bool} → (within → room ≡ room′) → refusal x o readings infinity room ≡ refusal x o readings infinity room′
+  unfolding refusal tests firstOf
+  room-unseen {room} {room′} h = by-test (outside (x .p) (x .m) (x .r) (x .n)) refl
+    where
+      by-test : (t : Bool) → outside (x .p) (x .m) (x .r) (x .n) ≡ t
+          → refusal x o readings infinity room ≡ refusal x o readings infinity room′
+      by-test true e = rw e refl
+      by-test false e = ap (refusal x o readings infinity) (h e)
 
-  pub by-room : {room : Bool} → Room room → refusal x o readings infinity room ≡ refusal x o readings infinity (roomy x b b′)
-  by-room h = room-unseen x o readings infinity (λ e. h e ∙ sym (rooms-are x b b′))
+  module _ (b : CovParts) (b′ : MeanParts) where
+    -- what `room` ensures
+    abbrev pub Room : Bool → Type 0
+    Room room = within → room ≡ roomsOf x b b′
 
-  -- and `room_smoothed`
-  pub by-room-smoothed : (sm sc : List Float) {room both : Bool} → Room room → (outside (x .p) (x .m) (x .r) (x .n) ≡ false → both ≡ roomsSmoothed (x .m) (x .n) room (length sm) (length sc)) → refusal x o readings infinity both ≡ refusal x o readings infinity (roomySmoothed x b b′ sc sm)
-  by-room-smoothed sm sc h g =
-      room-unseen x o readings infinity (λ e. g e ∙ ap (λ (w : Bool). roomsSmoothed (x .m) (x .n) w (length sm) (length sc)) (h e ∙ sym (rooms-are x b b′)) ∙ sym (rooms-smoothed-are x b b′ sc sm))
+    pub by-room : {room : Bool} → Room room → refusal x o readings infinity room ≡ refusal x o readings infinity (roomy x b b′)
+    by-room h = room-unseen (λ e. h e ∙ sym (rooms-are x b b′))
+
+    -- and `room_smoothed`
+    pub by-room-smoothed : (sm sc : List Float) {room both : Bool} → Room room
+        → (within → both ≡ roomsSmoothed (x .m) (x .n) room (length sm) (length sc))
+        → refusal x o readings infinity both ≡ refusal x o readings infinity (roomySmoothed x b b′ sm sc)
+    by-room-smoothed sm sc h g =
+        let rooms : Bool → Bool = λ w. roomsSmoothed (x .m) (x .n) w (length sm) (length sc) in
+        room-unseen (λ e. g e ∙ ap rooms (h e ∙ sym (rooms-are x b b′)) ∙ sym (rooms-smoothed-are x b b′ sm sc))

@@ -1,4 +1,3 @@
-pub mod Given
 pub mod Lengths
 pub mod Design
 pub mod Places

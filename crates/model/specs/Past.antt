@@ -1,14 +1,15 @@
--- A call past refusals 1 and 2 may ask for the design, the noise and the start.
+-- A call past refusals 1 and 2 may ask for the later ones, the design, the noise and the start.
 use mathlib.Core.Path.{_≡_}
 use Prim.Native.Nat.{ℕ, _*_, _/_}
 use lib.ListN.{length}
 use Rattle.definition.specs.Inputs.{Model, Offsets}
 use Rattle.laws.specs.Accepted.{InRange, InputsFit}
-use Rattle.model.specs.Places.{NoiseFits, StartFits}
+use Rattle.model.specs.Places.{Square, NoiseFits, StartFits, SystemFits, StartGiven, StepFits}
 use Rattle.model.specs.Design.{DesignFits}
 
 module _ {x : Model} {o : Offsets} (sizes : InRange (x .p) (x .m) (x .r) (x .n)) (inputs : InputsFit x o) where
-  pub design-fits : {listed : ℕ} → listed ≡ length (x .zList) / (x .p * x .m) → DesignFits (x .p) (x .m) (length (x .zOnce)) (length (x .zList)) listed
+  pub design-fits : {listed : ℕ} → listed ≡ length (x .zList) / (x .p * x .m)
+      → DesignFits (x .p) (x .m) (length (x .zOnce)) (length (x .zList)) listed
   design-fits e = record { p0 = sizes .p0; p8 = sizes .p8; m0 = sizes .m0; m8 = sizes .m8; designs = inputs .design; counted = e }
 
   pub noise-fits : NoiseFits (x .m) (x .r) (length (x .rr)) (length (x .q))
@@ -16,3 +17,15 @@ module _ {x : Model} {o : Offsets} (sizes : InRange (x .p) (x .m) (x .r) (x .n))
 
   pub start-fits : StartFits (x .m) (length (x .pStar)) (length (x .flags))
   start-fits = record { m8 = sizes .m8; p* = inputs .pStar; flags = inputs .flags }
+
+  pub h-fits : Square (x .p) (length (x .h))
+  h-fits = record { most = sizes .p8; whole = inputs .h }
+
+  pub system-fits : SystemFits (x .p) (x .r) (length (x .h)) (length (x .q))
+  system-fits = record { h = h-fits; q = record { most = sizes .r8; whole = inputs .q } }
+
+  pub start-given : StartGiven (x .m) (length (o .a1)) (length (x .pStar)) (length (x .flags))
+  start-given = record { p* = record { most = sizes .m8; whole = inputs .pStar }; a1 = inputs .a1; flags = inputs .flags }
+
+  pub step-fits : StepFits (x .m) (x .r) (length (x .t)) (length (x .rr)) (length (x .q)) (length (x .flags))
+  step-fits = record { t = record { most = sizes .m8; whole = inputs .t }; flags = inputs .flags; noise = noise-fits }

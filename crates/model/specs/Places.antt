@@ -1,4 +1,4 @@
--- What the leaves may read.
+-- What the functions require of the lengths of the parts that they read.
 use mathlib.Core.Path.{_≡_}
 use Prim.Native.Nat.{ℕ, _*_, _≤_, _<_}
 
@@ -19,6 +19,11 @@ pub record Place (k size i j : ℕ) : Type 0 where
   pub row : i < k
   pub col : j < k
 
+-- H of p by p and Q of r by r
+pub record SystemFits (p r size-h size-q : ℕ) : Type 0 where
+  pub h : Square p size-h
+  pub q : Square r size-q
+
 -- R of m by r and Q of r by r
 pub record NoiseFits (m r size-rr size-q : ℕ) : Type 0 where
   pub m8 : m ≤ 8
@@ -31,3 +36,15 @@ pub record StartFits (m size-p* size-flags : ℕ) : Type 0 where
   pub m8 : m ≤ 8
   pub p* : size-p* ≡ m * m
   pub flags : size-flags ≡ m
+
+-- and a1 with them
+pub record StartGiven (m size-a1 size-p* size-flags : ℕ) : Type 0 where
+  pub p* : Square m size-p*
+  pub a1 : size-a1 ≡ m
+  pub flags : size-flags ≡ m
+
+-- T of m by m, a flag for each state, R and Q
+pub record StepFits (m r size-t size-rr size-q size-flags : ℕ) : Type 0 where
+  pub t : Square m size-t
+  pub flags : size-flags ≡ m
+  pub noise : NoiseFits m r size-rr size-q

@@ -1,4 +1,5 @@
-// The diffuse start by the flags: P∞ is 1 on the diagonal at each flag, and column j of its root belongs to the j-th flagged state.
+// The diffuse start by the flags: P∞ is 1 on the diagonal at each flag, and column j of its root belongs to the j-th
+// flagged state.
 ghost use mathlib.Core.Path.{_≡_};
 ghost use mathlib.Core.Bool.{cond};
 ghost use Prim.Native.Nat.{_≤_, _<_, _+_};
@@ -16,6 +17,7 @@ fn one_if(b: bool) -> f64
     if b { 1.0 } else { 0.0 }
 }
 
+// k, and one more where b holds: a count of flags goes on.
 fn one_more_if(b: bool, k: usize) -> usize
     requires { ⌜ k < 8 ⌝ }
     ensures { λ r. ⌜ r ≡ cond b 1 0 + k ⌝ }
@@ -23,6 +25,7 @@ fn one_more_if(b: bool, k: usize) -> usize
     if b { k + 1 } else { k }
 }
 
+// Some state is diffuse.
 pub fn any_flag(flags: &[u8]) -> bool
     ensures { λ r. ⌜ r ≡ anyOf (eqb 1) (now (flags .entry)) ⌝ }
 {

@@ -1,6 +1,5 @@
-// Refusals 3 to 10: the entries of the lent parts.
+// The tests of refusals 3 to 10: the entries of the lent parts. Each is the definition's test of the same name.
 ghost use mathlib.Core.Path.{_≡_};
-ghost use mathlib.Core.Bool.{_||_};
 ghost use mathlib.Core.List.{map};
 ghost use Prim.Native.Nat.{_<_};
 ghost use lib.ListN.{length};
@@ -9,7 +8,10 @@ ghost use Rattle.definition.specs.Run.{anyOf, anyTo};
 ghost use Rattle.definition.specs.Inputs.{isFlagged, isInfinity, classOf};
 ghost use Rattle.definition.specs.Refusals.{
   notFinite,
+  badSystem,
+  badStart,
   negative,
+  notPsd,
   offAt,
   offRow,
   offDiagonal,
@@ -26,6 +28,7 @@ ghost use Rattle.model.specs.Places.{Square, Row, Place};
 
 // ---- lists
 
+// Some entry is NaN or an infinity.
 pub fn not_finite(a: &[f64]) -> bool
     ensures { λ r. ⌜ r ≡ notFinite (now (a .entry)) ⌝ }
 {
@@ -36,18 +39,22 @@ pub fn not_finite(a: &[f64]) -> bool
     found
 }
 
+// 3: in a design, H, T, R or Q.
 pub fn bad_system(z: &[f64], zs: &[f64], h: &[f64], t: &[f64], rr: &[f64], q: &[f64]) -> bool
-    ensures { λ r. ⌜ r ≡ (notFinite (now (z .entry)) || notFinite (now (zs .entry)) || notFinite (now (h .entry)) || notFinite (now (t .entry)) || notFinite (now (rr .entry)) || notFinite (now (q .entry))) ⌝ }
+    ensures { λ r. ⌜ r ≡ badSystem (now (z .entry)) (now (zs .entry)) (now (h .entry)) (now (t .entry))
+        (now (rr .entry)) (now (q .entry)) ⌝ }
 {
     not_finite(z) | not_finite(zs) | not_finite(h) | not_finite(t) | not_finite(rr) | not_finite(q)
 }
 
+// 6: in c, d, a1 or P*.
 pub fn bad_start(c: &[f64], d: &[f64], a1: &[f64], p_star: &[f64]) -> bool
-    ensures { λ r. ⌜ r ≡ (notFinite (now (c .entry)) || notFinite (now (d .entry)) || notFinite (now (a1 .entry)) || notFinite (now («p_star» .entry))) ⌝ }
+    ensures { λ r. ⌜ r ≡ badStart (now (c .entry)) (now (d .entry)) (now (a1 .entry)) (now («p_star» .entry)) ⌝ }
 {
     not_finite(c) | not_finite(d) | not_finite(a1) | not_finite(p_star)
 }
 
+// 9: some reading is infinite. A NaN is a gap, and passes.
 pub fn any_infinite(y: &[f64]) -> bool
     ensures { λ r. ⌜ r ≡ anyOf isInfinity (map classOf (now (y .entry))) ⌝ }
 {
@@ -58,6 +65,7 @@ pub fn any_infinite(y: &[f64]) -> bool
     found
 }
 
+// Some flag is above 1.
 fn bad_flag(flags: &[u8]) -> bool
     ensures { λ r. ⌜ r ≡ anyOf badFlag (now (flags .entry)) ⌝ }
 {
@@ -70,6 +78,7 @@ fn bad_flag(flags: &[u8]) -> bool
 
 // ---- square matrices
 
+// Entry (i, j) of a k by k matrix.
 fn entry(a: &[f64], k: usize, i: usize, j: usize) -> f64
     requires { ⌜ Place k (length (now a)) i j ⌝ }
     ensures { λ r. ⌜ r ≡ ent k (now (a .entry)) i j ⌝ }
@@ -84,7 +93,7 @@ pub fn is_flagged(flags: &[u8], i: usize) -> bool
     flags[i] == 1
 }
 
-// A diagonal entry is below 0.
+// Some diagonal entry is below 0; neither zero is.
 fn negative(a: &[f64], k: usize) -> bool
     requires { ⌜ Square k (length (now a)) ⌝ }
     ensures { λ r. ⌜ r ≡ negative k (now (a .entry)) ⌝ }
@@ -96,13 +105,15 @@ fn negative(a: &[f64], k: usize) -> bool
     found
 }
 
+// 4: of H or Q.
 pub fn not_psd(h: &[f64], q: &[f64], p: usize, r: usize) -> bool
     requires { ⌜ Square p (length (now h)) × Square r (length (now q)) ⌝ }
-    ensures { λ b. ⌜ b ≡ (negative p (now (h .entry)) || negative r (now (q .entry))) ⌝ }
+    ensures { λ b. ⌜ b ≡ notPsd p (now (h .entry)) r (now (q .entry)) ⌝ }
 {
     negative(h, p) | negative(q, r)
 }
 
+// Entry (i, j) is off the diagonal, and is not 0.
 fn off_at(a: &[f64], k: usize, i: usize, j: usize) -> bool
     requires { ⌜ Place k (length (now a)) i j ⌝ }
     ensures { λ r. ⌜ r ≡ offAt k (now (a .entry)) i j ⌝ }
@@ -110,6 +121,7 @@ fn off_at(a: &[f64], k: usize, i: usize, j: usize) -> bool
     (i != j) & (entry(a, k, i, j) != 0.0)
 }
 
+// Such an entry stands in row i.
 fn off_row(a: &[f64], k: usize, i: usize) -> bool
     requires { ⌜ Row k (length (now a)) i ⌝ }
     ensures { λ r. ⌜ r ≡ offRow k (now (a .entry)) i ⌝ }
@@ -121,7 +133,7 @@ fn off_row(a: &[f64], k: usize, i: usize) -> bool
     found
 }
 
-// An entry off the diagonal is not 0.
+// 5 and 8: such an entry stands anywhere.
 pub fn off_diagonal(a: &[f64], k: usize) -> bool
     requires { ⌜ Square k (length (now a)) ⌝ }
     ensures { λ r. ⌜ r ≡ offDiagonal k (now (a .entry)) ⌝ }
@@ -135,6 +147,7 @@ pub fn off_diagonal(a: &[f64], k: usize) -> bool
 
 // ---- the start
 
+// P* is not mirrored at (i, j), or state i is flagged and has a number there, in its row or its column.
 fn shape_at(p_star: &[f64], flags: &[u8], m: usize, i: usize, j: usize) -> bool
     requires { ⌜ Place m (length (now «p_star»)) i j × (length (now flags) ≡ m) ⌝ }
     ensures { λ r. ⌜ r ≡ shapeAt m (now («p_star» .entry)) (now (flags .entry)) i j ⌝ }
@@ -144,6 +157,7 @@ fn shape_at(p_star: &[f64], flags: &[u8], m: usize, i: usize, j: usize) -> bool
     (x != y) | is_flagged(flags, i) & !((x == 0.0) & (y == 0.0))
 }
 
+// The same at any j.
 fn shape_row(p_star: &[f64], flags: &[u8], m: usize, i: usize) -> bool
     requires { ⌜ Row m (length (now «p_star»)) i × (length (now flags) ≡ m) ⌝ }
     ensures { λ r. ⌜ r ≡ shapeRow m (now («p_star» .entry)) (now (flags .entry)) i ⌝ }
@@ -155,6 +169,7 @@ fn shape_row(p_star: &[f64], flags: &[u8], m: usize, i: usize) -> bool
     found
 }
 
+// State i: a negative diagonal entry of P*, a start mean beside its flag, or a bad row.
 fn shape_of(p_star: &[f64], flags: &[u8], a1: &[f64], m: usize, i: usize) -> bool
     requires { ⌜ Row m (length (now «p_star»)) i × (length (now flags) ≡ m) × (length (now a1) ≡ m) ⌝ }
     ensures { λ r. ⌜ r ≡ shapeOf m (now («p_star» .entry)) (now (flags .entry)) (now (a1 .entry)) i ⌝ }
@@ -163,6 +178,7 @@ fn shape_of(p_star: &[f64], flags: &[u8], a1: &[f64], m: usize, i: usize) -> boo
     below | is_flagged(flags, i) & (a1[i] != 0.0) | shape_row(p_star, flags, m, i)
 }
 
+// The same of any state.
 fn misshapen(p_star: &[f64], flags: &[u8], a1: &[f64], m: usize) -> bool
     requires { ⌜ Square m (length (now «p_star»)) × (length (now flags) ≡ m) × (length (now a1) ≡ m) ⌝ }
     ensures { λ r. ⌜ r ≡ anyTo m (shapeOf m (now («p_star» .entry)) (now (flags .entry)) (now (a1 .entry))) ⌝ }
@@ -174,7 +190,7 @@ fn misshapen(p_star: &[f64], flags: &[u8], a1: &[f64], m: usize) -> bool
     found
 }
 
-// A flag above 1; P* not mirrored as numbers, or with a negative diagonal entry; a flagged state with non-zero a1 or a non-zero row or column.
+// 7: a bad flag or a misshapen state.
 pub fn start_shape(p_star: &[f64], flags: &[u8], a1: &[f64], m: usize) -> bool
     requires { ⌜ Square m (length (now «p_star»)) × (length (now flags) ≡ m) × (length (now a1) ≡ m) ⌝ }
     ensures { λ r. ⌜ r ≡ startShape m (now («p_star» .entry)) (now (flags .entry)) (now (a1 .entry)) ⌝ }
@@ -184,6 +200,7 @@ pub fn start_shape(p_star: &[f64], flags: &[u8], a1: &[f64], m: usize) -> bool
 
 // ---- T
 
+// T drives state i, which is not flagged, by state j, which is.
 fn driven_at(t: &[f64], flags: &[u8], m: usize, i: usize, j: usize) -> bool
     requires { ⌜ Place m (length (now t)) i j × (length (now flags) ≡ m) ⌝ }
     ensures { λ r. ⌜ r ≡ drivenAt m (now (t .entry)) (now (flags .entry)) i j ⌝ }
@@ -191,6 +208,7 @@ fn driven_at(t: &[f64], flags: &[u8], m: usize, i: usize, j: usize) -> bool
     !is_flagged(flags, i) & is_flagged(flags, j) & (entry(t, m, i, j) != 0.0)
 }
 
+// The same at any j.
 fn driven_row(t: &[f64], flags: &[u8], m: usize, i: usize) -> bool
     requires { ⌜ Row m (length (now t)) i × (length (now flags) ≡ m) ⌝ }
     ensures { λ r. ⌜ r ≡ drivenRow m (now (t .entry)) (now (flags .entry)) i ⌝ }
@@ -202,7 +220,7 @@ fn driven_row(t: &[f64], flags: &[u8], m: usize, i: usize) -> bool
     found
 }
 
-// T at (unflagged, flagged) is not 0.
+// 10: the same of any state.
 pub fn mixed_driven(t: &[f64], flags: &[u8], m: usize) -> bool
     requires { ⌜ Square m (length (now t)) × (length (now flags) ≡ m) ⌝ }
     ensures { λ r. ⌜ r ≡ mixedDriven m (now (t .entry)) (now (flags .entry)) ⌝ }

@@ -1,4 +1,4 @@
-// Refusals 1 and 2: the sizes, and the lengths of the lent parts.
+// The tests of refusals 1 and 2: the sizes, and the lengths of the lent parts.
 ghost use mathlib.Core.Path.{_≡_};
 ghost use mathlib.Core.Bool.{false};
 ghost use Prim.Native.Nat.{_<_};
@@ -6,12 +6,14 @@ ghost use Rattle.definition.specs.Refusals.{beyond, outside, designFits};
 ghost use Rattle.laws.specs.Accepted.{InRange};
 ghost use Rattle.model.specs.Lengths.{lengthsFit, rooms, roomsSmoothed};
 
+// k is not 1 to top.
 fn beyond(top: usize, k: usize) -> bool
     ensures { λ r. ⌜ r ≡ beyond top k ⌝ }
 {
     (k == 0) | (top < k)
 }
 
+// 1: a size is out of its range.
 pub fn outside(p: usize, m: usize, r: usize, n: usize) -> bool
     ensures { λ b. ⌜ b ≡ outside p m r n ⌝ }
 {
@@ -27,6 +29,7 @@ fn design_fits(pm: usize, once: usize, list: usize) -> bool
     (once == pm) & (list == 0) | (once == 0) & (list == k * pm) & (k != 0) & (k <= 4096)
 }
 
+// 2, but for the outputs: each input has its length.
 pub fn lengths_fit(
     p: usize,
     m: usize,
@@ -43,9 +46,10 @@ pub fn lengths_fit(
     a1: usize,
     p_star: usize,
     flags: usize,
+    y: usize,
 ) -> bool
     requires { ⌜ InRange p m r n ⌝ }
-    ensures { λ b. ⌜ b ≡ lengthsFit p m r z zs h t rr q c d a1 «p_star» flags ⌝ }
+    ensures { λ b. ⌜ b ≡ lengthsFit p m r n z zs h t rr q c d a1 «p_star» flags y ⌝ }
 {
     let design = design_fits(p * m, z, zs);
     design
@@ -58,8 +62,10 @@ pub fn lengths_fit(
         & (a1 == m)
         & (p_star == m * m)
         & (flags == m)
+        & (y == n * p)
 }
 
+// Each of the filter's outputs is as long as needed, for sizes in range.
 fn rooms(
     p: usize,
     m: usize,
@@ -78,7 +84,8 @@ fn rooms(
     m_inf: usize,
 ) -> bool
     requires { ⌜ InRange p m r n ⌝ }
-    ensures { λ b. ⌜ b ≡ rooms p m n «pred_mean» «pred_cov» «pred_inf» «filt_mean» «filt_cov» kinds v «f_star» «f_inf» «m_star» «m_inf» ⌝ }
+    ensures { λ b. ⌜ b ≡ rooms p m n «pred_mean» «pred_cov» «pred_inf» «filt_mean» «filt_cov»
+        kinds v «f_star» «f_inf» «m_star» «m_inf» ⌝ }
 {
     let np = n * p;
     let nm = n * m;
@@ -98,7 +105,7 @@ fn rooms(
         & (np <= v)
 }
 
-// Each of the filter's outputs is as long as needed, by their lengths. Where the sizes are out of range nothing is promised: refusal 1 comes first.
+// The same for any sizes. Where they are out of range nothing is promised: refusal 1 comes first.
 pub fn room(
     p: usize,
     m: usize,
@@ -116,7 +123,9 @@ pub fn room(
     m_star: usize,
     m_inf: usize,
 ) -> bool
-    ensures { λ b. ⌜ (outside p m r n ≡ false → b ≡ rooms p m n «pred_mean» «pred_cov» «pred_inf» «filt_mean» «filt_cov» kinds v «f_star» «f_inf» «m_star» «m_inf») ⌝ }
+    ensures { λ b. ⌜ (outside p m r n ≡ false →
+        b ≡ rooms p m n «pred_mean» «pred_cov» «pred_inf» «filt_mean» «filt_cov»
+        kinds v «f_star» «f_inf» «m_star» «m_inf») ⌝ }
 {
     if outside(p, m, r, n) {
         return false;
@@ -140,6 +149,7 @@ pub fn room(
     )
 }
 
+// The same of the smoother's outputs, for sizes in range; `room` is the filter's.
 fn rooms_smoothed(
     p: usize,
     m: usize,
@@ -155,7 +165,7 @@ fn rooms_smoothed(
     room & (n * (m * m) <= sm_cov) & (n * m <= sm_mean)
 }
 
-// The same of the smoother's outputs; `room` is the filter's.
+// And for any sizes.
 pub fn room_smoothed(
     p: usize,
     m: usize,

@@ -5,20 +5,22 @@ ghost use Prim.Native.Nat.{_<_, _≤_, _-_, _*_, _/_, min};
 ghost use lib.ListN.{length};
 ghost use Rattle.definition.specs.Run.{anyOf};
 ghost use Rattle.definition.specs.Inputs.{designFrom, noiseOf, startFrom, isInfinity, classOf};
-ghost use Rattle.definition.specs.Refusals.{notFinite, refusal};
+ghost use Rattle.definition.specs.Refusals.{refusal};
 ghost use Rattle.dense.specs.Views.{mat};
-ghost use Rattle.model.specs.Given.{modelOf, offsetsOf};
+ghost use Rattle.promise.specs.Lent.{modelOf, offsetsOf};
 ghost use Rattle.model.specs.Design.{DesignFits};
 ghost use Rattle.model.specs.Places.{NoiseFits, StartFits};
 ghost use Rattle.model.specs.Start.{covOf};
 
 mod diffuse; // P∞ and its root
-mod entries; // refusals 3 to 10
-pub mod lengths; // refusals 1 and 2
+mod entries; // the tests of refusals 3 to 10
+pub mod lengths; // the tests of refusals 1 and 2
+pub mod refusals; // the refusals by segments
 
 // ---- the checks
 
-// The number of the first refusal that applies, by document 01's table; 0 for none. `room` is what lengths::room says of the outputs.
+// The number of the first refusal that applies, by document 01's table; 0 for none. The order is the filter's and the
+// smoother's; `room` is what lengths::room, or lengths::room_smoothed, says of the outputs.
 pub fn refusal(
     p: usize,
     m: usize,
@@ -38,59 +40,55 @@ pub fn refusal(
     y: &[f64],
     room: bool,
 ) -> u8
-    ensures { λ k. ⌜ k ≡ refusal (modelOf p m r n (now (z .entry)) (now (zs .entry)) (now (h .entry)) (now (t .entry)) (now (rr .entry)) (now (q .entry)) (now («p_star» .entry)) (now (flags .entry))) (offsetsOf (now (c .entry)) (now (d .entry)) (now (a1 .entry))) (length (now (y .entry))) (anyOf isInfinity (map classOf (now (y .entry)))) room ⌝ }
+    ensures { λ k. ⌜ k ≡ refusal
+        (modelOf p m r n (now (z .entry)) (now (zs .entry)) (now (h .entry)) (now (t .entry)) (now (rr .entry))
+        (now (q .entry)) (now («p_star» .entry)) (now (flags .entry)))
+        (offsetsOf (now (c .entry)) (now (d .entry)) (now (a1 .entry)))
+        (length (now (y .entry))) (anyOf isInfinity (map classOf (now (y .entry)))) room ⌝ }
 {
-    if lengths::outside(p, m, r, n) {
-        return 1;
+    let sizes = refusals::of_sizes(p, m, r, n);
+    if sizes != 0 {
+        return sizes;
     }
-    let fit = lengths::lengths_fit(
+    let lengths = refusals::of_lengths(
         p,
         m,
         r,
         n,
-        z.len(),
-        zs.len(),
-        h.len(),
-        t.len(),
-        rr.len(),
-        q.len(),
-        c.len(),
-        d.len(),
-        a1.len(),
-        p_star.len(),
-        flags.len(),
+        z,
+        zs,
+        h,
+        t,
+        rr,
+        q,
+        c,
+        d,
+        a1,
+        p_star,
+        flags,
+        y,
+        room,
     );
-    if !(fit & (y.len() == n * p) & room) {
-        return 2;
+    if lengths != 0 {
+        return lengths;
     }
-    if entries::bad_system(z, zs, h, t, rr, q) {
-        return 3;
+    let system = refusals::of_system(p, r, z, zs, h, t, rr, q);
+    if system != 0 {
+        return system;
     }
-    if entries::not_psd(h, q, p, r) {
-        return 4;
+    let start = refusals::of_start(m, c, d, a1, p_star, flags);
+    if start != 0 {
+        return start;
     }
-    if entries::off_diagonal(q, r) {
-        return 5;
+    let reading_noise = refusals::of_h(p, h);
+    if reading_noise != 0 {
+        return reading_noise;
     }
-    if entries::bad_start(c, d, a1, p_star) {
-        return 6;
+    let readings = refusals::of_readings(y);
+    if readings != 0 {
+        return readings;
     }
-    if entries::start_shape(p_star, flags, a1, m) {
-        return 7;
-    }
-    if entries::off_diagonal(h, p) {
-        return 8;
-    }
-    if entries::any_infinite(y) {
-        return 9;
-    }
-    if entries::mixed_driven(t, flags, m) {
-        return 10;
-    }
-    if bad_noise(rr, q, m, r) {
-        return 11;
-    }
-    0
+    refusals::of_step(m, r, t, rr, q, flags)
 }
 
 // ---- the period's design
@@ -152,16 +150,6 @@ pub fn noise(rr: &[f64], q: &[f64], m: usize, r: usize) -> [f64; 64]
     out
 }
 
-fn bad_noise(rr: &[f64], q: &[f64], m: usize, r: usize) -> bool
-    requires { ⌜ NoiseFits m r (length (now rr)) (length (now q)) ⌝ }
-    ensures { λ b. ⌜ b ≡ notFinite (noiseOf m r (now (rr .entry)) (now (q .entry))) ⌝ }
-{
-    let a = noise(rr, q, m, r);
-    dense::sized(&a);
-    let e = m * m;
-    entries::not_finite(&a[0..e])
-}
-
 // ---- the start
 
 // P* as given, P∞ and its root by the flags, and P∞ with nothing resolved; whether a state is diffuse.
@@ -175,7 +163,9 @@ pub fn start(
     unres: &mut [f64; 64],
 ) -> bool
     requires { ⌜ StartFits m (length (now «p_star»)) (length (now flags)) ⌝ }
-    ensures { λ live. ⌜ covOf m (now (star .exit)) (now («p_inf» .exit)) (now (root .exit)) (now (unres .exit)) live ≡ startFrom m (now («p_star» .entry)) (now (flags .entry)) ⌝ }
+    ensures { λ live. ⌜
+        covOf m (now (star .exit)) (now («p_inf» .exit)) (now (root .exit)) (now (unres .exit)) live
+        ≡ startFrom m (now («p_star» .entry)) (now (flags .entry)) ⌝ }
 {
     *star = dense::load64(p_star);
     *p_inf = diffuse::diffuse_cov(flags, m);

@@ -26,7 +26,7 @@ fn show(s: sheet::answers::Settings, n: usize, y: &[f64], o: options::Options)
             if o.svg > 0 {
                 let fd = options::create(o.svg);
                 if fd < 0 {
-                    return os::fail(b"panel: the picture's file");
+                    return;
                 }
                 picture::draw(fd, n, period, y, &fates, &rows);
                 libc::close(fd);
@@ -67,7 +67,7 @@ fn main() {
     }
     let fd = options::open(o.file);
     if fd < 0 {
-        return os::fail(b"panel: the sheet");
+        return;
     }
     let mut text = longest();
     let n = io::read_full(fd, &mut text);

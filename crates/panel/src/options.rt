@@ -24,14 +24,23 @@ fn none() -> Options {
     }
 }
 
+// `-` in the place of the sheet's file is standard input.
+fn is_dash(word: &[u8]) -> bool {
+    check::same(word, b"-")
+}
+
+// Whether a word can be a file's name: not empty, and no option.
+fn is_name(word: &[u8]) -> bool {
+    if word.len() == 0 {
+        return false;
+    }
+    word[0] != b'-'
+}
+
 // An argument that is no option: the sheet's file, once.
 fn name(o: Options, i: usize, word: &[u8]) -> Options {
     let mut o = o;
-    if word.len() == 0 {
-        o.wrong = true;
-        return o;
-    }
-    if word[0] == b'-' {
+    if !(is_name(word) | is_dash(word)) {
         o.wrong = true;
         return o;
     }
@@ -104,18 +113,39 @@ pub fn given() -> Options {
     fitting(o)
 }
 
-// The sheet's file, open for reading; standard input where none is named. Below 0: it can't be had.
+// The sheet, open for reading. Below 0: it can't be had, and that is told.
+fn open_named(name: &[u8]) -> i32 {
+    if is_dash(name) {
+        return 0;
+    }
+    let fd = os::open_read(name);
+    if fd < 0 {
+        told::unopened(b"the sheet", name);
+    }
+    fd
+}
+
+// The same of the argument that names it; standard input where none does.
 pub fn open(file: usize) -> i32 {
     if file == 0 {
         return 0;
     }
     let mut space = io::buffer();
     let k = os::arg(file, &mut space);
-    os::open_read(&space[..k])
+    open_named(&space[..k])
 }
 
+fn create_named(name: &[u8]) -> i32 {
+    let fd = os::open_overwrite(name);
+    if fd < 0 {
+        told::unopened(b"the picture's file", name);
+    }
+    fd
+}
+
+// The picture's file, open for writing. Below 0: it can't be had, and that is told.
 pub fn create(file: usize) -> i32 {
     let mut space = io::buffer();
     let k = os::arg(file, &mut space);
-    os::open_overwrite(&space[..k])
+    create_named(&space[..k])
 }

@@ -17,14 +17,15 @@ use Rattle.definition.specs.Parts as parts
 use Rattle.definition.specs.Parts.{kindNo, mStarOf, mInfOf}
 use Rattle.laws.specs.Lists.{scan-next}
 use Rattle.laws.specs.Passes.{map-append, join-append}
+use Rattle.laws.specs.Flat.{Flat}
 use Rattle.dense.specs.Views.{mat, rect}
-use Rattle.star.specs.Views.{Holds}
+use Rattle.star.specs.Views.{Replayed}
 use Rattle.star.specs.declared.StarRoot.{StarRoot}
-use Rattle.element.specs.Views.{Notes, Books, books, innerOf, fixedOf, Recorded, stepOf, takenBy, Did, Done, Went, ByRootAt, ByRoot}
+use Rattle.element.specs.Views.{Carried, carried, innerOf, fixedOf, Recorded, stepOf, takenBy, ElementIs, ElementDone, WithoutRoot, ByRootAt, ByRoot}
 use Rattle.element.specs.declared.Step.{Step}
 use Rattle.element.specs.declared.Step.the-variants as step
-use Rattle.element.proofs.Laws.{applied-taken}
-use Rattle.period.specs.Views.{Ran, gapsOf, stopsOf, pastOf, upTo, Flats, Gone, none-of, Stretch, Rest, ByRoots, WithRoot}
+use Rattle.element.proofs.Laws.{applied-taken, stale-next}
+use Rattle.period.specs.Views.{Ran, gapsOf, stopsOf, pastOf, upTo, RecordsOf, Gone, none-taken, Stretch, Rest, RestByRoot, WithRoot}
 
 -- ---- the readings: a NaN is a gap
 
@@ -50,17 +51,17 @@ joined g ds d e h = h ∙ ap₂ (λ (a : List Float) (b : List Float). a ++ b) e
 mapped : {A B : Type 0} (g : A → B) (ds : List A) (d : A) {l l′ : List B} → l ≡ map g ds → l′ ≡ l ++ (g d ∷ []) → l′ ≡ map g (ds ++ (d ∷ []))
 mapped {B = B} g ds d e h = h ∙ ap (λ (a : List B). a ++ (g d ∷ [])) e ∙ sym (map-append g ds (d ∷ []))
 
-flats-none : (m : ℕ) (n : Notes) → Flats m 0 [] n
+records-none : (m : ℕ) (n : Flat) → RecordsOf m 0 [] n
 unfolding rect join
-flats-none m n = record { kinds = refl; fs = refl; fi = refl; ms = rw zero-mul refl; mi = rw zero-mul refl }
+records-none m n = record { kinds = refl; fStars = refl; fInfs = refl; mStars = rw zero-mul refl; mInfs = rw zero-mul refl }
 
-flats-next : (m i : ℕ) (ds : List Decision) (d : Decision) {n n′ : Notes} → Flats m i ds n → Recorded m i d n n′ → Flats m (i + 1) (ds ++ (d ∷ [])) n′
-flats-next m i ds d f r = record {
+records-next : (m i : ℕ) (ds : List Decision) (d : Decision) {n n′ : Flat} → RecordsOf m i ds n → Recorded m i d n n′ → RecordsOf m (i + 1) (ds ++ (d ∷ [])) n′
+records-next m i ds d f r = record {
   kinds = mapped kindNo ds d (f .kinds) (r .kinds);
-  fs = mapped parts.fStarOf ds d (f .fs) (r .fs);
-  fi = mapped parts.fInfOf ds d (f .fi) (r .fi);
-  ms = joined (mStarOf m) ds d (f .ms) (r .ms);
-  mi = joined (mInfOf m) ds d (f .mi) (r .mi);
+  fStars = mapped parts.fStarOf ds d (f .fStars) (r .fStars);
+  fInfs = mapped parts.fInfOf ds d (f .fInfs) (r .fInfs);
+  mStars = joined (mStarOf m) ds d (f .mStars) (r .mStars);
+  mInfs = joined (mInfOf m) ds d (f .mInfs) (r .mInfs);
 }
 
 -- ---- one element more
@@ -75,14 +76,14 @@ module _ (p m : ℕ) (h : List Float) (fix : Fixed) (gaps : List Bool) (s : Inne
   at-next : (i : ℕ) → i < length gaps → At (i + 1) ≡ (At i .0 ++ (Next i .0 ∷ []), Next i .1)
   at-next i b = rw add-one (scan-next (elementOf p m h fix) gaps i s true b)
 
-  pub gone-none : (b : Books) → innerOf m b [] ≡ s → Gone p m h fix gaps s 0 b
+  pub gone-none : (b : Carried) → innerOf m b [] ≡ s → Gone p m h fix gaps s 0 b
   unfolding scan
-  gone-none b e = record { inner = rw (sym e) refl; flats = flats-none m (b .notes) }
+  gone-none b e = record { inner = rw (sym e) refl; records = records-none m (b .flat) }
 
-  gone-next : (i : ℕ) (b b′ : Books) → i < length gaps → Gone p m h fix gaps s i b → innerOf m b′ (Next i .1 .taken) ≡ Next i .1 → Recorded m i (Next i .0) (b .notes) (b′ .notes) → Gone p m h fix gaps s (i + 1) b′
+  gone-next : (i : ℕ) (b b′ : Carried) → i < length gaps → Gone p m h fix gaps s i b → innerOf m b′ (Next i .1 .taken) ≡ Next i .1 → Recorded m i (Next i .0) (b .flat) (b′ .flat) → Gone p m h fix gaps s (i + 1) b′
   gone-next i b b′ l g e r = record {
     inner = subst (λ (x : List Decision × Inner). innerOf m b′ (x .1 .taken) ≡ x .1) (sym (at-next i l)) e;
-    flats = subst (λ (x : List Decision × Inner). Flats m (i + 1) (x .0) (b′ .notes)) (sym (at-next i l)) (flats-next m i (At i .0) (Next i .0) (g .flats) r);
+    records = subst (λ (x : List Decision × Inner). RecordsOf m (i + 1) (x .0) (b′ .flat)) (sym (at-next i l)) (records-next m i (At i .0) (Next i .0) (g .records) r);
   }
 
   next-taken : (i : ℕ) → i < length gaps → At (i + 1) .1 .taken ≡ takenBy (Next i .0) (At i .1 .taken) i
@@ -90,14 +91,10 @@ module _ (p m : ℕ) (h : List Float) (fix : Fixed) (gaps : List Bool) (s : Inne
   next-taken i l = ap (λ (x : List Decision × Inner). x .1 .taken) (at-next i l) ∙ applied-taken m (row m (fix .z) i) i (At i .1) (Next i .0)
 
   -- element i was done on what the first i left
-  next-is : (i : ℕ) (b : Books) {gap : Bool} → Gone p m h fix gaps s i b → gap ≡ getD gaps i true → elementOf p m h fix i (innerOf m b (At i .1 .taken)) gap ≡ Next i
+  next-is : (i : ℕ) (b : Carried) {gap : Bool} → Gone p m h fix gaps s i b → gap ≡ getD gaps i true → elementOf p m h fix i (innerOf m b (At i .1 .taken)) gap ≡ Next i
   next-is i b g e = ap₂ (elementOf p m h fix i) (g .inner) e
 
 -- whether none was taken, after a decision
-some-more : (t : List ℕ) (i : ℕ) → none-yet (t ++ (i ∷ [])) ≡ false
-some-more [] i = refl
-some-more (x ∷ t) i = refl
-
 passed-none : (d : Decision) (t : List ℕ) (i : ℕ) → step.Passed ≡ stepOf d → none-yet (takenBy d t i) ≡ none-yet t
 passed-none skipped t i e = refl
 passed-none (usual f a) t i e = absurd (let z : _≡_ {A = ℕ} 0 1 = cc in omega arith)
@@ -105,34 +102,34 @@ passed-none (diffuse f g a c) t i e = absurd (let z : _≡_ {A = ℕ} 0 1 = cc i
 
 taken-some : (d : Decision) (t : List ℕ) (i : ℕ) → step.Taken ≡ stepOf d → none-yet (takenBy d t i) ≡ false
 taken-some skipped t i e = absurd (let z : _≡_ {A = ℕ} 0 1 = cc in omega arith)
-taken-some (usual f a) t i e = some-more t i
-taken-some (diffuse f g a c) t i e = some-more t i
+taken-some (usual f a) t i e = stale-next t i
+taken-some (diffuse f g a c) t i e = stale-next t i
 
 -- ---- a stretch without the star root
 
-pub record Under (p m : ℕ) (h : List Float) (fix : Fixed) (gaps : List Bool) (fresh : Bool) (from i : ℕ) (b₀ b : Books) : Type 0 where
+pub record Under (p m : ℕ) (h : List Float) (fix : Fixed) (gaps : List Bool) (fresh : Bool) (from i : ℕ) (b₀ b : Carried) : Type 0 where
   pub high : i ≤ p
-  pub gone : (s : Inner) → Gone p m h fix gaps s from b₀ → fresh ≡ none-of p m h fix gaps s from → Gone p m h fix gaps s i b × (fresh ≡ none-of p m h fix gaps s i)
+  pub gone : (s : Inner) → Gone p m h fix gaps s from b₀ → fresh ≡ none-taken p m h fix gaps s from → Gone p m h fix gaps s i b × (fresh ≡ none-taken p m h fix gaps s i)
 
 module _ (p m : ℕ) (h : List Float) (fix : Fixed) (ys : List Float) (fresh : Bool) (from : ℕ) where
-  pub under-start : (b : Books) → from ≤ p → Under p m h fix (gapsOf ys) fresh from from b b
+  pub under-start : (b : Carried) → from ≤ p → Under p m h fix (gapsOf ys) fresh from from b b
   under-start b l = record { high = l; gone = λ s g e. (g, e) }
 
-  module _ (i : ℕ) (b₀ b b′ : Books) (u : Under p m h fix (gapsOf ys) fresh from i b₀ b) (l : i < p) (n : length ys ≡ p) {gap : Bool} (eg : gap ≡ isNan (getD ys i nan)) where
+  module _ (i : ℕ) (b₀ b b′ : Carried) (u : Under p m h fix (gapsOf ys) fresh from i b₀ b) (l : i < p) (n : length ys ≡ p) {gap : Bool} (eg : gap ≡ isNan (getD ys i nan)) where
     long : i < length (gapsOf ys)
     long = omega (arith, gaps-long ys)
 
     -- what an element that was settled leaves
-    settled : {r : Step} → Done p m h fix fresh i gap b b′ r → (s : Inner) → Gone p m h fix (gapsOf ys) s from b₀ → fresh ≡ none-of p m h fix (gapsOf ys) s from
+    settled : {r : Step} → ElementDone p m h fix fresh i gap b b′ r → (s : Inner) → Gone p m h fix (gapsOf ys) s from b₀ → fresh ≡ none-taken p m h fix (gapsOf ys) s from
         → Gone p m h fix (gapsOf ys) s (i + 1) b′ × (r ≡ stepOf (Next p m h fix (gapsOf ys) s i .0))
     settled {r} w s g e =
         let k = u .gone s g e in
         let t = At p m h fix (gapsOf ys) s i .1 .taken in
-        let d : Did m i (Next p m h fix (gapsOf ys) s i) r b b′ = subst (λ (x : Decision × Inner). Did m i x r b b′) (next-is p m h fix (gapsOf ys) s i b (k .0) (eg ∙ sym (gaps-at ys i))) (w t (k .1)) in
+        let d : ElementIs m i (Next p m h fix (gapsOf ys) s i) r b b′ = subst (λ (x : Decision × Inner). ElementIs m i x r b b′) (next-is p m h fix (gapsOf ys) s i b (k .0) (eg ∙ sym (gaps-at ys i))) (w t (k .1)) in
         (gone-next p m h fix (gapsOf ys) s i b b′ long (k .0) (d .inner) (d .recorded), d .told)
 
-    pub under-next : (r : Step) → Went p m h fix fresh i gap b b′ r → stopsOf r fresh ≡ false → Under p m h fix (gapsOf ys) fresh from (i + 1) b₀ b′
-    unfolding Went stopsOf
+    pub under-next : (r : Step) → WithoutRoot p m h fix fresh i gap b b′ r → stopsOf r fresh ≡ false → Under p m h fix (gapsOf ys) fresh from (i + 1) b₀ b′
+    unfolding WithoutRoot stopsOf
     under-next step.Passed w f = record {
       high = omega arith;
       gone = λ s g e. (settled w s g e .0, u .gone s g e .1 ∙ sym (passed-none (Next p m h fix (gapsOf ys) s i .0) (At p m h fix (gapsOf ys) s i .1 .taken) i (settled w s g e .1)) ∙ ap none-yet (sym (next-taken p m h fix (gapsOf ys) s i long)));
@@ -143,8 +140,8 @@ module _ (p m : ℕ) (h : List Float) (fix : Fixed) (ys : List Float) (fresh : B
     }
     under-next step.Doubtful w f = absurd (true≢false f)
 
-    pub under-stop : (r : Step) → Went p m h fix fresh i gap b b′ r → stopsOf r fresh ≡ true → Stretch p m h fix (gapsOf ys) fresh from (pastOf r i) b₀ b′
-    unfolding Went stopsOf pastOf
+    pub under-stop : (r : Step) → WithoutRoot p m h fix fresh i gap b b′ r → stopsOf r fresh ≡ true → Stretch p m h fix (gapsOf ys) fresh from (pastOf r i) b₀ b′
+    unfolding WithoutRoot stopsOf pastOf
     under-stop step.Passed w f = absurd (false≢true f)
     under-stop step.Taken w f = record {
       high = omega arith;
@@ -153,11 +150,11 @@ module _ (p m : ℕ) (h : List Float) (fix : Fixed) (ys : List Float) (fresh : B
     }
     under-stop step.Doubtful w f = record {
       high = omega arith;
-      gone = λ s g e. (subst (λ (x : Books). Gone p m h fix (gapsOf ys) s i x) (sym (w .same)) (u .gone s g e .0), λ x. sym (u .gone s g e .1) ∙ w .stale);
+      gone = λ s g e. (subst (λ (x : Carried). Gone p m h fix (gapsOf ys) s i x) (sym (w .same)) (u .gone s g e .0), λ x. sym (u .gone s g e .1) ∙ w .stale);
       calm = λ x e. w .settled;
     }
 
-  pub under-end : (i : ℕ) (b₀ b : Books) → Under p m h fix (gapsOf ys) fresh from i b₀ b → p ≤ i → Stretch p m h fix (gapsOf ys) fresh from p b₀ b
+  pub under-end : (i : ℕ) (b₀ b : Carried) → Under p m h fix (gapsOf ys) fresh from i b₀ b → p ≤ i → Stretch p m h fix (gapsOf ys) fresh from p b₀ b
   under-end i b₀ b u l =
       let e : i ≡ p = omega (arith, u .high) in
       record {
@@ -168,26 +165,26 @@ module _ (p m : ℕ) (h : List Float) (fix : Fixed) (ys : List Float) (fresh : B
 
 -- ---- the stretch with the star root
 
-module _ (p m : ℕ) (h design pre : List Float) (gaps : List Bool) (from : ℕ) (root₀ : StarRoot) (star₀ : List Float) (n₀ : Notes) where
-  pub record Rooted (i : ℕ) (root : StarRoot) (star : List Float) (n : Notes) : Type 0 where
+module _ (p m : ℕ) (h design pre : List Float) (gaps : List Bool) (from : ℕ) (root₀ : StarRoot) (star₀ : List Float) (n₀ : Flat) where
+  pub record Rooted (i : ℕ) (root : StarRoot) (star : List Float) (n : Flat) : Type 0 where
     pub high : i ≤ p
-    pub gone : (p∞ b unres : List Float) (s : Inner) → Gone p m h (fixedOf p m false design pre unres) gaps s from (books star₀ p∞ b n₀)
-        → none-of p m h (fixedOf p m false design pre unres) gaps s from ≡ false
-        → Holds p m (rect p m design) h (mat m pre) (upTo p m h (fixedOf p m false design pre unres) gaps s from .1 .taken) root₀
-        → Gone p m h (fixedOf p m false design pre unres) gaps s i (books star p∞ b n)
-        × ((none-of p m h (fixedOf p m false design pre unres) gaps s i ≡ false)
-        × Holds p m (rect p m design) h (mat m pre) (upTo p m h (fixedOf p m false design pre unres) gaps s i .1 .taken) root)
+    pub gone : (p∞ b unres : List Float) (s : Inner) → Gone p m h (fixedOf p m false design pre unres) gaps s from (carried star₀ p∞ b n₀)
+        → none-taken p m h (fixedOf p m false design pre unres) gaps s from ≡ false
+        → Replayed p m (rect p m design) h (mat m pre) (upTo p m h (fixedOf p m false design pre unres) gaps s from .1 .taken) root₀
+        → Gone p m h (fixedOf p m false design pre unres) gaps s i (carried star p∞ b n)
+        × ((none-taken p m h (fixedOf p m false design pre unres) gaps s i ≡ false)
+        × Replayed p m (rect p m design) h (mat m pre) (upTo p m h (fixedOf p m false design pre unres) gaps s i .1 .taken) root)
 
   pub rooted-start : from ≤ p → Rooted from root₀ star₀ n₀
   rooted-start l = record { high = l; gone = λ p∞ b unres s g e w. (g, (e, w)) }
 
-  pub rooted-end : (i : ℕ) (root : StarRoot) (star : List Float) (n : Notes) → Rooted i root star n → p ≤ i → WithRoot p m h design pre gaps from root₀ star₀ n₀ star n
+  pub rooted-end : (i : ℕ) (root : StarRoot) (star : List Float) (n : Flat) → Rooted i root star n → p ≤ i → WithRoot p m h design pre gaps from root₀ star₀ n₀ star n
   rooted-end i root star n r l = λ p∞ b unres s g e w.
       let k : i ≡ p = omega (arith, r .high) in
-      subst (λ (x : ℕ). Gone p m h (fixedOf p m false design pre unres) gaps s x (books star p∞ b n)) k (r .gone p∞ b unres s g e w .0)
+      subst (λ (x : ℕ). Gone p m h (fixedOf p m false design pre unres) gaps s x (carried star p∞ b n)) k (r .gone p∞ b unres s g e w .0)
 
-module _ (p m : ℕ) (h design pre ys : List Float) (from : ℕ) (root₀ : StarRoot) (star₀ : List Float) (n₀ : Notes) where
-  pub rooted-next : (i : ℕ) (root root′ : StarRoot) (star star′ : List Float) (n n′ : Notes) {gap : Bool} → Rooted p m h design pre (gapsOf ys) from root₀ star₀ n₀ i root star n → i < p → length ys ≡ p → gap ≡ isNan (getD ys i nan)
+module _ (p m : ℕ) (h design pre ys : List Float) (from : ℕ) (root₀ : StarRoot) (star₀ : List Float) (n₀ : Flat) where
+  pub rooted-next : (i : ℕ) (root root′ : StarRoot) (star star′ : List Float) (n n′ : Flat) {gap : Bool} → Rooted p m h design pre (gapsOf ys) from root₀ star₀ n₀ i root star n → i < p → length ys ≡ p → gap ≡ isNan (getD ys i nan)
       → ByRoot p m h design pre i gap star n root star′ n′ root′ → Rooted p m h design pre (gapsOf ys) from root₀ star₀ n₀ (i + 1) root′ star′ n′
   rooted-next i root root′ star star′ n n′ {gap} r l k eg w = record {
     high = omega arith;
@@ -195,13 +192,13 @@ module _ (p m : ℕ) (h design pre ys : List Float) (from : ℕ) (root₀ : Star
         let long : i < length (gapsOf ys) = omega (arith, gaps-long ys) in
         let fix = fixedOf p m false design pre unres in
         let was = r .gone p∞ b unres s g e v in
-        let q : ByRootAt p m h design pre i (Next p m h fix (gapsOf ys) s i) (books star p∞ b n) (books star′ p∞ b n′) root′ =
-        subst (λ (x : Decision × Inner). ByRootAt p m h design pre i x (books star p∞ b n) (books star′ p∞ b n′) root′)
-        (next-is p m h fix (gapsOf ys) s i (books star p∞ b n) (was .0) (eg ∙ sym (gaps-at ys i)))
+        let q : ByRootAt p m h design pre i (Next p m h fix (gapsOf ys) s i) (carried star p∞ b n) (carried star′ p∞ b n′) root′ =
+        subst (λ (x : Decision × Inner). ByRootAt p m h design pre i x (carried star p∞ b n) (carried star′ p∞ b n′) root′)
+        (next-is p m h fix (gapsOf ys) s i (carried star p∞ b n) (was .0) (eg ∙ sym (gaps-at ys i)))
         (w p∞ b unres (At p m h fix (gapsOf ys) s i .1 .taken) (was .1 .0) (was .1 .1)) in
         let t : At p m h fix (gapsOf ys) s (i + 1) .1 .taken ≡ Next p m h fix (gapsOf ys) s i .1 .taken = ap (λ (x : List Decision × Inner). x .1 .taken) (at-next p m h fix (gapsOf ys) s i long) in (
-          gone-next p m h fix (gapsOf ys) s i (books star p∞ b n) (books star′ p∞ b n′) long (was .0) (q .inner) (q .recorded),
-          (ap none-yet t ∙ q .stale, subst (λ (x : List ℕ). Holds p m (rect p m design) h (mat m pre) x root′) (sym t) (q .holds)),
+          gone-next p m h fix (gapsOf ys) s i (carried star p∞ b n) (carried star′ p∞ b n′) long (was .0) (q .inner) (q .recorded),
+          (ap none-yet t ∙ q .stale, subst (λ (x : List ℕ). Replayed p m (rect p m design) h (mat m pre) x root′) (sym t) (q .replayed)),
         );
   }
 
@@ -209,51 +206,51 @@ module _ (p m : ℕ) (h design pre ys : List Float) (from : ℕ) (root₀ : Star
 
 module _ (p m : ℕ) (h : List Float) (fix : Fixed) (ys : List Float) where
   -- all elements done
-  pub ran : (s : Inner) (b : Books) → length ys ≡ p → Gone p m h fix (gapsOf ys) s p b → Ran p m (scan (elementOf p m h fix) 0 s (gapsOf ys)) (b .notes .kinds) (b .notes .fs) (b .notes .fi) (b .notes .ms) (b .notes .mi) (b .star) (b .pinf) (b .root)
+  pub ran : (s : Inner) (b : Carried) → length ys ≡ p → Gone p m h fix (gapsOf ys) s p b → Ran p m (scan (elementOf p m h fix) 0 s (gapsOf ys)) (b .flat .kinds) (b .flat .fStars) (b .flat .fInfs) (b .flat .mStars) (b .flat .mInfs) (b .star) (b .pinf) (b .root)
   ran s b n g =
       let t : take p (gapsOf ys) ≡ gapsOf ys = take-all p (gapsOf ys) (omega (arith, gaps-long ys)) in
       let k : Gone p m h fix (gapsOf ys) s p b = g in
       let i = subst (λ (x : List Bool). innerOf m b (scan (elementOf p m h fix) 0 s x .1 .taken) ≡ scan (elementOf p m h fix) 0 s x .1) t (g .inner) in
-      let f = subst (λ (x : List Bool). Flats m p (scan (elementOf p m h fix) 0 s x .0) (b .notes)) t (g .flats) in
+      let f = subst (λ (x : List Bool). RecordsOf m p (scan (elementOf p m h fix) 0 s x .0) (b .flat)) t (g .records) in
       record {
         kinds = f .kinds;
-        stars = f .fs;
-        infs = f .fi;
-        m-stars = f .ms;
-        m-infs = f .mi;
+        stars = f .fStars;
+        infs = f .fInfs;
+        m-stars = f .mStars;
+        m-infs = f .mInfs;
         star = ap (λ (x : Inner). x .star) i;
         pinf = ap (λ (x : Inner). x .pinf) i;
         root = ap (λ (x : Inner). x .root) i;
       }
 
   -- before the first element none is taken
-  none-at : (s : Inner) → s .taken ≡ [] → true ≡ none-of p m h fix (gapsOf ys) s 0
+  none-at : (s : Inner) → s .taken ≡ [] → true ≡ none-taken p m h fix (gapsOf ys) s 0
   unfolding scan
   none-at s q = rw q
 
   -- the first stretch, and what follows it
-  pub first-all : (at : ℕ) (s : Inner) (b b′ : Books) → length ys ≡ p → Stretch p m h fix (gapsOf ys) true 0 at b b′ → innerOf m b [] ≡ s → p ≤ at
-      → Ran p m (scan (elementOf p m h fix) 0 s (gapsOf ys)) (b′ .notes .kinds) (b′ .notes .fs) (b′ .notes .fi) (b′ .notes .ms) (b′ .notes .mi) (b′ .star) (b′ .pinf) (b′ .root)
+  pub first-all : (at : ℕ) (s : Inner) (b b′ : Carried) → length ys ≡ p → Stretch p m h fix (gapsOf ys) true 0 at b b′ → innerOf m b [] ≡ s → p ≤ at
+      → Ran p m (scan (elementOf p m h fix) 0 s (gapsOf ys)) (b′ .flat .kinds) (b′ .flat .fStars) (b′ .flat .fInfs) (b′ .flat .mStars) (b′ .flat .mInfs) (b′ .star) (b′ .pinf) (b′ .root)
   first-all at s b b′ n w e l =
       let k : at ≡ p = omega (arith, w .high) in
       ran s b′ n (subst (λ (x : ℕ). Gone p m h fix (gapsOf ys) s x b′) k (w .gone s (gone-none p m h fix (gapsOf ys) s b e) (none-at s (ap (λ (x : Inner). x .taken) (sym e))) .0))
 
-  pub first-rest : (at : ℕ) (s : Inner) (b b′ b″ : Books) → length ys ≡ p → Stretch p m h fix (gapsOf ys) true 0 at b b′ → innerOf m b [] ≡ s → at < p → Rest p m h fix (gapsOf ys) at b′ b″
-      → Ran p m (scan (elementOf p m h fix) 0 s (gapsOf ys)) (b″ .notes .kinds) (b″ .notes .fs) (b″ .notes .fi) (b″ .notes .ms) (b″ .notes .mi) (b″ .star) (b″ .pinf) (b″ .root)
+  pub first-rest : (at : ℕ) (s : Inner) (b b′ b″ : Carried) → length ys ≡ p → Stretch p m h fix (gapsOf ys) true 0 at b b′ → innerOf m b [] ≡ s → at < p → Rest p m h fix (gapsOf ys) at b′ b″
+      → Ran p m (scan (elementOf p m h fix) 0 s (gapsOf ys)) (b″ .flat .kinds) (b″ .flat .fStars) (b″ .flat .fInfs) (b″ .flat .mStars) (b″ .flat .mInfs) (b″ .star) (b″ .pinf) (b″ .root)
   first-rest at s b b′ b″ n w e l r =
       let q : s .taken ≡ [] = ap (λ (x : Inner). x .taken) (sym e) in
       let g = w .gone s (gone-none p m h fix (gapsOf ys) s b e) (none-at s q) in
       ran s b″ n (r s q (g .0) (g .1 l))
 
   -- the second, and the star root where it stopped
-  pub second-all : (from at : ℕ) (b b′ : Books) → Stretch p m h fix (gapsOf ys) false from at b b′ → p ≤ at → Rest p m h fix (gapsOf ys) from b b′
+  pub second-all : (from at : ℕ) (b b′ : Carried) → Stretch p m h fix (gapsOf ys) false from at b b′ → p ≤ at → Rest p m h fix (gapsOf ys) from b b′
   second-all from at b b′ w l = λ s q g e. let k : at ≡ p = omega (arith, w .high) in subst (λ (x : ℕ). Gone p m h fix (gapsOf ys) s x b′) k (w .gone s g (sym e) .0)
 
-pub second-root : (p m : ℕ) (h design pre unres ys : List Float) (live : Bool) (from at : ℕ) (b : Books) (star star′ p∞ root : List Float) (n n′ : Notes)
-    → Stretch p m h (fixedOf p m live design pre unres) (gapsOf ys) false from at b (books star p∞ root n) → at < p → ByRoots p m h design pre (gapsOf ys) at star n star′ n′
-    → Rest p m h (fixedOf p m live design pre unres) (gapsOf ys) from b (books star′ p∞ root n′)
+pub second-root : (p m : ℕ) (h design pre unres ys : List Float) (live : Bool) (from at : ℕ) (b : Carried) (star star′ p∞ root : List Float) (n n′ : Flat)
+    → Stretch p m h (fixedOf p m live design pre unres) (gapsOf ys) false from at b (carried star p∞ root n) → at < p → RestByRoot p m h design pre (gapsOf ys) at star n star′ n′
+    → Rest p m h (fixedOf p m live design pre unres) (gapsOf ys) from b (carried star′ p∞ root n′)
 second-root p m h design pre unres ys live from at b star star′ p∞ root n n′ w l r = by-live live (w .calm l refl) w
   where
-    by-live : (x : Bool) → x ≡ false → Stretch p m h (fixedOf p m x design pre unres) (gapsOf ys) false from at b (books star p∞ root n) → Rest p m h (fixedOf p m x design pre unres) (gapsOf ys) from b (books star′ p∞ root n′)
+    by-live : (x : Bool) → x ≡ false → Stretch p m h (fixedOf p m x design pre unres) (gapsOf ys) false from at b (carried star p∞ root n) → Rest p m h (fixedOf p m x design pre unres) (gapsOf ys) from b (carried star′ p∞ root n′)
     by-live true f v = absurd (true≢false f)
     by-live false f v = λ s q g e. let k = v .gone s g (sym e) in r p∞ root unres s q (k .0) (k .1 l)

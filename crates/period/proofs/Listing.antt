@@ -13,13 +13,14 @@ use Rattle.definition.specs.Dense.{row}
 use Rattle.definition.specs.Run.{scan}
 use Rattle.definition.specs.Cov.{Decision, skipped, usual, diffuse, Inner, Fixed, elementOf}
 use Rattle.definition.specs.Parts.{kindNo}
+use Rattle.laws.specs.Flat.{Flat}
 use Rattle.dense.specs.Views.{mat, rect}
 use Rattle.star.specs.Views as root
-use Rattle.star.specs.Views.{Holds}
+use Rattle.star.specs.Views.{Replayed}
 use Rattle.star.specs.declared.StarRoot.{StarRoot}
-use Rattle.element.specs.Views.{Notes, fixedOf, takenBy}
+use Rattle.element.specs.Views.{fixedOf, takenBy}
 use Rattle.element.proofs.Laws.{applied-taken}
-use Rattle.period.specs.Views.{placesFrom, TookIn, Listed, upTo, WithRoot, ByRoots}
+use Rattle.period.specs.Views.{placesFrom, TookIn, Listed, upTo, WithRoot, RestByRoot}
 use Rattle.period.specs.declared.Taken.{Taken}
 
 -- ---- places at which a kind is not 0
@@ -112,11 +113,11 @@ module _ (p m : ℕ) (h : List Float) (fix : Fixed) where
       ∙ taken-by (e .0) (s .taken) k (map kindNo (scan (elementOf p m h fix) (suc k) (e .1) gaps .0))
 
 -- the root that was built over those listed is that of the elements taken
-pub rooted-by : (p m : ℕ) (h design pre : List Float) (gaps : List Bool) (at : ℕ) (t : Taken) (root : StarRoot) (star star′ : List Float) (n n′ : Notes)
-    → Listed at (take at (n .kinds)) t → Holds p m (rect p m design) h (mat m pre) (take (t .count) (t .places)) root → WithRoot p m h design pre gaps at root star n star′ n′
-    → ByRoots p m h design pre gaps at star n star′ n′
+pub rooted-by : (p m : ℕ) (h design pre : List Float) (gaps : List Bool) (at : ℕ) (t : Taken) (root : StarRoot) (star star′ : List Float) (n n′ : Flat)
+    → Listed at (take at (n .kinds)) t → Replayed p m (rect p m design) h (mat m pre) (take (t .count) (t .places)) root → WithRoot p m h design pre gaps at root star n star′ n′
+    → RestByRoot p m h design pre gaps at star n star′ n′
 rooted-by p m h design pre gaps at t root star star′ n n′ w k r = λ p∞ b unres s q g e.
     let fix = fixedOf p m false design pre unres in
     let taken : take (t .count) (t .places) ≡ upTo p m h fix gaps s at .1 .taken =
-    w .places ∙ ap (placesFrom 0) (g .flats .kinds) ∙ sym (taken-is p m h fix (take at gaps) 0 s ∙ ap (λ (x : List ℕ). x ++ placesFrom 0 (map kindNo (upTo p m h fix gaps s at .0))) q) in
-    r p∞ b unres s g e (subst (λ (x : List ℕ). Holds p m (rect p m design) h (mat m pre) x root) taken k)
+    w .places ∙ ap (placesFrom 0) (g .records .kinds) ∙ sym (taken-is p m h fix (take at gaps) 0 s ∙ ap (λ (x : List ℕ). x ++ placesFrom 0 (map kindNo (upTo p m h fix gaps s at .0))) q) in
+    r p∞ b unres s g e (subst (λ (x : List ℕ). Replayed p m (rect p m design) h (mat m pre) x root) taken k)

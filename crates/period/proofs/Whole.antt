@@ -1,25 +1,12 @@
 -- A period put together: equations over plain variables.
-use Prim.Native.Nat.{ℕ, zero, suc, _*_, _≤_}
-use mathlib.Core.Path.{_≡_, refl, ap}
+use Prim.Native.Nat.{ℕ, _*_}
+use mathlib.Core.Path.{_≡_, refl}
 use mathlib.Core.Bool.{Bool, true, false}
-use mathlib.Core.List.{List, _∷_}
-use native.Mathlib.Nat.{le-of-suc-le-suc, not-suc-le-zero}
-use lib.ListN.{take, replicate}
+use mathlib.Core.List.{List}
 use lib.Ieee.{Float}
-use Rattle.definition.specs.Num.{_>ᶠ_, rank-tol}
+use Rattle.definition.specs.Num.{_>ᶠ_, rank-tol, zeros}
 use Rattle.definition.specs.Dense.{mul, transposed, plus, sandwich, symmetrise, frobSq}
-use Rattle.definition.specs.Num.{zeros}
-use Rattle.dense.specs.Views.{vec, mat, rect}
 use Rattle.definition.specs.Cov.{Cov, isLive, entered, stepStar, stepInf, stepped}
-
-take-replicate : {A : Type 0} (k n : ℕ) (x : A) → k ≤ n → take k (replicate n x) ≡ replicate k x
-take-replicate zero n x h = refl
-take-replicate (suc k) zero x h = absurd (not-suc-le-zero h)
-take-replicate (suc k) (suc n) x h = ap (λ (l : List _). x ∷ l) (take-replicate k n x (le-of-suc-le-suc h))
-
-pub cleared : (m : ℕ) (x : Float) → m * m ≤ 64 → mat m (replicate 64 x) ≡ replicate (m * m) x
-unfolding rect
-cleared m x h = take-replicate (m * m) 64 x h
 
 module _ (m : ℕ) (p : List Float) {live : Bool} where
   pub live-yes : {f : Float} → live ≡ true → f ≡ frobSq m p → (f >ᶠ rank-tol) ≡ isLive m live p
@@ -63,8 +50,3 @@ module _ (m : ℕ) (t r s p b u : List Float) {live : Bool} {s′ p′ b′ u′
   pub stepped-yes : live ≡ true → s′ ≡ stepStar m t r s → p′ ≡ stepInf m t p → b′ ≡ mul m t b → u′ ≡ sandwich m t u → _≡_ {A = Cov} (record { star = s′; pinf = p′; root = b′; unres = u′; live = live }) (stepped m t r live s p b u)
   unfolding stepped
   stepped-yes e f g h k = rw (e, f, g, h, k)
-
--- unused numbers
-pub blank : (m : ℕ) (x : Float) → m ≤ 8 → vec m (replicate 8 x) ≡ replicate m x
-unfolding vec
-blank m x h = take-replicate m 8 x h

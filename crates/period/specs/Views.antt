@@ -11,10 +11,11 @@ use Rattle.definition.specs.Inputs.{classOf, isGap}
 use Rattle.definition.specs.Cov.{Decision, Inner, Fixed, Cov, elementOf, entered, isLive, none-yet}
 use Rattle.definition.specs.Parts as parts
 use Rattle.definition.specs.Parts.{kindNo, mStarOf, mInfOf}
+use Rattle.laws.specs.Flat.{Flat}
 use Rattle.dense.specs.Views.{mat, rect}
-use Rattle.star.specs.Views.{Holds}
+use Rattle.star.specs.Views.{Replayed}
 use Rattle.star.specs.declared.StarRoot.{StarRoot}
-use Rattle.element.specs.Views.{Notes, Books, notes, books, innerOf, fixedOf}
+use Rattle.element.specs.Views.{Carried, carried, innerOf, fixedOf}
 use Rattle.element.specs.declared.Step.{Step}
 use Rattle.element.specs.declared.Step.the-variants as step
 use Rattle.period.specs.declared.Taken.{Taken}
@@ -32,13 +33,16 @@ pub record Ran (p m : ℕ) (want : List Decision × Inner) (ks : List ℕ) (fs f
   pub pinf : mat m p∞ ≡ want .1 .pinf
   pub root : mat m b ≡ want .1 .root
 
--- before the period's first element
-abbrev pub startOf : ℕ → List Float → List Float → List Float → Inner
-startOf m star pinf root = record { star = mat m star; pinf = mat m pinf; root = mat m root; taken = [] }
+-- the state before the period's first element
+abbrev pub beforeFirst : ℕ → List Float → List Float → List Float → Inner
+beforeFirst m star pinf root = record { star = mat m star; pinf = mat m pinf; root = mat m root; taken = [] }
 
+-- the state between periods
 abbrev pub stateOf : ℕ → List Float → List Float → List Float → List Float → Bool → Cov
-stateOf m star pinf root unres live = record { star = mat m star; pinf = mat m pinf; root = mat m root; unres = mat m unres; live = live }
+stateOf m star pinf root unres live =
+    record { star = mat m star; pinf = mat m pinf; root = mat m root; unres = mat m unres; live = live }
 
+-- the period's test: whether it is diffuse, and P∞ before and after
 pub record Begun (m : ℕ) (live : Bool) (p∞ q∞ : List Float) (r : Bool) : Type 0 where
   pub lasts : r ≡ isLive m live (mat m p∞)
   pub pinf : mat m q∞ ≡ entered m r (mat m p∞)
@@ -48,13 +52,14 @@ pub record Begun (m : ℕ) (live : Bool) (p∞ q∞ : List Float) (r : Bool) : T
 abbrev pub gapsOf : List Float → List Bool
 gapsOf ys = map isGap (map classOf ys)
 
--- element i of a period of p, with n readings
+-- element i of a period of p, or its end; with n readings
 pub record Sizes (p m i n : ℕ) : Type 0 where
   pub elements : p ≤ 8
   pub states : m ≤ 8
   pub here : i ≤ p
   pub readings : n ≡ p
 
+-- whether a stretch ends with an element, by how that ended; and where the next one begins
 unfoldable pub stopsOf : Step → Bool → Bool
 stopsOf step.Passed fresh = false
 stopsOf step.Taken fresh = fresh
@@ -70,44 +75,55 @@ abbrev pub upTo : ℕ → ℕ → List Float → Fixed → List Bool → Inner �
 upTo p m h fix gaps s i = scan (elementOf p m h fix) 0 s (take i gaps)
 
 -- the records hold the decisions ds
-pub record Flats (m i : ℕ) (ds : List Decision) (n : Notes) : Type 0 where
+pub record RecordsOf (m i : ℕ) (ds : List Decision) (n : Flat) : Type 0 where
   pub kinds : take i (n .kinds) ≡ map kindNo ds
-  pub fs : take i (n .fs) ≡ map parts.fStarOf ds
-  pub fi : take i (n .fi) ≡ map parts.fInfOf ds
-  pub ms : rect i m (n .ms) ≡ join (map (mStarOf m) ds)
-  pub mi : rect i m (n .mi) ≡ join (map (mInfOf m) ds)
+  pub fStars : take i (n .fStars) ≡ map parts.fStarOf ds
+  pub fInfs : take i (n .fInfs) ≡ map parts.fInfOf ds
+  pub mStars : rect i m (n .mStars) ≡ join (map (mStarOf m) ds)
+  pub mInfs : rect i m (n .mInfs) ≡ join (map (mInfOf m) ds)
 
 -- i elements are done, from the state s on
-pub record Gone (p m : ℕ) (h : List Float) (fix : Fixed) (gaps : List Bool) (s : Inner) (i : ℕ) (b : Books) : Type 0 where
+pub record Gone (p m : ℕ) (h : List Float) (fix : Fixed) (gaps : List Bool) (s : Inner) (i : ℕ) (b : Carried)
+    : Type 0 where
   pub inner : innerOf m b (upTo p m h fix gaps s i .1 .taken) ≡ upTo p m h fix gaps s i .1
-  pub flats : Flats m i (upTo p m h fix gaps s i .0) (b .notes)
+  pub records : RecordsOf m i (upTo p m h fix gaps s i .0) (b .flat)
 
 -- whether none of the first i was taken
-abbrev pub none-of : ℕ → ℕ → List Float → Fixed → List Bool → Inner → ℕ → Bool
-none-of p m h fix gaps s i = none-yet (upTo p m h fix gaps s i .1 .taken)
+abbrev pub none-taken : ℕ → ℕ → List Float → Fixed → List Bool → Inner → ℕ → Bool
+none-taken p m h fix gaps s i = none-yet (upTo p m h fix gaps s i .1 .taken)
 
--- a stretch without the star root, to element r: it ends before p only once an element is taken, and one that began so only in a period that is not diffuse
-pub record Stretch (p m : ℕ) (h : List Float) (fix : Fixed) (gaps : List Bool) (fresh : Bool) (from r : ℕ) (b b′ : Books) : Type 0 where
+-- A stretch without the star root, to element r. It ends before p only once an element is taken, and one that began so
+-- only in a period that is not diffuse.
+pub record Stretch (p m : ℕ) (h : List Float) (fix : Fixed) (gaps : List Bool) (fresh : Bool) (from r : ℕ)
+    (b b′ : Carried) : Type 0 where
   pub high : r ≤ p
-  pub gone : (s : Inner) → Gone p m h fix gaps s from b → fresh ≡ none-of p m h fix gaps s from → Gone p m h fix gaps s r b′ × (r < p → none-of p m h fix gaps s r ≡ false)
+  pub gone : (s : Inner) → Gone p m h fix gaps s from b → fresh ≡ none-taken p m h fix gaps s from
+      → Gone p m h fix gaps s r b′ × (r < p → none-taken p m h fix gaps s r ≡ false)
   pub calm : r < p → fresh ≡ false → fix .diffuse ≡ false
 
 -- all the elements that are left
-abbrev pub Rest : ℕ → ℕ → List Float → Fixed → List Bool → ℕ → Books → Books → Type 0
-Rest p m h fix gaps from b b′ = (s : Inner) → s .taken ≡ [] → Gone p m h fix gaps s from b → none-of p m h fix gaps s from ≡ false → Gone p m h fix gaps s p b′
+abbrev pub Rest : ℕ → ℕ → List Float → Fixed → List Bool → ℕ → Carried → Carried → Type 0
+Rest p m h fix gaps from b b′ =
+    (s : Inner) → s .taken ≡ [] → Gone p m h fix gaps s from b → none-taken p m h fix gaps s from ≡ false
+    → Gone p m h fix gaps s p b′
 
 -- the same in a period that is not diffuse, whatever P∞, B and the unresolved matrix are
-abbrev pub ByRoots : ℕ → ℕ → List Float → List Float → List Float → List Bool → ℕ → List Float → Notes → List Float → Notes → Type 0
-ByRoots p m h design pre gaps from star n star′ n′ =
-    (p∞ b unres : List Float) → Rest p m h (fixedOf p m false design pre unres) gaps from (books star p∞ b n) (books star′ p∞ b n′)
+abbrev pub RestByRoot : ℕ → ℕ → List Float → List Float → List Float → List Bool → ℕ
+    → List Float → Flat → List Float → Flat → Type 0
+RestByRoot p m h design pre gaps from star n star′ n′ =
+    (p∞ b unres : List Float)
+    → Rest p m h (fixedOf p m false design pre unres) gaps from (carried star p∞ b n) (carried star′ p∞ b n′)
 
 -- and with the star root of the elements taken at hand
-abbrev pub WithRoot : ℕ → ℕ → List Float → List Float → List Float → List Bool → ℕ → StarRoot → List Float → Notes → List Float → Notes → Type 0
+abbrev pub WithRoot : ℕ → ℕ → List Float → List Float → List Float → List Bool → ℕ → StarRoot
+    → List Float → Flat → List Float → Flat → Type 0
 WithRoot p m h design pre gaps from root star n star′ n′ =
-    (p∞ b unres : List Float) (s : Inner) → Gone p m h (fixedOf p m false design pre unres) gaps s from (books star p∞ b n)
-    → none-of p m h (fixedOf p m false design pre unres) gaps s from ≡ false
-    → Holds p m (rect p m design) h (mat m pre) (upTo p m h (fixedOf p m false design pre unres) gaps s from .1 .taken) root
-    → Gone p m h (fixedOf p m false design pre unres) gaps s p (books star′ p∞ b n′)
+    (p∞ b unres : List Float) (s : Inner)
+    → Gone p m h (fixedOf p m false design pre unres) gaps s from (carried star p∞ b n)
+    → none-taken p m h (fixedOf p m false design pre unres) gaps s from ≡ false
+    → Replayed p m (rect p m design) h (mat m pre)
+    (upTo p m h (fixedOf p m false design pre unres) gaps s from .1 .taken) root
+    → Gone p m h (fixedOf p m false design pre unres) gaps s p (carried star′ p∞ b n′)
 
 -- ---- the elements taken
 
@@ -119,7 +135,8 @@ placesFrom k (x ∷ xs) = let rest = placesFrom (suc k) xs in cond (eqb x 0) res
 -- element i joins those taken, by its kind
 pub record TookIn (t : Taken) (kind i : ℕ) (r : Taken) : Type 0 where
   pub count : r .count ≡ cond (eqb kind 0) (t .count) (t .count + 1)
-  pub places : take (r .count) (r .places) ≡ cond (eqb kind 0) (take (t .count) (t .places)) (take (t .count) (t .places) ++ (i ∷ []))
+  pub places : take (r .count) (r .places)
+      ≡ cond (eqb kind 0) (take (t .count) (t .places)) (take (t .count) (t .places) ++ (i ∷ []))
   pub size : length (r .places) ≡ length (t .places)
 
 -- those taken of the first n

@@ -1,22 +1,20 @@
 // filter.rs, the elements of one period of the covariance track in order, the period's test, and the step by T.
-// It sees which readings are gaps, and no reading, mean or intercept. A period goes in up to three stretches: until an element is taken; then, the
-// standard deviations worked out, until one is doubtful; then with the star root, which is built there and kept to the period's end.
+// It sees which readings are gaps, and no reading, mean or intercept. A period goes in up to three stretches: until an
+// element is taken; then, the standard deviations worked out, until one is doubtful; then with the star root, which is
+// built there and kept to the period's end.
 ghost use mathlib.Core.Path.{_≡_};
 ghost use mathlib.Core.Bool.{true, false};
-ghost use mathlib.Core.List.{map};
 ghost use Prim.Native.Nat.{_≤_, _<_, _*_};
 ghost use lib.ListN.{take, length};
 ghost use Rattle.definition.specs.Num.{zeros};
 ghost use Rattle.definition.specs.Run.{scan};
 ghost use Rattle.definition.specs.Dense.{sandwich};
 ghost use Rattle.definition.specs.Cov.{elementOf, isLive, stepStar, stepInf, stepped};
-ghost use Rattle.definition.specs.Inputs.{classOf, isGap};
+ghost use Rattle.laws.specs.Flat.{flatIn};
 ghost use Rattle.dense.specs.Views.{mat};
 ghost use Rattle.star.specs.Views.{Sound};
-ghost use Rattle.element.specs.Views.{notes, books, fixedOf, Known};
-ghost use Rattle.period.specs.Views.{Ran, Begun, stateOf, gapsOf, stopsOf, pastOf, startOf, TookIn, Listed, Sizes, Stretch, WithRoot, ByRoots, Rest};
-
-const RANK: f64 = 1e-10;
+ghost use Rattle.element.specs.Views.{carried, fixedOf, SdKnown};
+ghost use Rattle.period.specs.Views.{Ran, Begun, stateOf, gapsOf, stopsOf, pastOf, beforeFirst, TookIn, Listed, Sizes, Stretch, WithRoot, RestByRoot, Rest};
 
 // A stretch ends at a doubtful element, and one that began fresh with the first that is taken.
 fn stops(r: element::Step, fresh: bool) -> bool
@@ -63,10 +61,14 @@ fn stretch(
     p: usize,
     m: usize,
 ) -> usize
-    requires { ⌜ Sizes p m from (length (now ys)) × Known m fresh (now pre) (now sd) ⌝ }
-    ensures { λ r. ⌜ Stretch p m (mat p (now (hs .entry))) (fixedOf p m live (now (design .entry)) (now (pre .entry)) (now (unres .entry))) (gapsOf (now (ys .entry))) fresh from r
-        (books (now (star .entry)) (now («p_inf» .entry)) (now (root .entry)) (notes (now (kinds .entry)) (now (fs .entry)) (now (fi .entry)) (now (ms .entry)) (now (mi .entry))))
-        (books (now (star .exit)) (now («p_inf» .exit)) (now (root .exit)) (notes (now (kinds .exit)) (now (fs .exit)) (now (fi .exit)) (now (ms .exit)) (now (mi .exit)))) ⌝ }
+    requires { ⌜ Sizes p m from (length (now ys)) × SdKnown m fresh (now pre) (now sd) ⌝ }
+    ensures { λ r. ⌜ Stretch p m (mat p (now (hs .entry)))
+        (fixedOf p m live (now (design .entry)) (now (pre .entry)) (now (unres .entry))) (gapsOf (now (ys .entry)))
+        fresh from r
+        (carried (now (star .entry)) (now («p_inf» .entry)) (now (root .entry))
+        (flatIn (now (kinds .entry)) (now (fs .entry)) (now (fi .entry)) (now (ms .entry)) (now (mi .entry))))
+        (carried (now (star .exit)) (now («p_inf» .exit)) (now (root .exit))
+        (flatIn (now (kinds .exit)) (now (fs .exit)) (now (fi .exit)) (now (ms .exit)) (now (mi .exit)))) ⌝ }
 {
     for i in from..p {
         let gap = float::is_nan(ys[i]);
@@ -98,18 +100,19 @@ fn stretch(
     p
 }
 
-// The elements taken so far, by their kinds.
+// The elements taken so far.
 struct Taken {
     places: [usize; 8],
     count: usize,
 }
 
+// Element i joins those taken, if its kind is not 0, skipped.
 fn take_in(t: Taken, kind: u8, i: usize) -> Taken
     requires { ⌜ t .count < 8 ⌝ }
     ensures { λ r. ⌜ TookIn t kind i r ⌝ }
 {
     let mut t = t;
-    if kind != 0 {
+    if kind != promise::SKIPPED {
         let n = t.count;
         t.places[n] = i;
         t.count = n + 1;
@@ -117,6 +120,7 @@ fn take_in(t: Taken, kind: u8, i: usize) -> Taken
     t
 }
 
+// Those taken of the first n elements, by the kinds in their records.
 fn taken_of(kinds: &[u8; 8], n: usize) -> Taken
     requires { ⌜ n ≤ 8 ⌝ }
     ensures { λ r. ⌜ Listed n (take n (now (kinds .entry))) r ⌝ }
@@ -132,7 +136,7 @@ fn taken_of(kinds: &[u8; 8], n: usize) -> Taken
     t
 }
 
-// The last stretch: the star root is at hand.
+// The last stretch, from element `from` on: the star root is at hand.
 fn with_root(
     star: &mut [f64; 64],
     kinds: &mut [u8; 8],
@@ -150,10 +154,13 @@ fn with_root(
     p: usize,
     m: usize,
 )
-    requires { ⌜ Sizes p m from (length (now ys)) × (Known m false (now pre) (now sd) × Sound m root) ⌝ }
-    ensures { λ _. ⌜ WithRoot p m (mat p (now (hs .entry))) (now (design .entry)) (now (pre .entry)) (gapsOf (now (ys .entry))) from root
-        (now (star .entry)) (notes (now (kinds .entry)) (now (fs .entry)) (now (fi .entry)) (now (ms .entry)) (now (mi .entry)))
-        (now (star .exit)) (notes (now (kinds .exit)) (now (fs .exit)) (now (fi .exit)) (now (ms .exit)) (now (mi .exit))) ⌝ }
+    requires { ⌜ Sizes p m from (length (now ys)) × (SdKnown m false (now pre) (now sd) × Sound m root) ⌝ }
+    ensures { λ _. ⌜ WithRoot p m (mat p (now (hs .entry))) (now (design .entry)) (now (pre .entry))
+        (gapsOf (now (ys .entry))) from root
+        (now (star .entry))
+        (flatIn (now (kinds .entry)) (now (fs .entry)) (now (fi .entry)) (now (ms .entry)) (now (mi .entry)))
+        (now (star .exit))
+        (flatIn (now (kinds .exit)) (now (fs .exit)) (now (fi .exit)) (now (ms .exit)) (now (mi .exit))) ⌝ }
 {
     let mut root = root;
     for i in from..p {
@@ -178,7 +185,7 @@ fn with_root(
     }
 }
 
-// The star root is built over the elements taken, and kept.
+// The last stretch: the star root is built over the elements taken, and kept.
 fn by_root(
     star: &mut [f64; 64],
     kinds: &mut [u8; 8],
@@ -195,10 +202,13 @@ fn by_root(
     p: usize,
     m: usize,
 )
-    requires { ⌜ Sizes p m from (length (now ys)) × Known m false (now pre) (now sd) ⌝ }
-    ensures { λ _. ⌜ ByRoots p m (mat p (now (hs .entry))) (now (design .entry)) (now (pre .entry)) (gapsOf (now (ys .entry))) from
-        (now (star .entry)) (notes (now (kinds .entry)) (now (fs .entry)) (now (fi .entry)) (now (ms .entry)) (now (mi .entry)))
-        (now (star .exit)) (notes (now (kinds .exit)) (now (fs .exit)) (now (fi .exit)) (now (ms .exit)) (now (mi .exit))) ⌝ }
+    requires { ⌜ Sizes p m from (length (now ys)) × SdKnown m false (now pre) (now sd) ⌝ }
+    ensures { λ _. ⌜ RestByRoot p m (mat p (now (hs .entry))) (now (design .entry)) (now (pre .entry))
+        (gapsOf (now (ys .entry))) from
+        (now (star .entry))
+        (flatIn (now (kinds .entry)) (now (fs .entry)) (now (fi .entry)) (now (ms .entry)) (now (mi .entry)))
+        (now (star .exit))
+        (flatIn (now (kinds .exit)) (now (fs .exit)) (now (fi .exit)) (now (ms .exit)) (now (mi .exit))) ⌝ }
 {
     let t = taken_of(kinds, from);
     let places = t.places;
@@ -222,7 +232,7 @@ fn by_root(
     );
 }
 
-// The elements after the first that was taken.
+// The elements after the first that was taken: the second stretch, and the last where it stopped.
 fn rest(
     star: &mut [f64; 64],
     p_inf: &mut [f64; 64],
@@ -243,9 +253,12 @@ fn rest(
     m: usize,
 )
     requires { ⌜ Sizes p m from (length (now ys)) ⌝ }
-    ensures { λ _. ⌜ Rest p m (mat p (now (hs .entry))) (fixedOf p m live (now (design .entry)) (now (pre .entry)) (now (unres .entry))) (gapsOf (now (ys .entry))) from
-        (books (now (star .entry)) (now («p_inf» .entry)) (now (root .entry)) (notes (now (kinds .entry)) (now (fs .entry)) (now (fi .entry)) (now (ms .entry)) (now (mi .entry))))
-        (books (now (star .exit)) (now («p_inf» .exit)) (now (root .exit)) (notes (now (kinds .exit)) (now (fs .exit)) (now (fi .exit)) (now (ms .exit)) (now (mi .exit)))) ⌝ }
+    ensures { λ _. ⌜ Rest p m (mat p (now (hs .entry)))
+        (fixedOf p m live (now (design .entry)) (now (pre .entry)) (now (unres .entry))) (gapsOf (now (ys .entry))) from
+        (carried (now (star .entry)) (now («p_inf» .entry)) (now (root .entry))
+        (flatIn (now (kinds .entry)) (now (fs .entry)) (now (fi .entry)) (now (ms .entry)) (now (mi .entry))))
+        (carried (now (star .exit)) (now («p_inf» .exit)) (now (root .exit))
+        (flatIn (now (kinds .exit)) (now (fs .exit)) (now (fi .exit)) (now (ms .exit)) (now (mi .exit)))) ⌝ }
 {
     let sd = element::deviations(pre, m);
     let at = stretch(
@@ -289,7 +302,8 @@ fn rest(
     }
 }
 
-// The elements of a period, in order, by its readings `ys`, of which only the gaps are seen. P*, P∞ and B go from predicted to filtered.
+// The elements of a period, in order, by its readings `ys`, of which only the gaps are seen. P*, P∞ and B go from
+// predicted to filtered. `live`: the period is diffuse. `pre` is its predicted P*, `unres` P∞ with nothing resolved.
 pub fn elements(
     star: &mut [f64; 64],
     p_inf: &mut [f64; 64],
@@ -309,9 +323,13 @@ pub fn elements(
     m: usize,
 )
     requires { ⌜ (p ≤ 8) × ((m ≤ 8) × (length (now ys) ≡ p)) ⌝ }
-    ensures { λ _. ⌜ Ran p m (scan (elementOf p m (mat p (now (hs .entry))) (fixedOf p m live (now (design .entry)) (now (pre .entry)) (now (unres .entry)))) 0
-        (startOf m (now (star .entry)) (now («p_inf» .entry)) (now (root .entry))) (map isGap (map classOf (now (ys .entry)))))
-        (now (kinds .exit)) (now (fs .exit)) (now (fi .exit)) (now (ms .exit)) (now (mi .exit)) (now (star .exit)) (now («p_inf» .exit)) (now (root .exit)) ⌝ }
+    ensures { λ _. ⌜ Ran p m
+        (scan
+        (elementOf p m (mat p (now (hs .entry)))
+        (fixedOf p m live (now (design .entry)) (now (pre .entry)) (now (unres .entry))))
+        0 (beforeFirst m (now (star .entry)) (now («p_inf» .entry)) (now (root .entry))) (gapsOf (now (ys .entry))))
+        (now (kinds .exit)) (now (fs .exit)) (now (fi .exit)) (now (ms .exit)) (now (mi .exit))
+        (now (star .exit)) (now («p_inf» .exit)) (now (root .exit)) ⌝ }
 {
     let none = [0.0; 8];
     let at = stretch(
@@ -358,6 +376,7 @@ pub fn elements(
     }
 }
 
+// All of P is 0.
 fn clear(p: &mut [f64; 64], m: usize)
     requires { ⌜ m ≤ 8 ⌝ }
     ensures { λ _. ⌜ mat m (now (p .exit)) ≡ zeros (m * m) ⌝ }
@@ -365,12 +384,13 @@ fn clear(p: &mut [f64; 64], m: usize)
     *p = [0.0; 64];
 }
 
+// Whether the diffuse state lasts into a period: it did until then (`live`), and P∞ is not washed out.
 fn lasts(p_inf: &[f64; 64], live: bool, m: usize) -> bool
     requires { ⌜ m ≤ 8 ⌝ }
     ensures { λ r. ⌜ r ≡ isLive m live (mat m (now («p_inf» .entry))) ⌝ }
 {
     if live {
-        return dense::frob_sq(p_inf, m) > RANK;
+        return dense::frob_sq(p_inf, m) > acceptance::TOLERANCE_RANK;
     }
     false
 }
@@ -396,15 +416,18 @@ fn step(p: &mut [f64; 64], t: &[f64; 64], tp: &mut [f64; 64], m: usize)
     products::product_t_into(p, tp, t, m, m, m);
 }
 
+// T P* T' + R Q R', symmetrised, in place.
 fn step_star(star: &mut [f64; 64], t: &[f64; 64], rqr: &[f64; 64], tp: &mut [f64; 64], m: usize)
     requires { ⌜ m ≤ 8 ⌝ }
-    ensures { λ _. ⌜ mat m (now (star .exit)) ≡ stepStar m (mat m (now (t .entry))) (mat m (now (rqr .entry))) (mat m (now (star .entry))) ⌝ }
+    ensures { λ _. ⌜ mat m (now (star .exit))
+        ≡ stepStar m (mat m (now (t .entry))) (mat m (now (rqr .entry))) (mat m (now (star .entry))) ⌝ }
 {
     step(star, t, tp, m);
     dense::add(star, rqr, m);
     dense::symmetrize_in_place(star, m);
 }
 
+// T P∞ T', symmetrised, in place.
 fn step_inf(p_inf: &mut [f64; 64], t: &[f64; 64], tp: &mut [f64; 64], m: usize)
     requires { ⌜ m ≤ 8 ⌝ }
     ensures { λ _. ⌜ mat m (now («p_inf» .exit)) ≡ stepInf m (mat m (now (t .entry))) (mat m (now («p_inf» .entry))) ⌝ }
@@ -413,7 +436,7 @@ fn step_inf(p_inf: &mut [f64; 64], t: &[f64; 64], tp: &mut [f64; 64], m: usize)
     dense::symmetrize_in_place(p_inf, m);
 }
 
-// P*, P∞, B and the unresolved matrix go on by T.
+// P* and P∞ go on by T, and while the diffuse state lasts the root B and the unresolved matrix too.
 pub fn go_on(
     star: &mut [f64; 64],
     p_inf: &mut [f64; 64],
@@ -426,7 +449,9 @@ pub fn go_on(
 )
     requires { ⌜ m ≤ 8 ⌝ }
     ensures { λ _. ⌜ stateOf m (now (star .exit)) (now («p_inf» .exit)) (now (root .exit)) (now (unres .exit)) diffuse
-        ≡ stepped m (mat m (now (t .entry))) (mat m (now (rqr .entry))) diffuse (mat m (now (star .entry))) (mat m (now («p_inf» .entry))) (mat m (now (root .entry))) (mat m (now (unres .entry))) ⌝ }
+        ≡ stepped m (mat m (now (t .entry))) (mat m (now (rqr .entry))) diffuse
+        (mat m (now (star .entry))) (mat m (now («p_inf» .entry))) (mat m (now (root .entry)))
+        (mat m (now (unres .entry))) ⌝ }
 {
     let mut tp = [0.0; 64];
     step_star(star, t, rqr, &mut tp, m);

@@ -1,4 +1,4 @@
-// products.rs: matrices by matrices: A B, A B', A' B, A', T P T' and A' N B, over the places of crates/dense. Every sum is document 01's.
+// dense.rs, a matrix with a matrix: A B, A B', A' B, A', T P T' and A' N B, over the places of crates/dense. Every sum is document 01's.
 ghost use mathlib.Core.Path.{_≡_};
 ghost use Prim.Native.Nat.{_≤_, _<_};
 ghost use Rattle.definition.specs.Num.{tabulate};

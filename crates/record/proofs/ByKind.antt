@@ -5,11 +5,11 @@ use mathlib.Core.List.{List}
 use lib.Ieee.{Float}
 use lib.ListN.{getD}
 use Rattle.definition.specs.Num.{at}
-use Rattle.record.specs.Records.{skippedRecord, kindFrom, recordFrom, recordAt}
-use Rattle.record.specs.declared.Kind.{Kind}
-use Rattle.record.specs.declared.Kind.the-variants.{Usual, Diffuse}
-use Rattle.record.specs.declared.Record.{Record}
-use Rattle.record.specs.declared.FlatRecord.{FlatRecord}
+use Rattle.promise.specs.Records.{skippedRecord, kindFrom, recordFrom, recordAt}
+use Rattle.promise.specs.declared.Kind.{Kind}
+use Rattle.promise.specs.declared.Kind.the-variants.{Usual, Diffuse}
+use Rattle.promise.specs.declared.Record.{Record}
+use Rattle.promise.specs.declared.FlatRecord.{FlatRecord}
 
 abbrev of : Kind → Record
 of k = record { kind = k }

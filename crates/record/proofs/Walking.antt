@@ -5,9 +5,9 @@ use mathlib.Core.List.{List}
 use mir.Syntax.{Ty, w64, tyInt}
 use mir.Val.{Val}
 use denote.Struct.Laws as LL
-use Rattle.record.specs.declared.Record.{Record}
-use Rattle.record.proofs.Record as T
-use Rattle.record.proofs.Record.Laws as T′
+use Rattle.promise.specs.declared.Record.{Record}
+use Rattle.promise.proofs.Record as T
+use Rattle.promise.proofs.Record.Laws as T′
 
 abbrev pub machine : Record → Val
 machine r = LL.val T.the-type T′.the-laws r

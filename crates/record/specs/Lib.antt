@@ -1,3 +1,3 @@
-pub mod Records
 pub mod RoundTrip
 pub mod Written
+pub mod Read

@@ -1,5 +1,5 @@
 -- The two forms of a record tell the same: from a record to its numbers and back, and from the numbers that a run writes to a record and back.
-use mathlib.Core.Path.{_≡_, refl}
+use mathlib.Core.Path.{_≡_, refl, sym, ap, _∙_}
 use Prim.Native.Nat.{ℕ, zero, suc}
 use mathlib.Core.List.{List}
 use lib.Ieee.{Float}
@@ -7,11 +7,11 @@ use Rattle.definition.specs.Num.{0ᶠ}
 use Rattle.definition.specs.Cov.{Decision, skipped, usual, diffuse}
 use Rattle.definition.specs.Mean.{vOf}
 use Rattle.definition.specs.Parts.{kindNo, fStarOf, fInfOf}
-use Rattle.record.specs.Records.{recordOf, recordFrom, flatOf, flatKind, kindFrom}
-use Rattle.record.specs.declared.Kind.{Kind}
-use Rattle.record.specs.declared.Kind.the-variants.{Skipped, Usual, Diffuse}
-use Rattle.record.specs.declared.Record.{Record}
-use Rattle.record.specs.declared.FlatRecord.{FlatRecord}
+use Rattle.promise.specs.Records.{recordOf, recordFrom, flatOf, flatKind, kindFrom}
+use Rattle.promise.specs.declared.Kind.{Kind}
+use Rattle.promise.specs.declared.Kind.the-variants.{Skipped, Usual, Diffuse}
+use Rattle.promise.specs.declared.Record.{Record}
+use Rattle.promise.specs.declared.FlatRecord.{FlatRecord}
 
 back : (k : Kind) → recordFrom (flatKind k) .kind ≡ k
 unfolding kindFrom
@@ -65,3 +65,7 @@ unfolding kindFrom recordOf
 by-decision skipped v = refl
 by-decision (usual f m*) v = refl
 by-decision (diffuse f f∞ m* m∞) v = refl
+
+-- so what is written of the element's record is the v that the mean track works out
+pub v-told : (m : ℕ) (z : List Float) (c : Float) (a : List Float) (reading : Float) (d : Decision) → flatOf (recordOf d (vOf m z c a reading d)) .v ≡ vOf m z c a reading d
+v-told m z c a reading d = ap (λ (x : FlatRecord). x .v) (ap flatOf (sym (by-decision d (vOf m z c a reading d))) ∙ run-and-back m z c a reading d)

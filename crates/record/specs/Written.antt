@@ -12,9 +12,9 @@ use Rattle.definition.specs.Cov.{Decision}
 use Rattle.definition.specs.Parts.{kindNo, fStarOf, fInfOf}
 use Rattle.laws.specs.Lists.{tab-cong}
 use Rattle.laws.specs.Flat.{Flat, decisionOf, readBack}
-use Rattle.record.specs.Records.{skippedRecord, recordOf, kindFrom, recordFrom, recordAt, recordsOf, filled}
+use Rattle.promise.specs.Records.{recordsBy, skippedRecord, recordOf, kindFrom, recordFrom, recordAt, recordsOf, filled}
 use Rattle.record.specs.RoundTrip.{by-decision}
-use Rattle.record.specs.declared.Record.{Record}
+use Rattle.promise.specs.declared.Record.{Record}
 
 of-kind : (n : ℕ) (v f f∞ : Float) (a b : List Float) → recordFrom (record { kind = n; v = v; «f_star» = f; «f_inf» = f∞ }) ≡ recordOf (decisionOf n f f∞ a b) v
 unfolding kindFrom decisionOf recordOf
@@ -36,10 +36,6 @@ cons : (n : ℕ) (k : ℕ) (ks : List ℕ) (v f f∞ : Float) (vs fs f∞s : Lis
     → recordsOf (suc n) (k ∷ ks) (v ∷ vs) (f ∷ fs) (f∞ ∷ f∞s) ≡ recordFrom (record { kind = k; v = v; «f_star» = f; «f_inf» = f∞ }) ∷ recordsOf n ks vs fs f∞s
 unfolding recordsOf recordAt tabFrom
 cons n k ks v f f∞ vs fs f∞s = ap (λ (l : List Record). recordFrom (record { kind = k; v = v; «f_star» = f; «f_inf» = f∞ }) ∷ l) (tab-shift n 0 (recordAt (k ∷ ks) (v ∷ vs) (f ∷ fs) (f∞ ∷ f∞s)))
-
--- the records of a run, in order: by what it decided, and by each v
-unfoldable pub recordsBy : List Decision → List Float → List Record
-recordsBy ds vs = map (λ e. recordOf (e .0) (e .1)) (pairs ds vs)
 
 -- where the flat parts begin with what the run wrote, they tell these
 pub records-written : (ds : List Decision) (vs : List Float) (ks : List ℕ) (r s t : List Float) → length vs ≡ length ds

@@ -1,29 +1,15 @@
 // The element record as a struct that holds an enum: to its flat form and back, into and out of a lent list of records, and a run's flat records
 // laid out as such a list.
 ghost use mathlib.Core.Path.{_≡_};
-ghost use Prim.Native.Nat.{min};
 ghost use lib.ListN.{set, getD};
 ghost use Rattle.definition.specs.Num.{at};
-ghost use Rattle.record.specs.Records.{skippedRecord, flatOf, recordFrom, recordAt, filled};
-
-// What became of an element: nothing; v and F*; v, F* and F∞.
-pub enum Kind {
-    Skipped,
-    Usual(f64, f64),
-    Diffuse(f64, f64, f64),
-}
-
-pub struct Record {
-    pub kind: Kind,
-}
-
-// A record as numbers: its kind, 0, 1 or 2, and the three numbers, the unused ones +0.0.
-pub struct FlatRecord {
-    pub kind: u8,
-    pub v: f64,
-    pub f_star: f64,
-    pub f_inf: f64,
-}
+ghost use Rattle.promise.specs.Records.{skippedRecord, flatOf, recordFrom, recordAt, filled};
+use promise::DIFFUSE;
+use promise::FlatRecord;
+use promise::Kind;
+use promise::Record;
+use promise::SKIPPED;
+use promise::USUAL;
 
 pub fn to_flat(r: Record) -> FlatRecord
     ensures { λ x. ⌜ x ≡ flatOf r ⌝ }
@@ -31,19 +17,19 @@ pub fn to_flat(r: Record) -> FlatRecord
     let kind = r.kind;
     match kind {
         Kind::Skipped => FlatRecord {
-            kind: 0,
+            kind: SKIPPED,
             v: 0.0,
             f_star: 0.0,
             f_inf: 0.0,
         },
         Kind::Usual(v, f_star) => FlatRecord {
-            kind: 1,
+            kind: USUAL,
             v,
             f_star,
             f_inf: 0.0,
         },
         Kind::Diffuse(v, f_star, f_inf) => FlatRecord {
-            kind: 2,
+            kind: DIFFUSE,
             v,
             f_star,
             f_inf,
@@ -56,10 +42,10 @@ pub fn from_flat(x: FlatRecord) -> Record
 {
     let kind = x.kind;
     match kind {
-        0 => Record {
+        SKIPPED => Record {
             kind: Kind::Skipped,
         },
-        1 => Record {
+        USUAL => Record {
             kind: Kind::Usual(x.v, x.f_star),
         },
         _ => Record {
@@ -113,7 +99,8 @@ pub fn record_at<'a>(
     f_inf: &'a [f64],
     k: usize,
 ) -> Record
-    ensures { λ r. ⌜ r ≡ recordAt (now (kinds .entry)) (now (v .entry)) (now («f_star» .entry)) (now («f_inf» .entry)) k ⌝ }
+    ensures { λ r. ⌜ r ≡ recordAt (now (kinds .entry)) (now (v .entry))
+        (now («f_star» .entry)) (now («f_inf» .entry)) k ⌝ }
 {
     from_flat(FlatRecord {
         kind: byte_at(kinds, k),
@@ -121,12 +108,6 @@ pub fn record_at<'a>(
         f_star: float_at(f_star, k),
         f_inf: float_at(f_inf, k),
     })
-}
-
-fn least(a: usize, b: usize) -> usize
-    ensures { λ r. ⌜ r ≡ min a b ⌝ }
-{
-    if a < b { a } else { b }
 }
 
 // The first k records of the flat parts, into a lent list of records, as far as it reaches. The rest of it stays.
@@ -138,13 +119,13 @@ pub fn fill<'a, 'r>(
     k: usize,
     records: &'r mut [Record],
 )
-    ensures { λ _. ⌜ now (records .exit) ≡ filled k (now (kinds .entry)) (now (v .entry)) (now («f_star» .entry)) (now («f_inf» .entry)) (now (records .entry)) ⌝ }
+    ensures { λ _. ⌜ now (records .exit) ≡ filled k (now (kinds .entry)) (now (v .entry))
+        (now («f_star» .entry)) (now («f_inf» .entry)) (now (records .entry)) ⌝ }
 {
-    let n = least(k, records.len());
     let mut i: usize = 0;
-    while i < n {
+    while i < k {
         let r = record_at(kinds, v, f_star, f_inf, i);
-        records[i] = r;
+        put(records, i, r);
         i += 1;
     }
 }

@@ -31,17 +31,18 @@ use denote.Triple.Statement.{Contract}
 use denote.Triple.Entry.{Vals}
 use denote.Triple.Spec.{tripleOf}
 use denote.Triple.Clauses.{ensured, lasts}
-use Rattle.record.specs.Records.{filled}
-use Rattle.record.specs.declared.Record.{Record}
-use Rattle.record.proofs.Record as T
+use Rattle.promise.specs.Records.{filled}
+use Rattle.promise.specs.declared.Record.{Record}
+use Rattle.promise.proofs.Record as T
 use Rattle.record.proofs.fill as fill
-use Rattle.filter.specs.declared.Outcome.{Outcome}
-use Rattle.filter.proofs.Outcome as O
-use Rattle.filter.proofs.Outcome.Laws as O′
-use Rattle.records.specs.Listed.{toTell, capped}
-use Rattle.records.proofs.Again.{LentAgain, lends-again, comes-back}
-use Rattle.records.proofs.Shared.{LentShared, shares-out, shared-back}
-use Rattle.records.proofs.Lent.{val, Lent, refOf, valOf, ownOf}
+use Rattle.promise.specs.declared.Outcome.{Outcome}
+use Rattle.promise.proofs.Outcome as O
+use Rattle.promise.proofs.Outcome.Laws as O′
+use Rattle.promise.specs.WithRecords.{toTell}
+use Rattle.records.specs.Few.{capped}
+use Rattle.walks.proofs.Again.{LentAgain, lends-again, comes-back}
+use Rattle.walks.proofs.Shared.{LentShared, shares-out, shared-back}
+use Rattle.walks.proofs.Lent.{val, Lent, refOf, valOf, ownOf}
 use Rattle.records.proofs.to_tell as tell
 
 abbrev pub Row : RattleType
@@ -137,7 +138,7 @@ module _ {M : Type 1} (𝓤 : URA M) (H : Heap 𝓤) (A : Atoms 𝓤) (W : Given
 
     -- ---- the call of `fill`: the four as shared, the list for good
 
-    module _ (mem : Memory → SProp 𝓤) (run : Routine → Fun 𝓤) (κ : Lft) (q : Share) (out : RefT (List Record)) (k : ℕ) (k-fits : k < 2 ^ 64) where
+    module _ (mem : Memory → SProp 𝓤) (run : Routine → Fun 𝓤) (κ : Lft) (q : Share) (out : RefT (List Record)) (k : ℕ) (u : Val) (k-is : Is usize k (u ∷ [])) where
       abbrev κs : Names → Lfts 2
       κs e = (during e, (κ, tt))
 
@@ -145,7 +146,7 @@ module _ {M : Type 1} (𝓤 : URA M) (H : Heap 𝓤) (A : Atoms 𝓤) (W : Given
       x e = (refOf kinds (e .k) zk, (refOf v (e .v) zv, (refOf fs (e .s) zs, (refOf fi (e .i) zi, (k, (out, tt))))))
 
       abbrev at : (e : Names) → Vals fill.signature (κs e)
-      at e = (valOf kinds ∷ [], (valOf v ∷ [], (valOf fs ∷ [], (valOf fi ∷ [], (vint w64 k ∷ [], (val out ∷ [], tt))))))
+      at e = (valOf kinds ∷ [], (valOf v ∷ [], (valOf fs ∷ [], (valOf fi ∷ [], (u ∷ [], (val out ∷ [], tt))))))
 
       abbrev pub to-fill : Names → Fill 𝓤 H A mem run .Ghost
       to-fill e = ((κs e, (fullShare, (q, tt)), tt, x e, at e), tt)
@@ -178,20 +179,20 @@ module _ {M : Type 1} (𝓤 : URA M) (H : Heap 𝓤) (A : Atoms 𝓤) (W : Given
           move ! (8 ∷ 5 ∷ []) $ rewrite ! 0 (λ (m : ℕ). ‵ (MutSlice (named 3) (v .lft) f64 .own (refOf v (v .name) zv) (sliceVal (v .b, v .o) m ∷ []))) (sym gv) refl $ use2 W (later (some (λ (δ : GName). ‵ (ShrSlice (named 0) (μ ∷ []) f64 .own (refOf v δ zv) (sliceVal (v .b, v .o) (length zv) ∷ [])) ⊛ ‵ (LentShared f64 (v .lft) (μ ∷ []) (v .share) (v .name) (v .b) (v .o) zv)))) (shares-out f64 (v .lft) (μ ∷ []) (v .share) (v .name) (v .b) (v .o) 𝓤 H A W (named 3) (named 0) zv) $ await ! tt $ pick ! (λ δv. split ! $ rewrite ! 0 (λ (m : ℕ). ‵ (ShrSlice (named 0) (μ ∷ []) f64 .own (refOf v δv zv) (sliceVal (v .b, v .o) m ∷ []))) gv refl $
           move ! (8 ∷ 5 ∷ []) $ rewrite ! 0 (λ (m : ℕ). ‵ (MutSlice (named 4) (fs .lft) f64 .own (refOf fs (fs .name) zs) (sliceVal (fs .b, fs .o) m ∷ []))) (sym gs) refl $ use2 W (later (some (λ (δ : GName). ‵ (ShrSlice (named 0) (μ ∷ []) f64 .own (refOf fs δ zs) (sliceVal (fs .b, fs .o) (length zs) ∷ [])) ⊛ ‵ (LentShared f64 (fs .lft) (μ ∷ []) (fs .share) (fs .name) (fs .b) (fs .o) zs)))) (shares-out f64 (fs .lft) (μ ∷ []) (fs .share) (fs .name) (fs .b) (fs .o) 𝓤 H A W (named 4) (named 0) zs) $ await ! tt $ pick ! (λ δs. split ! $ rewrite ! 0 (λ (m : ℕ). ‵ (ShrSlice (named 0) (μ ∷ []) f64 .own (refOf fs δs zs) (sliceVal (fs .b, fs .o) m ∷ []))) gs refl $
           move ! (8 ∷ 7 ∷ []) $ rewrite ! 0 (λ (m : ℕ). ‵ (MutSlice (named 5) (fi .lft) f64 .own (refOf fi (fi .name) zi) (sliceVal (fi .b, fi .o) m ∷ []))) (sym gi) refl $ use2 W (later (some (λ (δ : GName). ‵ (ShrSlice (named 0) (μ ∷ []) f64 .own (refOf fi δ zi) (sliceVal (fi .b, fi .o) (length zi) ∷ [])) ⊛ ‵ (LentShared f64 (fi .lft) (μ ∷ []) (fi .share) (fi .name) (fi .b) (fi .o) zi)))) (shares-out f64 (fi .lft) (μ ∷ []) (fi .share) (fi .name) (fi .b) (fi .o) 𝓤 H A W (named 5) (named 0) zi) $ await ! tt $ pick ! (λ δi. split ! $ rewrite ! 0 (λ (m : ℕ). ‵ (ShrSlice (named 0) (μ ∷ []) f64 .own (refOf fi δi zi) (sliceVal (fi .b, fi .o) m ∷ []))) gi refl $
-          at-once ! $ show ! (λ (e : Names). sep 𝓤 (Fill 𝓤 H A mem run .pre (to-fill e)) (mean 𝓤 H A (Shared e))) (record { call = μ; k = δk; v = δv; s = δs; i = δi }) $ nothing ! $ move ! (10 ∷ 0 ∷ []) $ fjoin ! $ owned ! usize (Is usize) (uint-makes 𝓤 H A W w64) k _ (refl, k-fits) $ fjoin ! $ move ! (1 ∷ 0 ∷ []) $ fjoin ! $ move ! (2 ∷ 0 ∷ []) $ fjoin ! $ move ! (3 ∷ 0 ∷ []) $ fjoin ! $ move ! (4 ∷ 0 ∷ []) $ fjoin ! $ nothing ! $ move ! (7 ∷ 0 ∷ []) $ join ! $ move ! (6 ∷ 0 ∷ []) $ join ! $
+          at-once ! $ show ! (λ (e : Names). sep 𝓤 (Fill 𝓤 H A mem run .pre (to-fill e)) (mean 𝓤 H A (Shared e))) (record { call = μ; k = δk; v = δv; s = δs; i = δi }) $ nothing ! $ move ! (10 ∷ 0 ∷ []) $ fjoin ! $ owned ! usize (Is usize) (uint-makes 𝓤 H A W w64) k (u ∷ []) k-is $ fjoin ! $ move ! (1 ∷ 0 ∷ []) $ fjoin ! $ move ! (2 ∷ 0 ∷ []) $ fjoin ! $ move ! (3 ∷ 0 ∷ []) $ fjoin ! $ move ! (4 ∷ 0 ∷ []) $ fjoin ! $ nothing ! $ move ! (7 ∷ 0 ∷ []) $ join ! $ move ! (6 ∷ 0 ∷ []) $ join ! $
           use2 W (raw (Fill 𝓤 H A mem run .pre (to-fill (record { call = μ; k = δk; v = δv; s = δs; i = δi })))) (asks-fill (record { call = μ; k = δk; v = δv; s = δs; i = δi })) $ frame ! $ move ! (3 ∷ 2 ∷ 1 ∷ 0 ∷ []) $ group ! 4 $ done !)))))
 
       abbrev pub Filled : Val → List Record → Type 0
-      Filled u zo = (u ∷ [] ≡ vunit ∷ []) × (zo ≡ filled k zk zv zs zi (out .now)) × (length zo ≡ length (out .now))
+      Filled w zo = (w ∷ [] ≡ vunit ∷ []) × (zo ≡ filled k zk zv zs zi (out .now)) × (length zo ≡ length (out .now))
 
-      pub after-fill : (e : Names) (u : Val) → ent 𝓤 (sep 𝓤 (Fill 𝓤 H A mem run .post (to-fill e) u) (mean 𝓤 H A (Shared e))) (H .⇛ (ex 𝓤 (λ (zo : List Record). guard 𝓤 (Filled u zo) (mean 𝓤 H A (Done zo)))))
-      after-fill e u =
-          qed W (raw (Fill 𝓤 H A mem run .post (to-fill e) u) ∷ Shared e ∷ []) ∵ updating ! $
-          use1 W (later (some (λ (t : Unit {0}). ((‵ (flft (during e) fullShare) ⊛ ‵ (flft κ q) ⊛ ‵ ftrue) ⊛ ‵ (unit .own t (u ∷ []))) ⊛ raw (ensured 𝓤 H A fill.ended (fill.clauses 𝓤 H A mem run) (κs e) (x e) tt t)))) (id⊢ 𝓤 _) $ await ! tt $ pick ! (λ t. split ! $ move ! (1 ∷ []) $
+      pub after-fill : (e : Names) (w : Val) → ent 𝓤 (sep 𝓤 (Fill 𝓤 H A mem run .post (to-fill e) w) (mean 𝓤 H A (Shared e))) (H .⇛ (ex 𝓤 (λ (zo : List Record). guard 𝓤 (Filled w zo) (mean 𝓤 H A (Done zo)))))
+      after-fill e w =
+          qed W (raw (Fill 𝓤 H A mem run .post (to-fill e) w) ∷ Shared e ∷ []) ∵ updating ! $
+          use1 W (later (some (λ (t : Unit {0}). ((‵ (flft (during e) fullShare) ⊛ ‵ (flft κ q) ⊛ ‵ ftrue) ⊛ ‵ (unit .own t (w ∷ []))) ⊛ raw (ensured 𝓤 H A fill.ended (fill.clauses 𝓤 H A mem run) (κs e) (x e) tt t)))) (id⊢ 𝓤 _) $ await ! tt $ pick ! (λ t. split ! $ move ! (1 ∷ []) $
           use1 W (some (λ (zo : Unit {0} × (Unit {0} × (Unit {0} × (Unit {0} × (Unit {0} × (List Record × Unit {0})))))). ‵ (lasts fill.ended (κs e) (x e) zo) ⊛ raw (fact 𝓤 (zo .1 .1 .1 .1 .1 .0 ≡ filled k zk zv zs zi (out .now))))) (id⊢ 𝓤 _) $ pick ! (λ zo. split ! $ move ! (1 ∷ []) $ heard ! (zo .1 .1 .1 .1 .1 .0 ≡ filled k zk zv zs zi (out .now)) (λ so. fsplit ! $ move ! (1 ∷ []) $ fsplit ! $ move ! (1 ∷ []) $ fsplit ! $ move ! (1 ∷ []) $ fsplit ! $ move ! (1 ∷ []) $ fsplit ! $ move ! (1 ∷ []) $ fsplit ! $ fsplit ! $ move ! (1 ∷ []) $ feqL ! (λ lo. move ! (7 ∷ []) $ split ! $ move ! (1 ∷ []) $ feqL ! (λ isu.
           split ! $ move ! (1 ∷ []) $ split ! $ move ! (10 ∷ []) $ split ! $ move ! (1 ∷ []) $ split ! $ move ! (1 ∷ []) $ split ! $ move ! (6 ∷ []) $ lft-end ! tt $ use1 W (‵ (fdead (during e)) ⊛ ‵ (fdead (during e))) (W .lfts .dead-dup (during e)) $ split ! $ move ! (1 ∷ []) $ use1 W (‵ (fdead (during e)) ⊛ ‵ (fdead (during e))) (W .lfts .dead-dup (during e)) $ split ! $ move ! (1 ∷ []) $ use1 W (‵ (fdead (during e)) ⊛ ‵ (fdead (during e))) (W .lfts .dead-dup (during e)) $ split ! $
           move ! (3 ∷ 7 ∷ []) $ use2 W (later (‵ (MutSlice (named 2) (kinds .lft) u8 .own (refOf kinds (kinds .name) zk) (sliceVal (kinds .b, kinds .o) (length zk) ∷ [])) ⊛ ‵ (flft (kinds .lft) (kinds .share)))) (shared-back u8 (kinds .lft) (during e) (kinds .share) (kinds .name) (kinds .b) (kinds .o) 𝓤 H A W (named 2) (named 0) zk (subst (Room u8) (sym gk) (kinds .room))) $ await ! tt $ split ! $ rewrite ! 0 (λ (m : ℕ). ‵ (MutSlice (named 2) (kinds .lft) u8 .own (refOf kinds (kinds .name) zk) (sliceVal (kinds .b, kinds .o) m ∷ []))) gk refl $
           move ! (4 ∷ 7 ∷ []) $ use2 W (later (‵ (MutSlice (named 3) (v .lft) f64 .own (refOf v (v .name) zv) (sliceVal (v .b, v .o) (length zv) ∷ [])) ⊛ ‵ (flft (v .lft) (v .share)))) (shared-back f64 (v .lft) (during e) (v .share) (v .name) (v .b) (v .o) 𝓤 H A W (named 3) (named 0) zv (subst (Room f64) (sym gv) (v .room))) $ await ! tt $ split ! $ rewrite ! 0 (λ (m : ℕ). ‵ (MutSlice (named 3) (v .lft) f64 .own (refOf v (v .name) zv) (sliceVal (v .b, v .o) m ∷ []))) gv refl $
           move ! (4 ∷ 6 ∷ []) $ use2 W (later (‵ (MutSlice (named 4) (fs .lft) f64 .own (refOf fs (fs .name) zs) (sliceVal (fs .b, fs .o) (length zs) ∷ [])) ⊛ ‵ (flft (fs .lft) (fs .share)))) (shared-back f64 (fs .lft) (during e) (fs .share) (fs .name) (fs .b) (fs .o) 𝓤 H A W (named 4) (named 0) zs (subst (Room f64) (sym gs) (fs .room))) $ await ! tt $ split ! $ rewrite ! 0 (λ (m : ℕ). ‵ (MutSlice (named 4) (fs .lft) f64 .own (refOf fs (fs .name) zs) (sliceVal (fs .b, fs .o) m ∷ []))) gs refl $
           move ! (6 ∷ 7 ∷ []) $ use2 W (later (‵ (MutSlice (named 5) (fi .lft) f64 .own (refOf fi (fi .name) zi) (sliceVal (fi .b, fi .o) (length zi) ∷ [])) ⊛ ‵ (flft (fi .lft) (fi .share)))) (shared-back f64 (fi .lft) (during e) (fi .share) (fi .name) (fi .b) (fi .o) 𝓤 H A W (named 5) (named 0) zi (subst (Room f64) (sym gi) (fi .room))) $ await ! tt $ split ! $ rewrite ! 0 (λ (m : ℕ). ‵ (MutSlice (named 5) (fi .lft) f64 .own (refOf fi (fi .name) zi) (sliceVal (fi .b, fi .o) m ∷ []))) gi refl $
-          at-once ! $ show ! (λ (zo : List Record). guard 𝓤 (Filled u zo) (mean 𝓤 H A (Done zo))) (zo .1 .1 .1 .1 .1 .0) $ check ! (isu, so, lo) $ keep ! (6 ∷ 4 ∷ 2 ∷ 0 ∷ 7 ∷ 5 ∷ 3 ∷ 1 ∷ 10 ∷ 8 ∷ []) $ group ! 8 $ done !)))))
+          at-once ! $ show ! (λ (zo : List Record). guard 𝓤 (Filled w zo) (mean 𝓤 H A (Done zo))) (zo .1 .1 .1 .1 .1 .0) $ check ! (isu, so, lo) $ keep ! (6 ∷ 4 ∷ 2 ∷ 0 ∷ 7 ∷ 5 ∷ 3 ∷ 1 ∷ 10 ∷ 8 ∷ []) $ group ! 8 $ done !)))))

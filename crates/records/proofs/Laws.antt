@@ -14,13 +14,13 @@ use Rattle.definition.specs.Inputs.{Model, Offsets, classOf, isInfinity}
 use Rattle.definition.specs.Refusals.{outside, badLength, refusal, tests, firstOf}
 use Rattle.definition.specs.Outcome.{CovParts, MeanParts, CovOutcome, MeanOutcome, SmoothedCov, SmoothedMean, Ending, kindsNeed, roomy, roomySmoothed, ending, after, covOutcome, meanOutcome, outcome, outcomeAt, smoothedCov, smoothedMean, smoothOutcome, smoothOutcomeAt}
 use Rattle.model.specs.Lengths.{rooms-are, rooms-smoothed-are, by-room, by-room-smoothed}
-use Rattle.mean.specs.declared.Answer.{Answer}
-use Rattle.filter.specs.declared.Outcome.{Outcome}
-use Rattle.filter.specs.declared.Outcome.the-variants.{Refused, Answered}
-use Rattle.filter.specs.Promise.{Promise}
+use Rattle.promise.specs.declared.Answer.{Answer}
+use Rattle.promise.specs.declared.Outcome.{Outcome}
+use Rattle.promise.specs.declared.Outcome.the-variants.{Refused, Answered}
+use Rattle.promise.specs.Calls.{Promise, PromiseSmooth}
 use Rattle.filter.specs.Ends as ends
-use Rattle.smoother.specs.Promise.{PromiseSmooth}
-use Rattle.records.specs.Listed.{fateListed, outcomeListed, smoothOutcomeListed, toTell, tooFew, capped}
+use Rattle.promise.specs.WithRecords.{endingWithRecords, outcomeWithRecords, smoothOutcomeWithRecords, toTell}
+use Rattle.records.specs.Few.{tooFew, capped}
 
 -- ---- n·p
 
@@ -99,42 +99,42 @@ module _ (x : Model) (o : Offsets) (y : List Float) (have : ℕ) where
       rw l (and-all room)
 
   module _ (w : CovParts) (w′ : MeanParts) where
-    pub few-so : few ≡ true → Promise (outcomeListed x o y w w′ have) (Refused 2) w w′
-    unfolding outcomeListed fateListed
+    pub few-so : few ≡ true → Promise (outcomeWithRecords x o y w w′ have) (Refused 2) w w′
+    unfolding outcomeWithRecords endingWithRecords
     few-so e =
         subst (λ (f : Ending). Promise (ends.End x o y w w′ f) (Refused 2) w w′)
         (sym (ends.is-turned x o y (roomy x w w′ && leb (kindsNeed x) have) 1 (two (roomy x w w′) e))) (ends.turned-away x o y w w′ 1)
 
-    same : few ≡ false → outcome x o y w w′ ≡ outcomeListed x o y w w′ have
-    unfolding outcomeListed fateListed outcome outcomeAt ending
+    same : few ≡ false → outcome x o y w w′ ≡ outcomeWithRecords x o y w w′ have
+    unfolding outcomeWithRecords endingWithRecords outcome outcomeAt ending
     same e =
         let h = by-room x o (length (map classOf y)) (anyOf isInfinity (map classOf y)) w w′ {room = roomy x w w′ && leb (kindsNeed x) have} (λ s. has-room (roomy x w w′) e s ∙ rooms-are x w w′) in
         rw h refl
 
-    pub enough-so : (r : Outcome) (b : CovParts) (b′ : MeanParts) → few ≡ false → Promise (outcome x o y w w′) r b b′ → Promise (outcomeListed x o y w w′ have) r b b′
+    pub enough-so : (r : Outcome) (b : CovParts) (b′ : MeanParts) → few ≡ false → Promise (outcome x o y w w′) r b b′ → Promise (outcomeWithRecords x o y w w′ have) r b b′
     enough-so r b b′ e = subst (λ (u : CovOutcome × MeanOutcome). Promise u r b b′) (same e)
 
     -- the same of the smoother's call
-    module _ (sc sm : List Float) where
+    module _ (sm sc : List Float) where
       abbrev SmoothEnd : Ending → SmoothedCov × SmoothedMean
       SmoothEnd f = (
         record { filter = covOutcome x f (map classOf y) w; smoothed = smoothedCov x f (map classOf y) sc },
         record { filter = meanOutcome x f o (map classOf y) y w′; smoothed = smoothedMean x f o (map classOf y) y sm },
       )
 
-      pub few-smooth-so : few ≡ true → PromiseSmooth (smoothOutcomeListed x o y w w′ sc sm have) (Refused 2) w w′ sm sc
-      unfolding smoothOutcomeListed fateListed smoothedCov smoothedMean after
+      pub few-smooth-so : few ≡ true → PromiseSmooth (smoothOutcomeWithRecords x o y w w′ sm sc have) (Refused 2) w w′ sm sc
+      unfolding smoothOutcomeWithRecords endingWithRecords smoothedCov smoothedMean after
       few-smooth-so e =
-          let room = roomySmoothed x w w′ sc sm in
+          let room = roomySmoothed x w w′ sm sc in
           subst (λ (f : Ending). PromiseSmooth (SmoothEnd f) (Refused 2) w w′ sm sc)
           (sym (ends.is-turned x o y (room && leb (kindsNeed x) have) 1 (two room e))) (record { filter = ends.turned-away x o y w w′ 1; mean = refl; cov = refl })
 
-      same-smooth : few ≡ false → smoothOutcome x o y w w′ sc sm ≡ smoothOutcomeListed x o y w w′ sc sm have
-      unfolding smoothOutcomeListed fateListed smoothOutcome smoothOutcomeAt ending
+      same-smooth : few ≡ false → smoothOutcome x o y w w′ sm sc ≡ smoothOutcomeWithRecords x o y w w′ sm sc have
+      unfolding smoothOutcomeWithRecords endingWithRecords smoothOutcome smoothOutcomeAt ending
       same-smooth e =
-          let room = roomySmoothed x w w′ sc sm in
-          let h = by-room-smoothed x o (length (map classOf y)) (anyOf isInfinity (map classOf y)) w w′ sm sc {room = roomy x w w′} {both = room && leb (kindsNeed x) have} (λ _. rooms-are x w w′) (λ s. has-room room e s ∙ rooms-smoothed-are x w w′ sc sm) in
+          let room = roomySmoothed x w w′ sm sc in
+          let h = by-room-smoothed x o (length (map classOf y)) (anyOf isInfinity (map classOf y)) w w′ sm sc {room = roomy x w w′} {both = room && leb (kindsNeed x) have} (λ _. rooms-are x w w′) (λ s. has-room room e s ∙ rooms-smoothed-are x w w′ sm sc) in
           rw h refl
 
-      pub enough-smooth-so : (r : Outcome) (b : CovParts) (b′ : MeanParts) (sm′ sc′ : List Float) → few ≡ false → PromiseSmooth (smoothOutcome x o y w w′ sc sm) r b b′ sm′ sc′ → PromiseSmooth (smoothOutcomeListed x o y w w′ sc sm have) r b b′ sm′ sc′
+      pub enough-smooth-so : (r : Outcome) (b : CovParts) (b′ : MeanParts) (sm′ sc′ : List Float) → few ≡ false → PromiseSmooth (smoothOutcome x o y w w′ sm sc) r b b′ sm′ sc′ → PromiseSmooth (smoothOutcomeWithRecords x o y w w′ sm sc have) r b b′ sm′ sc′
       enough-smooth-so r b b′ sm′ sc′ e = subst (λ (u : SmoothedCov × SmoothedMean). PromiseSmooth u r b b′ sm′ sc′) (same-smooth e)

@@ -1,6 +1,4 @@
-pub mod Again
+pub mod Both
 pub mod Four
 pub mod Laws
-pub mod Lent
-pub mod Shared
 pub mod Told

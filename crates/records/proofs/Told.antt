@@ -22,16 +22,16 @@ use Rattle.laws.specs.Backward.{each-vs}
 use Rattle.laws.specs.Numbered.{refusal-le}
 use Rattle.laws.specs.Accepted.{accepted, in-range}
 use Rattle.mean_back.specs.Looked.{mean-long, mean-sized}
-use Rattle.forward.specs.View.{covParts, meanParts}
-use Rattle.filter.specs.declared.Outcome.{Outcome}
-use Rattle.filter.specs.declared.Outcome.the-variants.{Refused}
-use Rattle.filter.specs.Promise.{Promise, answerBy}
+use Rattle.promise.specs.Lent.{covParts, meanParts}
+use Rattle.promise.specs.declared.Outcome.{Outcome}
+use Rattle.promise.specs.declared.Outcome.the-variants.{Refused}
+use Rattle.promise.specs.Calls.{Promise, answerBy, PromiseSmooth}
 use Rattle.filter.specs.Ends as ends
-use Rattle.smoother.specs.Promise.{PromiseSmooth}
-use Rattle.record.specs.declared.Record.{Record}
-use Rattle.record.specs.Records.{skippedRecord, recordsOf, filled}
-use Rattle.record.specs.Written.{recordsBy, records-written, records-blank, filled-all}
-use Rattle.records.specs.Listed.{fateListed, outcomeListed, smoothOutcomeListed, recordsRun, listAfter, toTell, toldBy, capped, Listed, ListedSmooth}
+use Rattle.promise.specs.declared.Record.{Record}
+use Rattle.promise.specs.Records.{skippedRecord, recordsOf, filled, recordsBy}
+use Rattle.record.specs.Written.{records-written, records-blank, filled-all}
+use Rattle.promise.specs.WithRecords.{endingWithRecords, outcomeWithRecords, smoothOutcomeWithRecords, recordsRun, listAfter, toTell, toldBy, WithRecords, WithRecordsSmooth}
+use Rattle.records.specs.Few.{capped}
 use Rattle.records.proofs.Laws.{all-of}
 
 -- ---- a run's numbers: n·p decisions, and as many v
@@ -157,11 +157,11 @@ module _ (x : Model) (o : Offsets) (y : List Float) (w : CovParts) (w′ : MeanP
     by-run : (room : Bool) → Promise (ends.End x o y w w′ (ending x o (map classOf y) (room && leb (kindsNeed x) (length old)))) r b b′ → new ≡ listAfter x o y (ending x o (map classOf y) (room && leb (kindsNeed x) (length old))) old
     by-run room h = by-flat room h ∙ told x o y w w′ r b b′ old _ (has-room room) h
 
-  pub listed-so : Promise (outcomeListed x o y w w′ (length old)) r b b′ → k ≡ toTell r (capped (x .p) (x .n)) → new ≡ filled k kinds v fs fi old → Listed x o y w w′ old r b b′ new
-  unfolding outcomeListed fateListed
+  pub listed-so : Promise (outcomeWithRecords x o y w w′ (length old)) r b b′ → k ≡ toTell r (capped (x .p) (x .n)) → new ≡ filled k kinds v fs fi old → WithRecords x o y w w′ old r b b′ new
+  unfolding outcomeWithRecords endingWithRecords
   listed-so h e l = record { promise = h; records = by-run e l (roomy x w w′) h; told = by-flat e l (roomy x w w′) h }
 
-  pub listed-smooth-so : (sc sm sm′ sc′ : List Float) → PromiseSmooth (smoothOutcomeListed x o y w w′ sc sm (length old)) r b b′ sm′ sc′ → k ≡ toTell r (capped (x .p) (x .n)) → new ≡ filled k kinds v fs fi old → ListedSmooth x o y w w′ sc sm old r b b′ sm′ sc′ new
-  unfolding smoothOutcomeListed fateListed
-  listed-smooth-so sc sm sm′ sc′ h e l =
-      record { promise = h; records = by-run e l (roomySmoothed x w w′ sc sm) (h .filter); told = by-flat e l (roomySmoothed x w w′ sc sm) (h .filter) }
+  pub listed-smooth-so : (sm sc sm′ sc′ : List Float) → PromiseSmooth (smoothOutcomeWithRecords x o y w w′ sm sc (length old)) r b b′ sm′ sc′ → k ≡ toTell r (capped (x .p) (x .n)) → new ≡ filled k kinds v fs fi old → WithRecordsSmooth x o y w w′ sm sc old r b b′ sm′ sc′ new
+  unfolding smoothOutcomeWithRecords endingWithRecords
+  listed-smooth-so sm sc sm′ sc′ h e l =
+      record { promise = h; records = by-run e l (roomySmoothed x w w′ sm sc) (h .filter); told = by-flat e l (roomySmoothed x w w′ sm sc) (h .filter) }

@@ -1,11 +1,10 @@
 // The calls with one lent part more: a list of records, which holds the run's records afterwards. The inputs share a lifetime, and so do the
 // outputs that are not read again.
 ghost use mathlib.Core.Path.{_≡_};
-ghost use Rattle.model.specs.Given.{modelOf, offsetsOf};
-ghost use Rattle.forward.specs.View.{covParts, meanParts};
-ghost use Rattle.filter.specs.Promise.{Promise};
-ghost use Rattle.smoother.specs.Promise.{PromiseSmooth};
-ghost use Rattle.records.specs.Listed.{tooFew, capped, toTell, outcomeListed, smoothOutcomeListed, Listed, ListedSmooth};
+ghost use Rattle.promise.specs.Lent.{modelOf, offsetsOf, covParts, meanParts, given, lent, lentSmooth};
+ghost use Rattle.promise.specs.Calls.{Promise, PromiseSmooth};
+ghost use Rattle.records.specs.Few.{tooFew, capped};
+ghost use Rattle.promise.specs.WithRecords.{toTell, outcomeWithRecords, smoothOutcomeWithRecords, FilteredRecords, SmoothedRecords};
 
 // The list has fewer than n·p places. Out of range, refusal 1 comes first.
 fn too_few(p: usize, m: usize, r: usize, n: usize, have: usize) -> bool
@@ -31,18 +30,18 @@ fn in_all(p: usize, n: usize) -> usize
 }
 
 // How many records there are to tell: n·p of an answer and on refusal 12, else none.
-fn to_tell(o: filter::Outcome, p: usize, n: usize) -> usize
+fn to_tell(o: promise::Outcome, p: usize, n: usize) -> usize
     ensures { λ k. ⌜ k ≡ toTell o (capped p n) ⌝ }
 {
     let all = in_all(p, n);
     match o {
-        filter::Outcome::Refused(c) => {
+        promise::Outcome::Refused(c) => {
             if c == 12 {
                 return all;
             }
             0
         }
-        filter::Outcome::Answered(_a) => all,
+        promise::Outcome::Answered(_a) => all,
     }
 }
 
@@ -76,8 +75,8 @@ fn flat<'a, 'o, 'l>(
     m_star: &'o mut [f64],
     m_inf: &'o mut [f64],
     have: usize,
-) -> filter::Outcome
-    ensures { λ o. ⌜ Promise (outcomeListed (modelOf p m r n (now (z .entry)) (now (zs .entry)) (now (h .entry)) (now (t .entry)) (now (rr .entry)) (now (q .entry)) (now («p_star» .entry)) (now (flags .entry)))
+) -> promise::Outcome
+    ensures { λ o. ⌜ Promise (outcomeWithRecords (modelOf p m r n (now (z .entry)) (now (zs .entry)) (now (h .entry)) (now (t .entry)) (now (rr .entry)) (now (q .entry)) (now («p_star» .entry)) (now (flags .entry)))
         (offsetsOf (now (c .entry)) (now (d .entry)) (now (a1 .entry))) (now (y .entry))
         (covParts (now («pred_cov» .entry)) (now («pred_inf» .entry)) (now («filt_cov» .entry)) (now (kinds .entry)) (now («f_star» .entry)) (now («f_inf» .entry)) (now («m_star» .entry)) (now («m_inf» .entry)))
         (meanParts (now («pred_mean» .entry)) (now («filt_mean» .entry)) (now (v .entry))) have) o
@@ -85,7 +84,7 @@ fn flat<'a, 'o, 'l>(
         (meanParts (now («pred_mean» .exit)) (now («filt_mean» .exit)) (now (v .exit))) ⌝ }
 {
     if too_few(p, m, r, n, have) {
-        return filter::Outcome::Refused(2);
+        return promise::Outcome::Refused(2);
     }
     filter::filter_univariate(
         p,
@@ -150,16 +149,16 @@ fn flat_smooth<'a, 'o, 'l>(
     sm_mean: &'o mut [f64],
     sm_cov: &'o mut [f64],
     have: usize,
-) -> filter::Outcome
-    ensures { λ o. ⌜ PromiseSmooth (smoothOutcomeListed (modelOf p m r n (now (z .entry)) (now (zs .entry)) (now (h .entry)) (now (t .entry)) (now (rr .entry)) (now (q .entry)) (now («p_star» .entry)) (now (flags .entry)))
+) -> promise::Outcome
+    ensures { λ o. ⌜ PromiseSmooth (smoothOutcomeWithRecords (modelOf p m r n (now (z .entry)) (now (zs .entry)) (now (h .entry)) (now (t .entry)) (now (rr .entry)) (now (q .entry)) (now («p_star» .entry)) (now (flags .entry)))
         (offsetsOf (now (c .entry)) (now (d .entry)) (now (a1 .entry))) (now (y .entry))
         (covParts (now («pred_cov» .entry)) (now («pred_inf» .entry)) (now («filt_cov» .entry)) (now (kinds .entry)) (now («f_star» .entry)) (now («f_inf» .entry)) (now («m_star» .entry)) (now («m_inf» .entry)))
-        (meanParts (now («pred_mean» .entry)) (now («filt_mean» .entry)) (now (v .entry))) (now («sm_cov» .entry)) (now («sm_mean» .entry)) have) o
+        (meanParts (now («pred_mean» .entry)) (now («filt_mean» .entry)) (now (v .entry))) (now («sm_mean» .entry)) (now («sm_cov» .entry)) have) o
         (covParts (now («pred_cov» .exit)) (now («pred_inf» .exit)) (now («filt_cov» .exit)) (now (kinds .exit)) (now («f_star» .exit)) (now («f_inf» .exit)) (now («m_star» .exit)) (now («m_inf» .exit)))
         (meanParts (now («pred_mean» .exit)) (now («filt_mean» .exit)) (now (v .exit))) (now («sm_mean» .exit)) (now («sm_cov» .exit)) ⌝ }
 {
     if too_few(p, m, r, n, have) {
-        return filter::Outcome::Refused(2);
+        return promise::Outcome::Refused(2);
     }
     smoother::smooth_univariate(
         p,
@@ -223,14 +222,25 @@ pub fn filter_records<'a, 'o>(
     f_inf: &mut [f64],
     m_star: &'o mut [f64],
     m_inf: &'o mut [f64],
-    records: &mut [record::Record],
-) -> filter::Outcome
-    ensures { λ o. ⌜ Listed (modelOf p m r n (now (z .entry)) (now (zs .entry)) (now (h .entry)) (now (t .entry)) (now (rr .entry)) (now (q .entry)) (now («p_star» .entry)) (now (flags .entry)))
-        (offsetsOf (now (c .entry)) (now (d .entry)) (now (a1 .entry))) (now (y .entry))
-        (covParts (now («pred_cov» .entry)) (now («pred_inf» .entry)) (now («filt_cov» .entry)) (now (kinds .entry)) (now («f_star» .entry)) (now («f_inf» .entry)) (now («m_star» .entry)) (now («m_inf» .entry)))
-        (meanParts (now («pred_mean» .entry)) (now («filt_mean» .entry)) (now (v .entry))) (now (records .entry)) o
-        (covParts (now («pred_cov» .exit)) (now («pred_inf» .exit)) (now («filt_cov» .exit)) (now (kinds .exit)) (now («f_star» .exit)) (now («f_inf» .exit)) (now («m_star» .exit)) (now («m_inf» .exit)))
-        (meanParts (now («pred_mean» .exit)) (now («filt_mean» .exit)) (now (v .exit))) (now (records .exit)) ⌝ }
+    records: &mut [promise::Record],
+) -> promise::Outcome
+    ensures { λ o. ⌜ FilteredRecords
+        (given p m r n
+        (now (z .entry)) (now (zs .entry)) (now (h .entry)) (now (t .entry)) (now (rr .entry)) (now (q .entry))
+        (now (c .entry)) (now (d .entry)) (now (a1 .entry)) (now («p_star» .entry)) (now (flags .entry)) (now (y .entry)))
+        (lent
+        (now («pred_mean» .entry)) (now («pred_cov» .entry)) (now («pred_inf» .entry))
+        (now («filt_mean» .entry)) (now («filt_cov» .entry))
+        (now (kinds .entry)) (now (v .entry)) (now («f_star» .entry)) (now («f_inf» .entry))
+        (now («m_star» .entry)) (now («m_inf» .entry)))
+        (now (records .entry))
+        o
+        (lent
+        (now («pred_mean» .exit)) (now («pred_cov» .exit)) (now («pred_inf» .exit))
+        (now («filt_mean» .exit)) (now («filt_cov» .exit))
+        (now (kinds .exit)) (now (v .exit)) (now («f_star» .exit)) (now («f_inf» .exit))
+        (now («m_star» .exit)) (now («m_inf» .exit)))
+        (now (records .exit)) ⌝ }
 {
     let have = records.len();
     let o = flat(
@@ -299,14 +309,27 @@ pub fn smooth_records<'a, 'o>(
     m_inf: &'o mut [f64],
     sm_mean: &'o mut [f64],
     sm_cov: &'o mut [f64],
-    records: &mut [record::Record],
-) -> filter::Outcome
-    ensures { λ o. ⌜ ListedSmooth (modelOf p m r n (now (z .entry)) (now (zs .entry)) (now (h .entry)) (now (t .entry)) (now (rr .entry)) (now (q .entry)) (now («p_star» .entry)) (now (flags .entry)))
-        (offsetsOf (now (c .entry)) (now (d .entry)) (now (a1 .entry))) (now (y .entry))
-        (covParts (now («pred_cov» .entry)) (now («pred_inf» .entry)) (now («filt_cov» .entry)) (now (kinds .entry)) (now («f_star» .entry)) (now («f_inf» .entry)) (now («m_star» .entry)) (now («m_inf» .entry)))
-        (meanParts (now («pred_mean» .entry)) (now («filt_mean» .entry)) (now (v .entry))) (now («sm_cov» .entry)) (now («sm_mean» .entry)) (now (records .entry)) o
-        (covParts (now («pred_cov» .exit)) (now («pred_inf» .exit)) (now («filt_cov» .exit)) (now (kinds .exit)) (now («f_star» .exit)) (now («f_inf» .exit)) (now («m_star» .exit)) (now («m_inf» .exit)))
-        (meanParts (now («pred_mean» .exit)) (now («filt_mean» .exit)) (now (v .exit))) (now («sm_mean» .exit)) (now («sm_cov» .exit)) (now (records .exit)) ⌝ }
+    records: &mut [promise::Record],
+) -> promise::Outcome
+    ensures { λ o. ⌜ SmoothedRecords
+        (given p m r n
+        (now (z .entry)) (now (zs .entry)) (now (h .entry)) (now (t .entry)) (now (rr .entry)) (now (q .entry))
+        (now (c .entry)) (now (d .entry)) (now (a1 .entry)) (now («p_star» .entry)) (now (flags .entry)) (now (y .entry)))
+        (lentSmooth
+        (now («pred_mean» .entry)) (now («pred_cov» .entry)) (now («pred_inf» .entry))
+        (now («filt_mean» .entry)) (now («filt_cov» .entry))
+        (now (kinds .entry)) (now (v .entry)) (now («f_star» .entry)) (now («f_inf» .entry))
+        (now («m_star» .entry)) (now («m_inf» .entry))
+        (now («sm_mean» .entry)) (now («sm_cov» .entry)))
+        (now (records .entry))
+        o
+        (lentSmooth
+        (now («pred_mean» .exit)) (now («pred_cov» .exit)) (now («pred_inf» .exit))
+        (now («filt_mean» .exit)) (now («filt_cov» .exit))
+        (now (kinds .exit)) (now (v .exit)) (now («f_star» .exit)) (now («f_inf» .exit))
+        (now («m_star» .exit)) (now («m_inf» .exit))
+        (now («sm_mean» .exit)) (now («sm_cov» .exit)))
+        (now (records .exit)) ⌝ }
 {
     let have = records.len();
     let o = flat_smooth(

@@ -85,11 +85,13 @@ fn print(t: Tally, said: usize) {
 
 // The first difference of the two calls, the filter's before the smoother's.
 fn both(case: &[u8]) -> found::Found {
-    let f = sides::replay(case, sides::Half::Filter);
+    let numbers = words::doubles(case);
+    let low = words::bytes(case);
+    let f = sides::filtered(case, &numbers, &low);
     if f.differs {
         return f;
     }
-    sides::replay(case, sides::Half::Smoother)
+    sides::smoothed(case, &numbers, &low)
 }
 
 fn main() {

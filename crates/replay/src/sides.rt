@@ -8,29 +8,11 @@ use crate::found::compare;
 use crate::words::PATTERN;
 use crate::words::PATTERN_BYTE;
 use crate::words::Span;
-use crate::words::bytes;
-use crate::words::doubles;
 use crate::words::lent;
 use crate::words::size;
 use crate::words::stretch;
 use crate::words::wide;
 use crate::words::word;
-
-// Which of a case's two calls.
-pub enum Half {
-    Filter,
-    Smoother,
-}
-
-// The word that has its refusal.
-fn refusal_word(which: Half) -> usize
-    ensures { λ r. ⌜ r ≤ 32 ⌝ }
-{
-    match which {
-        Half::Filter => 31,
-        Half::Smoother => 32,
-    }
-}
 
 // Input j, as a part of the case's doubles.
 fn input<'a>(numbers: &'a [f64], case: &[u8], j: usize) -> &'a [f64]
@@ -56,168 +38,12 @@ fn flags<'a>(low: &'a [u8], case: &[u8]) -> &'a [u8] {
     &low[a..b]
 }
 
-fn filtered(
-    case: &[u8],
-    numbers: &[f64],
-    low: &[u8],
-    pred_mean: &mut [f64],
-    pred_cov: &mut [f64],
-    pred_inf: &mut [f64],
-    filt_mean: &mut [f64],
-    filt_cov: &mut [f64],
-    kinds: &mut [u8],
-    v: &mut [f64],
-    f_star: &mut [f64],
-    f_inf: &mut [f64],
-    m_star: &mut [f64],
-    m_inf: &mut [f64],
-) -> filter::Outcome {
-    filter::filter_univariate(
-        size(case, 2),
-        size(case, 3),
-        size(case, 4),
-        size(case, 5),
-        input(numbers, case, 0),
-        input(numbers, case, 1),
-        input(numbers, case, 2),
-        input(numbers, case, 3),
-        input(numbers, case, 4),
-        input(numbers, case, 5),
-        input(numbers, case, 6),
-        input(numbers, case, 7),
-        input(numbers, case, 8),
-        input(numbers, case, 9),
-        flags(low, case),
-        input(numbers, case, 11),
-        pred_mean,
-        pred_cov,
-        pred_inf,
-        filt_mean,
-        filt_cov,
-        kinds,
-        v,
-        f_star,
-        f_inf,
-        m_star,
-        m_inf,
-    )
-}
-
-fn smoothed(
-    case: &[u8],
-    numbers: &[f64],
-    low: &[u8],
-    pred_mean: &mut [f64],
-    pred_cov: &mut [f64],
-    pred_inf: &mut [f64],
-    filt_mean: &mut [f64],
-    filt_cov: &mut [f64],
-    kinds: &mut [u8],
-    v: &mut [f64],
-    f_star: &mut [f64],
-    f_inf: &mut [f64],
-    m_star: &mut [f64],
-    m_inf: &mut [f64],
-    sm_mean: &mut [f64],
-    sm_cov: &mut [f64],
-) -> filter::Outcome {
-    smoother::smooth_univariate(
-        size(case, 2),
-        size(case, 3),
-        size(case, 4),
-        size(case, 5),
-        input(numbers, case, 0),
-        input(numbers, case, 1),
-        input(numbers, case, 2),
-        input(numbers, case, 3),
-        input(numbers, case, 4),
-        input(numbers, case, 5),
-        input(numbers, case, 6),
-        input(numbers, case, 7),
-        input(numbers, case, 8),
-        input(numbers, case, 9),
-        flags(low, case),
-        input(numbers, case, 11),
-        pred_mean,
-        pred_cov,
-        pred_inf,
-        filt_mean,
-        filt_cov,
-        kinds,
-        v,
-        f_star,
-        f_inf,
-        m_star,
-        m_inf,
-        sm_mean,
-        sm_cov,
-    )
-}
-
-// The call on the case's inputs. The filter's sees neither of the smoothed parts.
-fn call(
-    case: &[u8],
-    numbers: &[f64],
-    low: &[u8],
-    pred_mean: &mut [f64],
-    pred_cov: &mut [f64],
-    pred_inf: &mut [f64],
-    filt_mean: &mut [f64],
-    filt_cov: &mut [f64],
-    kinds: &mut [u8],
-    v: &mut [f64],
-    f_star: &mut [f64],
-    f_inf: &mut [f64],
-    m_star: &mut [f64],
-    m_inf: &mut [f64],
-    sm_mean: &mut [f64],
-    sm_cov: &mut [f64],
-    which: Half,
-) -> filter::Outcome {
-    match which {
-        Half::Filter => filtered(
-            case,
-            numbers,
-            low,
-            pred_mean,
-            pred_cov,
-            pred_inf,
-            filt_mean,
-            filt_cov,
-            kinds,
-            v,
-            f_star,
-            f_inf,
-            m_star,
-            m_inf,
-        ),
-        Half::Smoother => smoothed(
-            case,
-            numbers,
-            low,
-            pred_mean,
-            pred_cov,
-            pred_inf,
-            filt_mean,
-            filt_cov,
-            kinds,
-            v,
-            f_star,
-            f_inf,
-            m_star,
-            m_inf,
-            sm_mean,
-            sm_cov,
-        ),
-    }
-}
-
 // The answer against the case's: words 33 to 36.
-fn answer(case: &[u8], o: filter::Outcome, refusal: u64) -> Found {
+fn answer(case: &[u8], o: promise::Outcome, refusal: u64) -> Found {
     let f = crate::found::nothing();
     match o {
-        filter::Outcome::Refused(k) => compare(f, 0, 0, refusal, k as u64),
-        filter::Outcome::Answered(a) => {
+        promise::Outcome::Refused(k) => compare(f, 0, 0, refusal, k as u64),
+        promise::Outcome::Answered(a) => {
             let f = compare(f, 0, 0, refusal, 0);
             let f = compare(f, 1, 0, word(case, 33), bits::pattern(a.loglik));
             let f = compare(f, 2, 0, word(case, 34), a.d_diffuse as u64);
@@ -322,15 +148,9 @@ fn smoothed_outputs(
     sm_mean: &[f64; 1024],
     sm_cov: &[f64; 1024],
     refusal: u64,
-    which: Half,
 ) -> Found {
-    match which {
-        Half::Filter => f,
-        Half::Smoother => {
-            let f = output(f, sm_mean, case, 11, refusal);
-            output(f, sm_cov, case, 12, refusal)
-        }
-    }
+    let f = output(f, sm_mean, case, 11, refusal);
+    output(f, sm_cov, case, 12, refusal)
 }
 
 // What an output holds before a call.
@@ -347,10 +167,86 @@ fn patterned_bytes() -> [u8; 1024]
     [0xA5; 1024]
 }
 
-// The first difference of the call.
-pub fn replay(case: &[u8], which: Half) -> Found {
-    let numbers = doubles(case);
-    let low = bytes(case);
+// The first difference of the filter's call. Word 31 has its refusal.
+pub fn filtered(case: &[u8], numbers: &[f64], low: &[u8]) -> Found {
+    let mut pred_mean = patterned();
+    let mut pred_cov = patterned();
+    let mut pred_inf = patterned();
+    let mut filt_mean = patterned();
+    let mut filt_cov = patterned();
+    let mut kinds = patterned_bytes();
+    let mut v = patterned();
+    let mut f_star = patterned();
+    let mut f_inf = patterned();
+    let mut m_star = patterned();
+    let mut m_inf = patterned();
+    let l0 = lent(case, 0);
+    let l1 = lent(case, 1);
+    let l2 = lent(case, 2);
+    let l3 = lent(case, 3);
+    let l4 = lent(case, 4);
+    let l5 = lent(case, 5);
+    let l6 = lent(case, 6);
+    let l7 = lent(case, 7);
+    let l8 = lent(case, 8);
+    let l9 = lent(case, 9);
+    let l10 = lent(case, 10);
+    let o = filter::filter_univariate(
+        size(case, 2),
+        size(case, 3),
+        size(case, 4),
+        size(case, 5),
+        input(numbers, case, 0),
+        input(numbers, case, 1),
+        input(numbers, case, 2),
+        input(numbers, case, 3),
+        input(numbers, case, 4),
+        input(numbers, case, 5),
+        input(numbers, case, 6),
+        input(numbers, case, 7),
+        input(numbers, case, 8),
+        input(numbers, case, 9),
+        flags(low, case),
+        input(numbers, case, 11),
+        &mut pred_mean[..l0],
+        &mut pred_cov[..l1],
+        &mut pred_inf[..l2],
+        &mut filt_mean[..l3],
+        &mut filt_cov[..l4],
+        &mut kinds[..l5],
+        &mut v[..l6],
+        &mut f_star[..l7],
+        &mut f_inf[..l8],
+        &mut m_star[..l9],
+        &mut m_inf[..l10],
+    );
+    let refusal = word(case, 31);
+    let f = answer(case, o, refusal);
+    let f = moments(
+        f,
+        case,
+        &pred_mean,
+        &pred_cov,
+        &pred_inf,
+        &filt_mean,
+        &filt_cov,
+        refusal,
+    );
+    records(
+        f,
+        case,
+        &kinds,
+        &v,
+        &f_star,
+        &f_inf,
+        &m_star,
+        &m_inf,
+        refusal,
+    )
+}
+
+// The first difference of the smoother's call. Word 32 has its refusal.
+pub fn smoothed(case: &[u8], numbers: &[f64], low: &[u8]) -> Found {
     let mut pred_mean = patterned();
     let mut pred_cov = patterned();
     let mut pred_inf = patterned();
@@ -377,10 +273,23 @@ pub fn replay(case: &[u8], which: Half) -> Found {
     let l10 = lent(case, 10);
     let l11 = lent(case, 11);
     let l12 = lent(case, 12);
-    let o = call(
-        case,
-        &numbers,
-        &low,
+    let o = smoother::smooth_univariate(
+        size(case, 2),
+        size(case, 3),
+        size(case, 4),
+        size(case, 5),
+        input(numbers, case, 0),
+        input(numbers, case, 1),
+        input(numbers, case, 2),
+        input(numbers, case, 3),
+        input(numbers, case, 4),
+        input(numbers, case, 5),
+        input(numbers, case, 6),
+        input(numbers, case, 7),
+        input(numbers, case, 8),
+        input(numbers, case, 9),
+        flags(low, case),
+        input(numbers, case, 11),
         &mut pred_mean[..l0],
         &mut pred_cov[..l1],
         &mut pred_inf[..l2],
@@ -394,9 +303,8 @@ pub fn replay(case: &[u8], which: Half) -> Found {
         &mut m_inf[..l10],
         &mut sm_mean[..l11],
         &mut sm_cov[..l12],
-        which,
     );
-    let refusal = word(case, refusal_word(which));
+    let refusal = word(case, 32);
     let f = answer(case, o, refusal);
     let f = moments(
         f,
@@ -419,5 +327,5 @@ pub fn replay(case: &[u8], which: Half) -> Found {
         &m_inf,
         refusal,
     );
-    smoothed_outputs(f, case, &sm_mean, &sm_cov, refusal, which)
+    smoothed_outputs(f, case, &sm_mean, &sm_cov, refusal)
 }

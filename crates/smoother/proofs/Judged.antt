@@ -15,13 +15,12 @@ use Rattle.laws.specs.Accepted.{accepted}
 use Rattle.laws.specs.Flat.{flatIn}
 use Rattle.model.specs.Lengths.{Room, roomsSmoothed, by-room-smoothed}
 use Rattle.blank.specs.Stretches.{SmoothedBlank}
-use Rattle.mean.specs.declared.Answer.{Answer}
+use Rattle.promise.specs.declared.Answer.{Answer}
 use Rattle.backward.specs.View.{Back}
-use Rattle.filter.specs.declared.Outcome.{Outcome}
-use Rattle.filter.specs.declared.Outcome.the-variants.{Refused, Answered}
-use Rattle.filter.specs.Promise.{answerBy, Promise}
+use Rattle.promise.specs.declared.Outcome.{Outcome}
+use Rattle.promise.specs.declared.Outcome.the-variants.{Refused, Answered}
+use Rattle.promise.specs.Calls.{answerBy, Promise, PromiseSmooth}
 use Rattle.filter.specs.Ends as ends
-use Rattle.smoother.specs.Promise.{PromiseSmooth}
 use Rattle.smoother.proofs.Looked.{Past, fit, smoothed}
 
 abbrev kinds : List Float → List Class
@@ -29,7 +28,7 @@ kinds y = map classOf y
 
 -- k is the number of the first of refusals 1 to 11 that the inputs and the lent outputs earn, the smoothed parts among them, 0 if none
 pub record CheckedSmooth (x : Model) (o : Offsets) (y : List Float) (w : CovParts) (w′ : MeanParts) (sm sc : List Float) (k : ℕ) : Type 0 where
-  pub number : k ≡ ends.number x o y (roomySmoothed x w w′ sc sm)
+  pub number : k ≡ ends.number x o y (roomySmoothed x w w′ sm sc)
 
 module _ {x : Model} {o : Offsets} {y : List Float} {w : CovParts} {w′ : MeanParts} {sm sc : List Float} {k : ℕ} where
   pub checked : {room both : Bool} → k ≡ ends.number x o y both → Room x o (length y) (anyOf isInfinity (kinds y)) w w′ room → (outside (x .p) (x .m) (x .r) (x .n) ≡ false → both ≡ roomsSmoothed (x .m) (x .n) room (length sm) (length sc)) → CheckedSmooth x o y w w′ sm sc k
@@ -39,7 +38,7 @@ unfoldable End : Model → Offsets → List Float → CovParts → MeanParts →
 End x o y w w′ sm sc f =
     (record { filter = covOutcome x f (kinds y) w; smoothed = smoothedCov x f (kinds y) sc }, record { filter = meanOutcome x f o (kinds y) y w′; smoothed = smoothedMean x f o (kinds y) y sm })
 
-by-fate : (x : Model) (o : Offsets) (y : List Float) (w : CovParts) (w′ : MeanParts) (sm sc : List Float) (f : Ending) → ending x o (kinds y) (roomySmoothed x w w′ sc sm) ≡ f → smoothOutcome x o y w w′ sc sm ≡ End x o y w w′ sm sc f
+by-fate : (x : Model) (o : Offsets) (y : List Float) (w : CovParts) (w′ : MeanParts) (sm sc : List Float) (f : Ending) → ending x o (kinds y) (roomySmoothed x w w′ sm sc) ≡ f → smoothOutcome x o y w w′ sm sc ≡ End x o y w w′ sm sc f
 unfolding smoothOutcome smoothOutcomeAt End
 by-fate x o y w w′ sm sc f e = ap (λ (g : Ending). End x o y w w′ sm sc g) e
 
@@ -67,24 +66,24 @@ module _ (x : Model) (o : Offsets) (y : List Float) (w : CovParts) (w′ : MeanP
   answered-heard false a u = refl
 
 module _ {x : Model} {o : Offsets} {y : List Float} {w : CovParts} {w′ : MeanParts} {sm sc : List Float} {k : ℕ} (e : CheckedSmooth x o y w w′ sm sc k) where
-  pub refused : 0 < k → PromiseSmooth (smoothOutcome x o y w w′ sc sm) (Refused k) w w′ sm sc
+  pub refused : 0 < k → PromiseSmooth (smoothOutcome x o y w w′ sm sc) (Refused k) w w′ sm sc
   unfolding End smoothedCov smoothedMean after
   refused h = refused-by k (e .number) h
     where
-      refused-by : (k : ℕ) → k ≡ ends.number x o y (roomySmoothed x w w′ sc sm) → 0 < k → PromiseSmooth (smoothOutcome x o y w w′ sc sm) (Refused k) w w′ sm sc
+      refused-by : (k : ℕ) → k ≡ ends.number x o y (roomySmoothed x w w′ sm sc) → 0 < k → PromiseSmooth (smoothOutcome x o y w w′ sm sc) (Refused k) w w′ sm sc
       refused-by zero e h = absurd (omega arith)
       refused-by (suc k) e h =
-          rw (by-fate x o y w w′ sm sc (turned (suc k)) (ends.is-turned x o y (roomySmoothed x w w′ sc sm) k e)) (record { filter = ends.turned-away x o y w w′ k; mean = refl; cov = refl })
+          rw (by-fate x o y w w′ sm sc (turned (suc k)) (ends.is-turned x o y (roomySmoothed x w w′ sm sc) k e)) (record { filter = ends.turned-away x o y w w′ k; mean = refl; cov = refl })
 
   pub past : k ≤ 0 → Past x o (length y) w w′ sm sc
-  past h = record { accepted = accepted x o (length y) (anyOf isInfinity (kinds y)) (roomySmoothed x w w′ sc sm) (sym (ends.none h (e .number))) }
+  past h = record { accepted = accepted x o (length y) (anyOf isInfinity (kinds y)) (roomySmoothed x w w′ sm sc) (sym (ends.none h (e .number))) }
 
   -- past the checks the filter's call has the ending of this one; r, b and b′ are what it left
   module _ (none : k ≤ 0) {r : Outcome} {b : CovParts} {b′ : MeanParts} (u : Promise (outcome x o y w w′) r b b′) where
-    fated : ending x o (kinds y) (roomySmoothed x w w′ sc sm) ≡ endingOf 0 (quiet x y)
-    fated = ends.by-number x o y (roomySmoothed x w w′ sc sm) 0 (ends.none none (e .number))
+    fated : ending x o (kinds y) (roomySmoothed x w w′ sm sc) ≡ endingOf 0 (quiet x y)
+    fated = ends.by-number x o y (roomySmoothed x w w′ sm sc) 0 (ends.none none (e .number))
 
-    same : ending x o (kinds y) (roomy x w w′) ≡ ending x o (kinds y) (roomySmoothed x w w′ sc sm)
+    same : ending x o (kinds y) (roomy x w w′) ≡ ending x o (kinds y) (roomySmoothed x w w′ sm sc)
     same = ap (ending x o (kinds y)) (fit (past none) .accepted .roomy ∙ sym (past none .accepted .roomy))
 
     ended : {r′ : Outcome} → r ≡ r′ → Promise (ends.End x o y w w′ (endingOf 0 (quiet x y))) r′ b b′
@@ -92,14 +91,14 @@ module _ {x : Model} {o : Offsets} {y : List Float} {w : CovParts} {w′ : MeanP
     ended {r′} g = subst (λ (f : Ending). Promise (ends.End x o y w w′ f) r′ b b′) (same ∙ fated) (subst (λ (q : Outcome). Promise (outcome x o y w w′) q b b′) g u)
 
     module _ {sm′ sc′ : List Float} where
-      pub silenced : {i : ℕ} → r ≡ Refused i → SmoothedBlank (x .m) (x .n) sm sm′ sc sc′ → PromiseSmooth (smoothOutcome x o y w w′ sc sm) (Refused i) b b′ sm′ sc′
+      pub silenced : {i : ℕ} → r ≡ Refused i → SmoothedBlank (x .m) (x .n) sm sm′ sc sc′ → PromiseSmooth (smoothOutcome x o y w w′ sm sc) (Refused i) b b′ sm′ sc′
       unfolding End smoothedCov smoothedMean after smoothedCovNeed smoothedMeanNeed
       silenced {i} g s =
           let h = refused-silent x o y w w′ (quiet x y) i (ended g) in
           rw (by-fate x o y w w′ sm sc silent (fated ∙ h)) (record { filter = subst (λ (f : Ending). Promise (ends.End x o y w w′ f) (Refused i) b b′) h (ended g); mean = s .mean; cov = s .cov })
 
       pub heard : {a : Answer} → r ≡ Answered a → Back (x .p) (x .m) (x .n) (a .«d_diffuse») (x .zOnce) (x .zList) (x .t) (b′ predMean) (b .part predCov) (b .part predInf) (b′ innovations) (flatIn (b .kinds) (b .part fStar) (b .part fInf) (b .part mStar) (b .part mInf)) sm sm′ sc sc′
-          → PromiseSmooth (smoothOutcome x o y w w′ sc sm) (Answered a) b b′ sm′ sc′
+          → PromiseSmooth (smoothOutcome x o y w w′ sm sc) (Answered a) b b′ sm′ sc′
       unfolding End smoothedCov smoothedMean after
       heard {a} g k =
           let h = answered-heard x o y w w′ (quiet x y) a (ended g) in

@@ -7,19 +7,19 @@ use lib.ListN.{length, length-map}
 use lib.Dec.{leb}
 use lib.Ieee.{Float}
 use Rattle.definition.specs.Run.{join, count, lay}
-use Rattle.definition.specs.Smooth.{lookOf, meanLookOf, smoothCov, smoothMean}
+use Rattle.definition.specs.Smooth.{smoothCov, smoothMean}
 use Rattle.definition.specs.Parts.{CovPart, MeanPart, predCov, predInf, fStar, fInf, mStar, mInf, predMean, innovations}
 use Rattle.definition.specs.Inputs.{Model, Offsets, classOf, frameOf}
 use Rattle.definition.specs.Outcome.{CovParts, MeanParts, answered, numberOf, after, countsIn, kindsWritten, covWritten, meanWritten, smoothedCovNeed, smoothedMeanNeed, roomy, roomySmoothed, covOf, meanOf, countsOf, covOutcome, meanOutcome}
 use Rattle.laws.specs.Accepted.{Accepted, RoomySmoothed, room-smoothed, as-long}
-use Rattle.laws.specs.Flat.{flatIn, Flat, looks, meanLooks}
+use Rattle.laws.specs.Flat.{flatIn, Flat, lookOf, meanLookOf, looks, meanLooks}
 use Rattle.laws.specs.Passes.{Laid}
 use Rattle.blank.specs.Stretches.{SmoothedRoom}
 use Rattle.forward.specs.View.{Fit}
-use Rattle.mean.specs.declared.Answer.{Answer}
-use Rattle.filter.specs.declared.Outcome.{Outcome}
-use Rattle.filter.specs.declared.Outcome.the-variants.{Refused, Answered}
-use Rattle.filter.specs.Promise.{answerBy, Promise}
+use Rattle.promise.specs.declared.Answer.{Answer}
+use Rattle.promise.specs.declared.Outcome.{Outcome}
+use Rattle.promise.specs.declared.Outcome.the-variants.{Refused, Answered}
+use Rattle.promise.specs.Calls.{answerBy, Promise}
 use Rattle.filter.specs.Ends as ends
 use Rattle.cov_back.specs.Call as cov-call
 use Rattle.laws.specs.Looked as cov-looked
@@ -35,14 +35,14 @@ first false b c e = e
 
 -- w and w′ are the filter's parts as they were lent, sm and sc the smoothed ones
 pub record Past (x : Model) (o : Offsets) (y : ℕ) (w : CovParts) (w′ : MeanParts) (sm sc : List Float) : Type 0 where
-  pub accepted : Accepted x o y (roomySmoothed x w w′ sc sm)
+  pub accepted : Accepted x o y (roomySmoothed x w w′ sm sc)
 
 module _ {x : Model} {o : Offsets} {y : ℕ} {w : CovParts} {w′ : MeanParts} {sm sc : List Float} (past : Past x o y w w′ sm sc) where
-  abbrev f : Accepted x o y (roomySmoothed x w w′ sc sm)
+  abbrev f : Accepted x o y (roomySmoothed x w w′ sm sc)
   f = past .accepted
 
-  room : RoomySmoothed x w w′ (length sc) (length sm)
-  room = room-smoothed x w w′ sc sm (f .roomy)
+  room : RoomySmoothed x w w′ (length sm) (length sc)
+  room = room-smoothed x w w′ sm sc (f .roomy)
 
   pub fit : Fit x o y w w′
   unfolding roomySmoothed

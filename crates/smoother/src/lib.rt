@@ -1,8 +1,6 @@
-// smoother.rs: the smoother's call: its checks, the filter's call (crates/filter), then both passes back (crates/passes_back).
-ghost use Rattle.definition.specs.Outcome.{smoothOutcome};
-ghost use Rattle.model.specs.Given.{modelOf, offsetsOf};
-ghost use Rattle.forward.specs.View.{covParts, meanParts};
-ghost use Rattle.smoother.specs.Promise.{PromiseSmooth};
+// smoother.rs: the smoother's call: its checks, the filter's call (crates/filter), then both passes back (crates/backward).
+ghost use Rattle.promise.specs.Lent.{given, lentSmooth};
+ghost use Rattle.promise.specs.Calls.{Smoothed};
 
 // The smoother's call: the filter's with two outputs more. It ends with an answer whatever it is handed: refused with its number, or answered.
 pub fn smooth_univariate<'a>(
@@ -35,13 +33,24 @@ pub fn smooth_univariate<'a>(
     m_inf: &mut [f64],
     sm_mean: &mut [f64],
     sm_cov: &mut [f64],
-) -> filter::Outcome
-    ensures { λ o. ⌜ PromiseSmooth (smoothOutcome (modelOf p m r n (now (z .entry)) (now (zs .entry)) (now (h .entry)) (now (t .entry)) (now (rr .entry)) (now (q .entry)) (now («p_star» .entry)) (now (flags .entry)))
-        (offsetsOf (now (c .entry)) (now (d .entry)) (now (a1 .entry))) (now (y .entry))
-        (covParts (now («pred_cov» .entry)) (now («pred_inf» .entry)) (now («filt_cov» .entry)) (now (kinds .entry)) (now («f_star» .entry)) (now («f_inf» .entry)) (now («m_star» .entry)) (now («m_inf» .entry)))
-        (meanParts (now («pred_mean» .entry)) (now («filt_mean» .entry)) (now (v .entry))) (now («sm_cov» .entry)) (now («sm_mean» .entry))) o
-        (covParts (now («pred_cov» .exit)) (now («pred_inf» .exit)) (now («filt_cov» .exit)) (now (kinds .exit)) (now («f_star» .exit)) (now («f_inf» .exit)) (now («m_star» .exit)) (now («m_inf» .exit)))
-        (meanParts (now («pred_mean» .exit)) (now («filt_mean» .exit)) (now (v .exit))) (now («sm_mean» .exit)) (now («sm_cov» .exit)) ⌝ }
+) -> promise::Outcome
+    ensures { λ o. ⌜ Smoothed
+        (given p m r n
+        (now (z .entry)) (now (zs .entry)) (now (h .entry)) (now (t .entry)) (now (rr .entry)) (now (q .entry))
+        (now (c .entry)) (now (d .entry)) (now (a1 .entry)) (now («p_star» .entry)) (now (flags .entry)) (now (y .entry)))
+        (lentSmooth
+        (now («pred_mean» .entry)) (now («pred_cov» .entry)) (now («pred_inf» .entry))
+        (now («filt_mean» .entry)) (now («filt_cov» .entry))
+        (now (kinds .entry)) (now (v .entry)) (now («f_star» .entry)) (now («f_inf» .entry))
+        (now («m_star» .entry)) (now («m_inf» .entry))
+        (now («sm_mean» .entry)) (now («sm_cov» .entry)))
+        o
+        (lentSmooth
+        (now («pred_mean» .exit)) (now («pred_cov» .exit)) (now («pred_inf» .exit))
+        (now («filt_mean» .exit)) (now («filt_cov» .exit))
+        (now (kinds .exit)) (now (v .exit)) (now («f_star» .exit)) (now («f_inf» .exit))
+        (now («m_star» .exit)) (now («m_inf» .exit))
+        (now («sm_mean» .exit)) (now («sm_cov» .exit))) ⌝ }
 {
     // refusals 1 to 11: the two smoothed parts count for refusal 2 too
     let room = model::lengths::room(
@@ -82,7 +91,7 @@ pub fn smooth_univariate<'a>(
         both,
     );
     if 0 < k {
-        return filter::Outcome::Refused(k);
+        return promise::Outcome::Refused(k);
     }
     // its own checks refuse nothing that has come past these: what it refuses here is refusal 12
     let o = filter::filter_univariate(
@@ -115,11 +124,11 @@ pub fn smooth_univariate<'a>(
         m_inf,
     );
     match o {
-        filter::Outcome::Refused(k) => {
+        promise::Outcome::Refused(k) => {
             blank::smoothed(sm_mean, sm_cov, p, m, n);
-            filter::Outcome::Refused(k)
+            promise::Outcome::Refused(k)
         }
-        filter::Outcome::Answered(a) => {
+        promise::Outcome::Answered(a) => {
             backward::back(
                 z,
                 zs,
@@ -140,7 +149,7 @@ pub fn smooth_univariate<'a>(
                 m,
                 n,
             );
-            filter::Outcome::Answered(a)
+            promise::Outcome::Answered(a)
         }
     }
 }

@@ -50,7 +50,7 @@ use Rattle.definition.specs.Star.{
 }
 use Rattle.dense.specs.Views.{vec, mat, rect}
 use Rattle.dense.proofs.Laws.{row, lt-or-le}
-use Rattle.star.specs.Views.{Found, Joined, States, Sound, Downdated, Followed, Holds, factorOf, rootOn, placesOf, projectedAt}
+use Rattle.star.specs.Views.{Found, Joined, States, Sound, Downdated, Followed, Replayed, factorOf, rootOn, placesOf, projectedAt}
 use Rattle.star.specs.declared.Factor.{Factor}
 use Rattle.star.specs.declared.StarRoot.{StarRoot}
 use Rattle.star.specs.declared.Support.{Support}
@@ -271,7 +271,7 @@ sound-by m z h r s w d = sound-still m r s w (d .support) (d .count) (d .rank)
 -- the root as it is built
 pub built : (p m : ℕ) (z h pre : List Float) (taken : List ℕ) (s : Support) (a : List Float) (f : Factor) (r : StarRoot) → m ≤ 8 → Found p m m z s
     → a ≡ sub m (s .count) (take (s .count) (s .places)) pre → factorOf (s .count) f ≡ def.pivotedRoot (s .count) a → f .rank ≤ s .count
-    → Followed p m z h taken (record { support = s .places; count = s .count; cols = f .cols; rank = f .rank }) r → Holds p m z h pre taken r
+    → Followed p m z h taken (record { support = s .places; count = s .count; cols = f .cols; rank = f .rank }) r → Replayed p m z h pre taken r
 built p m z h pre taken s a f r n found e1 e2 low w = record {
   sound = sound-still m first r (record { support = states-of p m z s found n; low = low }) (w .support) (w .count) (w .rank);
   count = w .count ∙ found .count;
@@ -283,12 +283,12 @@ built p m z h pre taken s a f r n found e1 e2 low w = record {
     first = record { support = s .places; count = s .count; cols = f .cols; rank = f .rank }
 
 -- what is kept, at work: F by the root is the definition's, and one element more
-module _ (p m : ℕ) (z h pre : List Float) (taken : List ℕ) (r : StarRoot) (w : Holds p m z h pre taken r) where
+module _ (p m : ℕ) (z h pre : List Float) (taken : List ℕ) (r : StarRoot) (w : Replayed p m z h pre taken r) where
   pub kept-again : (i : ℕ) → projectedAt r (Dense.row m z i) (ent p h i i) ≡ againOf p m z h pre i taken
   unfolding projectedAt againOf againOn
   kept-again i = rw (w .root, w .places, w .count)
 
-  pub kept-next : (i : ℕ) (s : StarRoot) → Downdated (Dense.row m z i) (ent p h i i) r s → Holds p m z h pre (taken ++ (i ∷ [])) s
+  pub kept-next : (i : ℕ) (s : StarRoot) → Downdated (Dense.row m z i) (ent p h i i) r s → Replayed p m z h pre (taken ++ (i ∷ [])) s
   kept-next i s d = record {
     sound = sound-still m r s (w .sound) (d .support) (d .count) (d .rank);
     count = d .count ∙ w .count;

@@ -17,13 +17,11 @@ abbrev pub pivotOf : Pivot → def.Pivot
 pivotOf b = record { place = b .place; best = b .best }
 
 abbrev pub growingOf : ℕ → Growing → def.Growing
-growingOf k g = record { left = mat k (g .left); used = take k (g .used); rank = g .rank; cols = rect (g .rank) k (g .cols) }
+growingOf k g =
+    record { left = mat k (g .left); used = take k (g .used); rank = g .rank; cols = rect (g .rank) k (g .cols) }
 
 abbrev pub factorOf : ℕ → Factor → def.Root
 factorOf k f = record { rank = f .rank; cols = rect (f .rank) k (f .cols) }
-
-abbrev pub factorWanted : ℕ → List Float → def.Root
-factorWanted k a = def.pivotedRoot k a
 
 -- of the first j states, those on which the design loads
 pub record Found (p m j : ℕ) (z : List Float) (s : Support) : Type 0 where
@@ -34,7 +32,8 @@ pub record Found (p m j : ℕ) (z : List Float) (s : Support) : Type 0 where
 -- state j joins the others, or not
 pub record Joined (s : Support) (j : ℕ) (yes : Bool) (t : Support) : Type 0 where
   pub count : t .count ≡ cond yes (s .count + 1) (s .count)
-  pub places : take (t .count) (t .places) ≡ cond yes (take (s .count) (s .places) ++ (j ∷ [])) (take (s .count) (s .places))
+  pub places : take (t .count) (t .places)
+      ≡ cond yes (take (s .count) (s .places) ++ (j ∷ [])) (take (s .count) (s .places))
 
 -- the first k places of s are states
 pub record States (m k : ℕ) (s : List ℕ) : Type 0 where
@@ -79,8 +78,10 @@ pub record Followed (p m : ℕ) (z h : List Float) (taken : List ℕ) (r s : Sta
   pub root : rootOn (r .count) s ≡ def.replay p m z h (placesOf r) (r .count) (rootOn (r .count) r) taken
 
 -- The root is that of the predicted P*, replayed over the elements taken. This is what is kept through a period.
-pub record Holds (p m : ℕ) (z h pre : List Float) (taken : List ℕ) (r : StarRoot) : Type 0 where
+pub record Replayed (p m : ℕ) (z h pre : List Float) (taken : List ℕ) (r : StarRoot) : Type 0 where
   pub sound : Sound m r
   pub count : r .count ≡ length (def.support p m z)
   pub places : placesOf r ≡ def.support p m z
-  pub root : rootOn (r .count) r ≡ def.replay p m z h (placesOf r) (r .count) (def.pivotedRoot (r .count) (def.sub m (r .count) (placesOf r) pre)) taken
+  pub root : rootOn (r .count) r
+      ≡ def.replay p m z h (placesOf r) (r .count)
+      (def.pivotedRoot (r .count) (def.sub m (r .count) (placesOf r) pre)) taken

@@ -1,19 +1,18 @@
-// filter.rs, `pivoted_root` and `StarRoot`: the square-root companion of a period's P*, for the decision on a suspect element alone.
-// It is seldom asked, so it goes by value and is small: a period that never asks pays nothing for it.
+// filter.rs, `pivoted_root` and `StarRoot`: the square-root companion of a period's P*, for the decision on a suspect
+// element alone. It is seldom asked, so it goes by value and is small: a period that never asks pays nothing for it.
 ghost use mathlib.Core.Path.{_≡_};
 ghost use mathlib.Core.Bool.{true, not, _||_};
 ghost use Prim.Native.Nat.{_≤_, _<_, _+_};
 ghost use lib.ListN.{take, set};
 ghost use Rattle.definition.specs.Num.{ent, isZero, matrix, tabulate};
 ghost use Rattle.definition.specs.Dense.{row};
-ghost use Rattle.definition.specs.Star.{better, pivotTo, columnAt, column, leftOf, grow, loads, on, sub, subAt, uAt, wAt, shrunkAt};
+ghost use Rattle.definition.specs.Star.{better, pivotTo, columnAt, column, leftOf, grow, pivotedRoot, loads, on, sub, subAt, uAt, wAt, shrunkAt};
 ghost use Rattle.dense.specs.Views.{vec, mat, rect};
 ghost use Rattle.dense.specs.Places.{Within};
 ghost use Rattle.star.specs.Views.{
   pivotOf,
   growingOf,
   factorOf,
-  factorWanted,
   projectedAt,
   Found,
   States,
@@ -22,7 +21,7 @@ ghost use Rattle.star.specs.Views.{
   Sound,
   Downdated,
   Followed,
-  Holds,
+  Replayed,
 };
 
 // Where the largest diagonal entry above 0 is, or the size for none, and how large.
@@ -39,7 +38,7 @@ struct Growing {
     rank: usize,
 }
 
-// rank columns, one after the other.
+// A factor of a matrix: rank columns, one after the other.
 struct Factor {
     cols: [f64; 64],
     rank: usize,
@@ -59,6 +58,13 @@ pub struct StarRoot {
     pub rank: usize,
 }
 
+// F by the root, with the root handed back.
+pub struct Projected {
+    pub root: StarRoot,
+    pub f: f64,
+}
+
+// The pivot b, or place j where that is free and its entry larger: the first of equals stays.
 fn better(b: Pivot, a: &[f64; 64], used: &[bool; 8], k: usize, j: usize) -> Pivot
     requires { ⌜ (k ≤ 8) × (j < k) ⌝ }
     ensures { λ r. ⌜ pivotOf r ≡ better k (mat k (now (a .entry))) (take k (now (used .entry))) j (pivotOf b) ⌝ }
@@ -73,6 +79,7 @@ fn better(b: Pivot, a: &[f64; 64], used: &[bool; 8], k: usize, j: usize) -> Pivo
     b
 }
 
+// The pivot of what is left: the largest diagonal entry at a free place.
 fn find_pivot<'a>(a: &'a [f64; 64], used: &'a [bool; 8], k: usize) -> Pivot
     requires { ⌜ k ≤ 8 ⌝ }
     ensures { λ r. ⌜ pivotOf r ≡ pivotTo k (mat k (now (a .entry))) (take k (now (used .entry))) k ⌝ }
@@ -87,6 +94,7 @@ fn find_pivot<'a>(a: &'a [f64; 64], used: &'a [bool; 8], k: usize) -> Pivot
     b
 }
 
+// Entry i of the column by pivot j, whose root is sd; 0 in a row that is used up.
 fn column_at(a: &[f64; 64], used: &[bool; 8], k: usize, j: usize, sd: f64, i: usize) -> f64
     requires { ⌜ Within k i j ⌝ }
     ensures { λ r. ⌜ r ≡ columnAt k (mat k (now (a .entry))) (take k (now (used .entry))) j sd i ⌝ }
@@ -97,6 +105,7 @@ fn column_at(a: &[f64; 64], used: &[bool; 8], k: usize, j: usize, sd: f64, i: us
     dense::get(a, k, i, j) / sd
 }
 
+// The column by pivot j.
 fn column<'a>(a: &'a [f64; 64], used: &'a [bool; 8], k: usize, j: usize, sd: f64) -> [f64; 8]
     requires { ⌜ (k ≤ 8) × (j < k) ⌝ }
     ensures { λ r. ⌜ vec k r ≡ column k (mat k (now (a .entry))) (take k (now (used .entry))) j sd ⌝ }
@@ -122,6 +131,7 @@ fn take_off(a: &mut [f64; 64], col: &[f64; 8], k: usize)
     }
 }
 
+// Place j is used up.
 fn mark(used: &mut [bool; 8], k: usize, j: usize)
     requires { ⌜ (k ≤ 8) × (j < k) ⌝ }
     ensures { λ _. ⌜ take k (now (used .exit)) ≡ set (take k (now (used .entry))) j true ⌝ }
@@ -152,7 +162,7 @@ fn grow(g: Growing, k: usize) -> Growing
 // A factor of a k by k matrix: column after column, each by the largest diagonal entry that is left.
 fn pivoted_root(a: [f64; 64], k: usize) -> Factor
     requires { ⌜ k ≤ 8 ⌝ }
-    ensures { λ r. ⌜ (factorOf k r ≡ factorWanted k (mat k a)) × (r .rank ≤ k) ⌝ }
+    ensures { λ r. ⌜ (factorOf k r ≡ pivotedRoot k (mat k a)) × (r .rank ≤ k) ⌝ }
 {
     let mut g = Growing {
         left: a,
@@ -170,6 +180,7 @@ fn pivoted_root(a: [f64; 64], k: usize) -> Factor
     }
 }
 
+// Entry l of u = S' z.
 fn u_at(cols: &[f64; 64], r: usize, k: usize, z: &[f64; 8], l: usize) -> f64
     requires { ⌜ (r ≤ 8) × ((k ≤ 8) × (l < r)) ⌝ }
     ensures { λ x. ⌜ x ≡ uAt k (rect r k (now (cols .entry))) (vec k (now (z .entry))) l ⌝ }
@@ -181,6 +192,7 @@ fn u_at(cols: &[f64; 64], r: usize, k: usize, z: &[f64; 8], l: usize) -> f64
     s
 }
 
+// Entry a of w = S u.
 fn w_at(cols: &[f64; 64], r: usize, k: usize, u: &[f64; 8], a: usize) -> f64
     requires { ⌜ (r ≤ 8) × ((k ≤ 8) × (a < k)) ⌝ }
     ensures { λ x. ⌜ x ≡ wAt k r (rect r k (now (cols .entry))) (vec r (now (u .entry))) a ⌝ }
@@ -216,9 +228,11 @@ fn all_w(cols: &[f64; 64], r: usize, k: usize, u: &[f64; 8]) -> [f64; 8]
     out
 }
 
+// S - g w u', in place.
 fn shrink(cols: &mut [f64; 64], g: f64, u: &[f64; 8], w: &[f64; 8], r: usize, k: usize)
     requires { ⌜ (r ≤ 8) × (k ≤ 8) ⌝ }
-    ensures { λ _. ⌜ rect r k (now (cols .exit)) ≡ matrix r k (shrunkAt k g (vec r (now (u .entry))) (vec k (now (w .entry))) (rect r k (now (cols .entry)))) ⌝ }
+    ensures { λ _. ⌜ rect r k (now (cols .exit))
+        ≡ matrix r k (shrunkAt k g (vec r (now (u .entry))) (vec k (now (w .entry))) (rect r k (now (cols .entry)))) ⌝ }
 {
     dense::sized(cols);
     for l in 0..r {
@@ -251,6 +265,7 @@ fn loads(z: &[f64; 64], p: usize, m: usize, j: usize) -> bool
     b
 }
 
+// State j joins the support, where the design loads on it.
 fn join(s: Support, j: usize, yes: bool) -> Support
     requires { ⌜ s .count < 8 ⌝ }
     ensures { λ r. ⌜ Joined s j yes r ⌝ }
@@ -264,6 +279,7 @@ fn join(s: Support, j: usize, yes: bool) -> Support
     s
 }
 
+// The support: the states on which some row of the design loads, in order.
 fn find_support(z: &[f64; 64], p: usize, m: usize) -> Support
     requires { ⌜ (p ≤ 8) × (m ≤ 8) ⌝ }
     ensures { λ r. ⌜ Found p m m (rect p m (now (z .entry))) r ⌝ }
@@ -291,6 +307,7 @@ fn on_support(x: &[f64; 8], m: usize, s: &[usize; 8], k: usize) -> [f64; 8]
     out
 }
 
+// Entry (a, b) of a matrix on the support.
 fn sub_at(pre: &[f64; 64], m: usize, s: &[usize; 8], k: usize, a: usize, b: usize) -> f64
     requires { ⌜ States m k (now s) × ((a < k) × (b < k)) ⌝ }
     ensures { λ r. ⌜ r ≡ subAt m (take k (now (s .entry))) (mat m (now (pre .entry))) a b ⌝ }
@@ -317,17 +334,16 @@ fn sub(pre: &[f64; 64], m: usize, s: &[usize; 8], k: usize) -> [f64; 64]
 
 impl StarRoot {
     // F = u' u + h, u = S' z: the element's variance as a sum of squares.
-    pub fn project(self, z: &[f64; 8], h: f64, m: usize) -> f64
+    pub fn project(self, z: &[f64; 8], h: f64, m: usize) -> Projected
         requires { ⌜ Sound m self ⌝ }
-        ensures { λ x. ⌜ x ≡ projectedAt self (vec m (now (z .entry))) h ⌝ }
+        ensures { λ x. ⌜ (x .root ≡ self) × (x .f ≡ projectedAt self (vec m (now (z .entry))) h) ⌝ }
     {
-        let s = self.support;
         let k = self.count;
-        let c = self.cols;
         let r = self.rank;
-        let zs = on_support(z, m, &s, k);
-        let u = all_u(&c, r, k, &zs);
-        dense::dot(&u, &u, r) + h
+        let zs = on_support(z, m, &self.support, k);
+        let u = all_u(&self.cols, r, k, &zs);
+        let f = dense::dot(&u, &u, r) + h;
+        Projected { root: self, f }
     }
 
     // Potter's update for the element (z, h): S (I - g u u'), g = 1 / (F + sqrt(h F)).
@@ -359,7 +375,8 @@ impl StarRoot {
         n: usize,
     ) -> StarRoot
         requires { ⌜ (p ≤ 8) × ((m ≤ 8) × Taken p n (now taken)) ⌝ }
-        ensures { λ r. ⌜ Holds p m (rect p m (now (design .entry))) (mat p (now (hs .entry))) (mat m (now (pre .entry))) (take n (now (taken .entry))) r ⌝ }
+        ensures { λ r. ⌜ Replayed p m (rect p m (now (design .entry))) (mat p (now (hs .entry)))
+            (mat m (now (pre .entry))) (take n (now (taken .entry))) r ⌝ }
     {
         let found = find_support(design, p, m);
         let s = found.places;
@@ -386,12 +403,14 @@ fn follow_one(
     i: usize,
 ) -> StarRoot
     requires { ⌜ (p ≤ 8) × ((i < p) × Sound m root) ⌝ }
-    ensures { λ r. ⌜ Downdated (row m (rect p m (now (design .entry))) i) (ent p (mat p (now (hs .entry))) i i) root r ⌝ }
+    ensures { λ r. ⌜ Downdated (row m (rect p m (now (design .entry))) i) (ent p (mat p (now (hs .entry))) i i)
+        root r ⌝ }
 {
     let z = dense::row_to_vec(design, p, m, i);
     root.downdate(&z, dense::get(hs, p, i, i), m)
 }
 
+// The updates for the first n elements in `taken`, in order.
 fn follow(
     root: StarRoot,
     p: usize,
@@ -402,7 +421,8 @@ fn follow(
     n: usize,
 ) -> StarRoot
     requires { ⌜ (p ≤ 8) × (Sound m root × Taken p n (now taken)) ⌝ }
-    ensures { λ r. ⌜ Followed p m (rect p m (now (design .entry))) (mat p (now (hs .entry))) (take n (now (taken .entry))) root r ⌝ }
+    ensures { λ r. ⌜ Followed p m (rect p m (now (design .entry))) (mat p (now (hs .entry)))
+        (take n (now (taken .entry))) root r ⌝ }
 {
     let mut root = root;
     for t in 0..n {

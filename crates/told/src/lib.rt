@@ -1,4 +1,5 @@
-// What goes wrong with the panel, told on standard error in one line: a wrong line of the sheet, a refusal of the library's, wrong arguments.
+// What goes wrong with the panel, told on standard error in one line: a wrong line of the sheet, a refusal of the library's, wrong arguments, a file
+// that can't be opened.
 ghost use mathlib.Core.Path.{_≡_};
 ghost use Prim.Native.Nat.{_≤_};
 ghost use lib.ListN.{length};
@@ -15,9 +16,18 @@ pub fn usage(fd: i32) {
         fd,
         b"usage: panel [--smooth] [--svg PICTURE] [SHEET]   the estimates, and a picture of them
        panel --table [--smooth] [SHEET]           how accurate they will be, before any check is read
-With no SHEET it is read from standard input. docs/PANEL.md says what a sheet is.
+With no SHEET, or with -, it is read from standard input. docs/PANEL.md says what a sheet is.
 ",
     );
+}
+
+// A file that has just failed to open: which one it is, its name, and why. What is written in between leaves the reason as it is.
+pub fn unopened(what: &[u8], name: &[u8]) {
+    io::write_all(ERRORS, b"panel: ");
+    io::write_all(ERRORS, what);
+    io::write_all(ERRORS, b" '");
+    io::write_all(ERRORS, name);
+    os::fail(b"'");
 }
 
 pub fn too_long() {

@@ -1,4 +1,5 @@
--- One pass after the other. Made of Proof.tpl by tools/expand.
+-- Made from Proof.tpl by tools/expand: edit that.
+-- One pass after the other.
 use Rattle.backward.proofs.back.Statement.{statement}
 use Rattle.backward.proofs.back.Tie as tie
 

@@ -1,45 +1,35 @@
-use Prim.Native.Nat.{_-_}
-use native.Mathlib.Omega.{arith}
+-- Made from Proof.tpl by tools/expand: edit that.
+-- The records are saved from arrays of 8 elements.
 use borrow.Author.Needs.{needs}
+use Rattle.dense.proofs.Laws.{area}
 use Rattle.cov.proofs.Steps as steps
+use Rattle.cov.proofs.Sizes as sizes
 use Rattle.cov.proofs.absorb.Statement.{statement}
 use Rattle.cov.proofs.absorb.Tie as tie
 
 load64-requires : tie.Need-load64-requires
-load64-requires c κs = steps.at-most (c .before .before .before .before .before .before .before .before .pre .designed) (steps.area (c .before .before .before .before .before .before .before .before .pre .p8) (c .before .before .before .before .before .before .before .before .pre .m8))
-
-mul-a : tie.Need-mul-a
-mul-a c = steps.fits-block (c .before .before .before .before .before .before .before .before .before .pre .t4096) (c .before .before .before .before .before .before .before .before .before .pre .p8)
-
-add-b : tie.Need-add-b
-add-b c = steps.fits-next (c .before .before .before .before .before .before .before .before .before .pre .t4096) (c .before .before .before .before .before .before .before .before .before .pre .p8)
-
-mul-pm : tie.Need-mul-pm
-mul-pm c = omega (arith, steps.area (c .before .before .before .before .before .before .before .before .before .pre .p8) (c .before .before .before .before .before .before .before .before .before .pre .m8))
-
-part-elements-end : tie.Need-part-elements-end
-part-elements-end c = c .before .before .before .before .before .before .before .before .before .before .before .before .before .before .before .before .before .before .before .pre .readings
+load64-requires c κs = sizes.at-most (c .before .before .before .before .before .before .before .before .pre .0 .designed) (area (c .before .before .before .before .before .before .before .before .pre .0 .p8) (c .before .before .before .before .before .before .before .before .pre .0 .m8))
 
 elements-requires : tie.Need-elements-requires
-elements-requires c κs = (c .before .before .before .before .before .before .before .before .before .before .before .before .before .before .before .before .before .before .before .before .pre .p8, (c .before .before .before .before .before .before .before .before .before .before .before .before .before .before .before .before .before .before .before .before .pre .m8, steps.part-long _ _ _ (c .before .before .before .before .before .before .before .before .before .before .before .before .before .before .before .before .before .before .before .before .pre .readings)))
+elements-requires c κs = (c .before .before .before .before .before .before .before .before .before .before .before .before .before .before .before .before .before .before .before .pre .0 .p8, (c .before .before .before .before .before .before .before .before .before .before .before .before .before .before .before .before .before .before .before .pre .0 .m8, c .before .before .before .before .before .before .before .before .before .before .before .before .before .before .before .before .before .before .before .pre .0 .readings))
 
-put-bytes-requires : tie.Need-put-bytes-requires
-put-bytes-requires c κs = (c .before .before .before .before .before .before .before .before .before .before .before .before .before .before .before .before .before .before .before .before .before .before .before .pre .p8, c .before .before .before .before .before .before .before .before .before .before .before .before .before .before .before .before .before .before .before .before .before .before .before .pre .kinds)
+save-bytes-requires : tie.Need-save-bytes-requires
+save-bytes-requires c κs = sizes.at-most (c .before .before .before .before .before .before .before .before .before .before .before .before .before .before .before .before .before .before .before .before .before .before .pre .1 .kinds) (c .before .before .before .before .before .before .before .before .before .before .before .before .before .before .before .before .before .before .before .before .before .before .pre .0 .p8)
 
-put8-requires : tie.Need-put8-requires
-put8-requires c κs = (c .before .before .before .before .before .before .before .before .before .before .before .before .before .before .before .before .before .before .before .before .before .before .before .before .before .before .before .before .pre .p8, c .before .before .before .before .before .before .before .before .before .before .before .before .before .before .before .before .before .before .before .before .before .before .before .before .before .before .before .before .pre .stars)
+save8-requires : tie.Need-save8-requires
+save8-requires c κs = sizes.at-most (c .before .before .before .before .before .before .before .before .before .before .before .before .before .before .before .before .before .before .before .before .before .before .before .before .before .before .before .pre .1 .stars) (c .before .before .before .before .before .before .before .before .before .before .before .before .before .before .before .before .before .before .before .before .before .before .before .before .before .before .before .pre .0 .p8)
 
-put8-requires-2 : tie.Need-put8-requires-2
-put8-requires-2 c κs = (c .before .before .before .before .before .before .before .before .before .before .before .before .before .before .before .before .before .before .before .before .before .before .before .before .before .before .before .before .before .before .before .before .before .pre .p8, c .before .before .before .before .before .before .before .before .before .before .before .before .before .before .before .before .before .before .before .before .before .before .before .before .before .before .before .before .before .before .before .before .before .pre .infs)
+save8-requires-2 : tie.Need-save8-requires-2
+save8-requires-2 c κs = sizes.at-most (c .before .before .before .before .before .before .before .before .before .before .before .before .before .before .before .before .before .before .before .before .before .before .before .before .before .before .before .before .before .before .before .before .pre .1 .infs) (c .before .before .before .before .before .before .before .before .before .before .before .before .before .before .before .before .before .before .before .before .before .before .before .before .before .before .before .before .before .before .before .before .pre .0 .p8)
 
-put64-requires : tie.Need-put64-requires
-put64-requires c κs = (steps.area (c .before .before .before .before .before .before .before .before .before .before .before .before .before .before .before .before .before .before .before .before .before .before .before .before .before .before .before .before .before .before .before .before .before .before .before .before .before .before .pre .p8) (c .before .before .before .before .before .before .before .before .before .before .before .before .before .before .before .before .before .before .before .before .before .before .before .before .before .before .before .before .before .before .before .before .before .before .before .before .before .before .pre .m8), c .before .before .before .before .before .before .before .before .before .before .before .before .before .before .before .before .before .before .before .before .before .before .before .before .before .before .before .before .before .before .before .before .before .before .before .before .before .before .pre .m-stars)
+save64-requires : tie.Need-save64-requires
+save64-requires c κs = sizes.at-most (c .before .before .before .before .before .before .before .before .before .before .before .before .before .before .before .before .before .before .before .before .before .before .before .before .before .before .before .before .before .before .before .before .before .before .before .before .before .pre .1 .m-stars) (area (c .before .before .before .before .before .before .before .before .before .before .before .before .before .before .before .before .before .before .before .before .before .before .before .before .before .before .before .before .before .before .before .before .before .before .before .before .before .pre .0 .p8) (c .before .before .before .before .before .before .before .before .before .before .before .before .before .before .before .before .before .before .before .before .before .before .before .before .before .before .before .before .before .before .before .before .before .before .before .before .before .pre .0 .m8))
 
-put64-requires-2 : tie.Need-put64-requires-2
-put64-requires-2 c κs = (steps.area (c .before .before .before .before .before .before .before .before .before .before .before .before .before .before .before .before .before .before .before .before .before .before .before .before .before .before .before .before .before .before .before .before .before .before .before .before .before .before .before .before .before .before .before .pre .p8) (c .before .before .before .before .before .before .before .before .before .before .before .before .before .before .before .before .before .before .before .before .before .before .before .before .before .before .before .before .before .before .before .before .before .before .before .before .before .before .before .before .before .before .before .pre .m8), c .before .before .before .before .before .before .before .before .before .before .before .before .before .before .before .before .before .before .before .before .before .before .before .before .before .before .before .before .before .before .before .before .before .before .before .before .before .before .before .before .before .before .before .pre .m-infs)
+save64-requires-2 : tie.Need-save64-requires-2
+save64-requires-2 c κs = sizes.at-most (c .before .before .before .before .before .before .before .before .before .before .before .before .before .before .before .before .before .before .before .before .before .before .before .before .before .before .before .before .before .before .before .before .before .before .before .before .before .before .before .before .before .before .pre .1 .m-infs) (area (c .before .before .before .before .before .before .before .before .before .before .before .before .before .before .before .before .before .before .before .before .before .before .before .before .before .before .before .before .before .before .before .before .before .before .before .before .before .before .before .before .before .before .pre .0 .p8) (c .before .before .before .before .before .before .before .before .before .before .before .before .before .before .before .before .before .before .before .before .before .before .before .before .before .before .before .before .before .before .before .before .before .before .before .before .before .before .before .before .before .before .pre .0 .m8))
 
 returns : tie.Need-returns
-returns c = steps.absorbed _ _ _ _ _ _ _ _ _ _ _ _ (c .before .before .before .before .before .before .before .before .before .before .before .before .before .before .before .before .before .before .before .before .before .before .before .before .before .before .before .before .before .before .before .before .before .before .before .before .before .before .before .before .before .before .before .before .before .before .pre .designed) (c .before .before .before .before .before .before .before .before .before .before .before .before .before .before .before .before .before .before .before .before .before .before .before .before .before .before .before .before .before .before .before .before .before .before .before .before .before .load64 .ensures) (c .before .before .before .before .before .before .before .before .before .before .before .before .before .before .before .before .before .before .before .before .before .before .before .before .before .elements .ensures) (c .before .before .before .before .before .before .before .before .before .before .before .before .before .before .before .before .before .before .before .before .before .before .put-bytes .ensures) (c .before .before .before .before .before .before .before .before .before .before .before .before .before .before .before .before .before .put8 .ensures) (c .before .before .before .before .before .before .before .before .before .before .before .before .put82 .ensures) (c .before .before .before .before .before .before .before .put64 .ensures) (c .before .before .put642 .ensures)
+returns c = steps.absorbed _ _ _ _ _ _ _ _ _ _ _ (c .before .before .before .before .before .before .before .before .before .before .before .before .before .before .before .before .before .before .before .before .before .before .before .before .before .before .before .before .before .before .before .before .before .before .before .before .before .before .before .before .before .before .before .before .before .pre .0 .designed) (c .before .before .before .before .before .before .before .before .before .before .before .before .before .before .before .before .before .before .before .before .before .before .before .before .before .before .before .before .before .before .before .before .before .before .before .before .load64 .ensures) (c .before .before .before .before .before .before .before .before .before .before .before .before .before .before .before .before .before .before .before .before .before .before .before .before .before .elements .ensures) (c .before .before .before .before .before .before .before .before .before .before .before .before .before .before .before .before .before .before .before .before .before .before .before .before .before .before .before .before .before .before .before .before .before .before .before .before .before .before .before .before .before .before .before .before .before .pre .1) (c .before .before .before .before .before .before .before .before .before .before .before .before .before .before .before .before .before .before .before .before .before .before .save-bytes .ensures) (c .before .before .before .before .before .before .before .before .before .before .before .before .before .before .before .before .before .save8 .ensures) (c .before .before .before .before .before .before .before .before .before .before .before .before .save82 .ensures) (c .before .before .before .before .before .before .before .save64 .ensures) (c .before .before .save642 .ensures)
 
 pub absorb-spec : {M : Type 1} → statement M
-absorb-spec = tie.close (tie.spec load64-requires mul-a add-b mul-pm (λ c. search needs) (λ c. search needs) (λ c. search needs) part-elements-end elements-requires put-bytes-requires put8-requires put8-requires-2 put64-requires put64-requires-2 (λ c. search needs) (λ c. search needs) (λ c. search needs) (λ c. search needs) (λ c. search needs) returns)
+absorb-spec = tie.close (tie.spec load64-requires elements-requires save-bytes-requires save8-requires save8-requires-2 save64-requires save64-requires-2 (λ c. search needs) (λ c. search needs) (λ c. search needs) (λ c. search needs) (λ c. search needs) returns)

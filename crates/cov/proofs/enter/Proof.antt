@@ -1,23 +1,20 @@
-use Prim.Native.Nat.{_-_}
-use native.Mathlib.Omega.{arith}
+-- Made from Proof.tpl by tools/expand: edit that.
+--
 use borrow.Author.Needs.{needs}
 use Rattle.laws.specs.Lists.{square-le}
-use Rattle.dense.specs.Views.{rect}
+use Rattle.cov.proofs.Steps as steps
+use Rattle.cov.proofs.Sizes as sizes
 use Rattle.cov.proofs.enter.Statement.{statement}
 use Rattle.cov.proofs.enter.Tie as tie
 
-mul-mm : tie.Need-mul-mm
-mul-mm c = omega (arith, square-le (c .before .before .before .before .args .m) (c .before .before .before .before .pre .m8))
+save64-requires : tie.Need-save64-requires
+save64-requires c κs = sizes.at-most (c .before .before .before .before .before .pre .1 .0) (square-le (c .before .before .before .before .before .args .m) (c .before .before .before .before .before .pre .0))
 
-put64-requires : tie.Need-put64-requires
-put64-requires c κs = (square-le (c .before .before .before .before .before .args .m) (c .before .before .before .before .before .pre .m8), c .before .before .before .before .before .pre .pred)
-
-put64-requires-2 : tie.Need-put64-requires-2
-put64-requires-2 c κs = (square-le (c .before .before .before .before .before .before .before .before .before .before .args .m) (c .before .before .before .before .before .before .before .before .before .before .pre .m8), c .before .before .before .before .before .before .before .before .before .before .pre .pred-inf)
+save64-requires-2 : tie.Need-save64-requires-2
+save64-requires-2 c κs = sizes.at-most (c .before .before .before .before .before .before .before .before .before .before .pre .1 .1) (square-le (c .before .before .before .before .before .before .before .before .before .before .args .m) (c .before .before .before .before .before .before .before .before .before .before .pre .0))
 
 returns : tie.Need-returns
-unfolding rect
-returns c = record { lasts = c .before .before .before .before .before .before .before .before .before .begin .ensures .lasts; pinf = c .before .before .before .before .before .before .before .before .before .begin .ensures .pinf; pred = c .before .before .before .before .before .before .before .put64 .ensures .is; pred-inf = c .before .before .put642 .ensures .is; long = c .before .before .before .before .before .before .before .put64 .ensures .long; long-inf = c .before .before .put642 .ensures .long }
+returns c = steps.entering _ _ (c .before .before .before .before .before .before .before .before .before .begin .ensures) (c .before .before .before .before .before .before .before .before .before .before .before .before .before .pre .1 .0) (c .before .before .before .before .before .before .before .save64 .ensures) (c .before .before .before .before .before .before .before .before .before .before .before .before .before .pre .1 .1) (c .before .before .save642 .ensures)
 
 pub enter-spec : {M : Type 1} → statement M
-enter-spec = tie.close (tie.spec (λ c κs. search needs) mul-mm put64-requires put64-requires-2 (λ c. search needs) (λ c. search needs) returns)
+enter-spec = tie.close (tie.spec (λ c κs. search needs) save64-requires save64-requires-2 (λ c. search needs) (λ c. search needs) returns)

@@ -1,4 +1,5 @@
--- The loop from the last period to the first keeps Going. Made of Proof.tpl by tools/expand.
+-- Made from Proof.tpl by tools/expand: edit that.
+-- The loop from the last period to the first keeps Going.
 use mathlib.Core.Path.{_∙_}
 use Prim.Native.Nat.{_*_}
 use Rattle.definition.specs.Inputs.{frameFrom}

@@ -1,4 +1,5 @@
--- The row and the gain vectors are the parts that the definition reads. Made of Proof.tpl by tools/expand.
+-- Made from Proof.tpl by tools/expand: edit that.
+-- The row and the gain vectors are the parts that the definition reads.
 use borrow.Author.Needs.{needs}
 use Rattle.laws.specs.Flat.{flatIn}
 use Rattle.cov_back.proofs.Laws as laws

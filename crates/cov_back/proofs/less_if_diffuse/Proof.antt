@@ -1,3 +1,4 @@
+-- Made from Proof.tpl by tools/expand: edit that.
 -- P∞ is loaded in a diffuse period alone.
 use mathlib.Core.Path.{refl}
 use borrow.Author.Needs.{needs}

@@ -1,4 +1,5 @@
--- The period is its elements, its smoothed covariance and the step. Made of Proof.tpl by tools/expand.
+-- Made from Proof.tpl by tools/expand: edit that.
+-- The period is its elements, its smoothed covariance and the step.
 use Rattle.element_back.specs.View.{nsIn}
 use Rattle.dense.specs.Views.{mat}
 use Rattle.laws.specs.Flat.{flatIn}

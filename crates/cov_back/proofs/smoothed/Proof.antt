@@ -1,3 +1,4 @@
+-- Made from Proof.tpl by tools/expand: edit that.
 -- V as the definition puts it together.
 use borrow.Author.Needs.{needs}
 use Rattle.cov_back.proofs.Laws as laws

@@ -1,3 +1,4 @@
+-- Made from Proof.tpl by tools/expand: edit that.
 use Rattle.element.proofs.settle.Statement.{statement}
 use Rattle.element.proofs.settle.Tie as tie
 use borrow.Author.Needs.{needs}

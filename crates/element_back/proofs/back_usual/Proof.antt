@@ -1,3 +1,5 @@
+-- Made from Proof.tpl by tools/expand: edit that.
+-- N0 and N1 of a usual element, over what each call left.
 use borrow.Author.Needs.{needs}
 use Rattle.element_back.proofs.Laws as laws
 use Rattle.element_back.proofs.back_usual.Statement.{statement}

@@ -1,3 +1,4 @@
+-- One quotient.
 use mathlib.Core.Path.{refl}
 use Rattle.element_back.proofs.f_one.Statement.{statement}
 use Rattle.element_back.proofs.f_one.Tie as tie

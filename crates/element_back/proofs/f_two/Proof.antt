@@ -1,3 +1,4 @@
+-- A product of three.
 use mathlib.Core.Path.{refl}
 use Rattle.element_back.proofs.f_two.Statement.{statement}
 use Rattle.element_back.proofs.f_two.Tie as tie

@@ -1,3 +1,4 @@
+-- The loop writes an entry of K1 a turn.
 use Rattle.element_back.proofs.k_one.Statement.{statement}
 use Rattle.element_back.proofs.k_one.Tie as tie
 use native.Mathlib.Omega.{arith}

@@ -1,3 +1,4 @@
+-- L1 by K1.
 use native.Mathlib.Omega.{arith}
 use Rattle.element_back.proofs.l_diffuse.Statement.{statement}
 use Rattle.element_back.proofs.l_diffuse.Tie as tie

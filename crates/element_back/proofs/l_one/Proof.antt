@@ -1,3 +1,4 @@
+-- The two loops write - k z', row by row.
 use Rattle.element_back.proofs.l_one.Statement.{statement}
 use Rattle.element_back.proofs.l_one.Tie as tie
 use native.Mathlib.Omega.{arith}

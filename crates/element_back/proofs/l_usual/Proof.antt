@@ -1,3 +1,4 @@
+-- L by K.
 use native.Mathlib.Omega.{arith}
 use Rattle.element_back.proofs.l_usual.Statement.{statement}
 use Rattle.element_back.proofs.l_usual.Tie as tie

@@ -1,3 +1,4 @@
+-- The two loops write I - k z', row by row.
 use Rattle.element_back.proofs.l_zero.Statement.{statement}
 use Rattle.element_back.proofs.l_zero.Tie as tie
 use native.Mathlib.Omega.{arith}

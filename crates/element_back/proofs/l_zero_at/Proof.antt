@@ -1,3 +1,4 @@
+-- The entry on the diagonal, and off it.
 use Rattle.element_back.proofs.l_zero_at.Statement.{statement}
 use Rattle.element_back.proofs.l_zero_at.Tie as tie
 use native.Mathlib.Omega.{arith}

@@ -1,3 +1,4 @@
+-- Made from Proof.tpl by tools/expand: edit that.
 -- L' N0 L in place, and the outer product added to it.
 use borrow.Author.Needs.{needs}
 use Rattle.element_back.proofs.Laws as laws

@@ -1,3 +1,5 @@
+-- Made from Proof.tpl by tools/expand: edit that.
+-- N1 moves in a diffuse period alone.
 use borrow.Author.Needs.{needs}
 use mathlib.Core.Path.{refl}
 use Rattle.element_back.proofs.usual_n1.Statement.{statement}

@@ -1,3 +1,4 @@
+-- Made from Proof.tpl by tools/expand: edit that.
 -- `estimate::estimate` meets its contract. Assumes nothing.
 use mathlib.Core.Path.{_≡_, sym, _∙_}
 use lib.ListN.{length}

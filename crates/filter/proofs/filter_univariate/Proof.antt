@@ -1,7 +1,7 @@
--- Checked, run, and ended one of three ways. Made of Proof.tpl by tools/expand.
+-- Made from Proof.tpl by tools/expand: edit that.
+-- Checked, run, and ended one of three ways.
 use mathlib.Core.Path.{refl, sym, _∙_}
-use Rattle.model.specs.Given.{modelOf, offsetsOf}
-use Rattle.forward.specs.View.{covParts, meanParts}
+use Rattle.promise.specs.Lent.{modelOf, offsetsOf, covParts, meanParts}
 use Rattle.filter.specs.Blanked as blanked
 use Rattle.filter.proofs.Judged as judged
 use Rattle.filter.proofs.filter_univariate.Statement.{statement}

@@ -1,10 +1,10 @@
 use borrow.Author.Needs.{needs}
-use Rattle.filter.specs.Promise.{isSilent}
+use Rattle.definition.specs.Outcome.{noInformation}
 use Rattle.filter.proofs.is_silent.Statement.{statement}
 use Rattle.filter.proofs.is_silent.Tie as tie
 
 returns : tie.Need-returns
-unfolding isSilent
+unfolding noInformation
 returns c = search needs
 
 pub is-silent-spec : {M : Type 1} → statement M

@@ -1,5 +1,6 @@
--- The outputs' room, and the model's refusals. Made of Proof.tpl by tools/expand.
-use Rattle.forward.specs.View.{covParts, meanParts}
+-- Made from Proof.tpl by tools/expand: edit that.
+-- The outputs' room, and the model's refusals.
+use Rattle.promise.specs.Lent.{covParts, meanParts}
 use Rattle.filter.proofs.Judged as judged
 use Rattle.filter.proofs.refusal.Statement.{statement}
 use Rattle.filter.proofs.refusal.Tie as tie

@@ -1,4 +1,5 @@
--- `goxundar::goxundar_smooth` meets its contract. Assumes nothing. Made of Proof.tpl by tools/expand.
+-- Made from Proof.tpl by tools/expand: edit that.
+-- `goxundar::goxundar_smooth` meets its contract. Assumes nothing.
 use Rattle.goxundar.proofs.goxundar_smooth.Statement.{statement}
 use Rattle.goxundar.proofs.goxundar_smooth.Tie as tie
 

@@ -1,10 +1,10 @@
 -- `goxundar::tell` meets its contract. Assumes nothing.
 use Prim.Native.Nat.{ℕ}
 use mathlib.Core.Path.{_≡_, refl, sym, subst}
-use Rattle.mean.specs.declared.Answer.{Answer}
-use Rattle.filter.specs.declared.Outcome.{Outcome}
-use Rattle.filter.specs.declared.Outcome.the-variants.{Refused, Answered}
-use Rattle.goxundar.specs.Exported.{Places, places, Told}
+use Rattle.promise.specs.declared.Answer.{Answer}
+use Rattle.promise.specs.declared.Outcome.{Outcome}
+use Rattle.promise.specs.declared.Outcome.the-variants.{Refused, Answered}
+use Rattle.promise.specs.Exported.{Places, places, Told}
 use borrow.Author.Needs.{needs}
 use Rattle.goxundar.proofs.tell.Statement.{statement}
 use Rattle.goxundar.proofs.tell.Tie as tie

@@ -1,4 +1,5 @@
--- The loop over the elements runs along the scan. Made of Proof.tpl by tools/expand.
+-- Made from Proof.tpl by tools/expand: edit that.
+-- The loop over the elements runs along the scan.
 use mathlib.Core.Path.{sym, _∙_}
 use Prim.Native.Nat.{_-_}
 use native.Mathlib.Omega.{arith}
@@ -29,19 +30,19 @@ hear-requires : tie.Need-hear-requires Inv-loop μ-loop
 hear-requires c κs = sizes.element-in _ (c .before .before .before .before .before .before .before .before .before .before .before .before .pre) (c .before .loop-test .taken) (omega (arith, c .before .loop-test .taken))
 
 mul-v : tie.Need-mul-v Inv-loop μ-loop
-mul-v c = omega (arith, c .before .before .before .before .before .before .before .before .before .before .before .before .before .pre .p8, c .before .before .loop-test .taken)
+mul-v c = omega (arith, c .before .before .before .before .before .before .before .before .before .before .before .before .before .before .pre .p8, c .before .before .before .loop-test .taken)
 
 slice-write-v : tie.Need-slice-write-v Inv-loop μ-loop
-slice-write-v c = omega (arith, c .before .before .before .loop .inv .long, c .before .before .loop-test .taken)
+slice-write-v c = omega (arith, c .before .before .before .before .loop .inv .long, c .before .before .before .loop-test .taken)
 
 add-i : tie.Need-add-i Inv-loop μ-loop
 add-i c = omega arith
 
 loop-less : tie.Need-loop-less Inv-loop μ-loop
-loop-less c = omega (arith, c .before .before .loop-test .taken)
+loop-less c = omega (arith, c .before .before .before .loop-test .taken)
 
 loop-again : tie.Need-loop-again Inv-loop μ-loop
-loop-again c = laws.along-next _ _ _ _ _ _ _ _ (c .before .before .before .loop .inv) (c .before .before .loop-test .taken) (c .before .before .before .before .before .before .before .before .before .before .before .before .before .pre .readings) (c .hear .ensures)
+loop-again c = laws.along-next _ _ _ _ _ _ _ _ (c .before .before .before .before .loop .inv) (c .before .before .before .loop-test .taken) (c .before .before .before .before .before .before .before .before .before .before .before .before .before .before .pre .readings) (laws.v-written _ _ _ _ _ _ _ (c .before .hear .ensures) (c .to-flat .ensures))
 
 same-length : tie.Need-same-length Inv-loop μ-loop
 same-length c = c .before .loop .inv .long ∙ sym (c .before .before .before .before .before .before .before .before .before .before .before .pre .vs)
@@ -50,4 +51,4 @@ returns : tie.Need-returns Inv-loop μ-loop
 returns c = laws.along-all _ _ _ _ _ _ _ _ (c .before .loop .inv) (c .loop-test .left) (c .before .before .before .before .before .before .before .before .before .before .before .pre .readings)
 
 pub elements-spec : {M : Type 1} → statement M
-elements-spec = tie.close (tie.spec Inv-loop μ-loop mul-first loop-holds add-hear hear-requires mul-v slice-write-v add-i loop-less loop-again same-length returns)
+elements-spec = tie.close (tie.spec Inv-loop μ-loop mul-first loop-holds add-hear hear-requires (λ c κs. tt) mul-v slice-write-v add-i loop-less loop-again same-length returns)

@@ -1,4 +1,5 @@
--- The loop over the periods keeps Going. Made of Proof.tpl by tools/expand.
+-- Made from Proof.tpl by tools/expand: edit that.
+-- The loop over the periods keeps Going.
 use mathlib.Core.Path.{refl, _∙_}
 use Prim.Native.Nat.{_-_}
 use Rattle.definition.specs.Inputs.{frameFrom}

@@ -1,6 +1,10 @@
--- T, c and a1 loaded, the loop, place n. Made of Proof.tpl by tools/expand.
+-- Made from Proof.tpl by tools/expand: edit that.
+-- T, c and a1 loaded, the loop, place n.
 use mathlib.Core.Path.{_∙_}
+use Prim.Native.Nat.{ℕ, _≤_}
 use native.Mathlib.Omega.{arith}
+use Rattle.laws.specs.Backward.{block-long}
+use Rattle.laws.specs.Blocks as blocks
 use Rattle.mean.proofs.Sizes as sizes
 use Rattle.mean.proofs.Laws as laws
 use Rattle.mean.proofs.Going as going
@@ -19,11 +23,32 @@ load8-requires-2 c κs = sizes.at-most (c .before .before .before .before .befor
 mean-loop-requires : tie.Need-mean-loop-requires
 mean-loop-requires c κs = (sizes.periods (c .before .before .before .before .before .before .before .before .before .before .before .before .before .before .before .before .before .before .before .before .before .before .before .before .pre .0), sizes.rooms (c .before .before .before .before .before .before .before .before .before .before .before .before .before .before .before .before .before .before .before .before .before .before .before .before .pre .1))
 
-put8-requires : tie.Need-put8-requires
-put8-requires c κs = (c .before .before .before .before .before .before .before .before .before .before .before .before .before .before .before .before .before .before .before .before .before .before .before .before .before .before .before .before .before .before .before .before .before .pre .0 .design .m8, omega (arith, c .before .before .before .before .before .before .before .before .before .before .before .before .before .before .before .before .before .before .before .before .before .before .before .before .before .before .before .before .before .before .before .before .before .pre .1 .pm, c .before .before .before .before .before .before .before .before .mean-loop .kept .1 .0))
+small : {m : ℕ} → m ≤ 8 → m ≤ 64
+small h = omega arith
+
+mul-from : tie.Need-mul-from
+mul-from c = blocks.from-fits (c .before .before .before .before .before .before .before .before .before .before .before .before .before .before .before .before .before .before .before .before .before .before .before .before .before .before .before .before .before .before .before .pre .0 .n4096) (small (c .before .before .before .before .before .before .before .before .before .before .before .before .before .before .before .before .before .before .before .before .before .before .before .before .before .before .before .before .before .before .before .pre .0 .design .m8))
+
+add-to : tie.Need-add-to
+add-to c = blocks.to-fits (c .before .before .before .before .before .before .before .before .before .before .before .before .before .before .before .before .before .before .before .before .before .before .before .before .before .before .before .before .before .before .before .pre .0 .n4096) (small (c .before .before .before .before .before .before .before .before .before .before .before .before .before .before .before .before .before .before .before .before .before .before .before .before .before .before .before .before .before .before .before .pre .0 .design .m8))
+
+mul-save8 : tie.Need-mul-save8
+mul-save8 c = blocks.bytes-fit (c .before .before .before .before .before .before .before .before .before .before .before .before .before .before .before .before .before .before .before .before .before .before .before .before .before .before .before .before .before .before .before .pre .0 .n4096) (small (c .before .before .before .before .before .before .before .before .before .before .before .before .before .before .before .before .before .before .before .before .before .before .before .before .before .before .before .before .before .before .before .pre .0 .design .m8))
+
+sub-save8 : tie.Need-sub-save8
+sub-save8 c = blocks.ordered _ _
+
+part-save8-start : tie.Need-part-save8-start
+part-save8-start c = blocks.ordered _ _
+
+part-save8-end : tie.Need-part-save8-end
+part-save8-end c = omega (arith, c .before .before .before .before .before .before .before .before .before .before .before .before .before .before .before .before .before .before .before .before .before .before .before .before .before .before .before .before .before .before .before .pre .1 .pm, c .before .before .before .before .before .before .mean-loop .kept .1 .0)
+
+save8-requires : tie.Need-save8-requires
+save8-requires c κs = sizes.at-most (block-long _ (c .before .before .before .before .before .before .before .before .before .before .before .before .before .before .before .before .before .before .before .before .before .before .before .before .before .before .before .before .before .before .before .before .before .args .m) _ (omega (arith, c .before .before .before .before .before .before .before .before .before .before .before .before .before .before .before .before .before .before .before .before .before .before .before .before .before .before .before .before .before .before .before .before .before .pre .1 .pm, c .before .before .before .before .before .before .before .before .mean-loop .kept .1 .0))) (c .before .before .before .before .before .before .before .before .before .before .before .before .before .before .before .before .before .before .before .before .before .before .before .before .before .before .before .before .before .before .before .before .before .pre .0 .design .m8)
 
 same-length : tie.Need-same-length
-same-length c = c .before .before .put8 .kept .0 ∙ c .before .before .before .before .before .before .before .before .before .before .before .mean-loop .kept .1 .0
+same-length c = c .before .pred-mean2 .given .1 ∙ c .before .before .before .before .before .before .before .before .before .before .before .mean-loop .kept .1 .0
 
 same-length-2 : tie.Need-same-length-2
 same-length-2 c = c .before .before .before .before .before .before .before .before .before .before .before .mean-loop .kept .1 .1 .0
@@ -35,8 +60,9 @@ returns : tie.Need-returns
 returns c =
     let g = c .before .before .before .before .before .before .before .before .before .before .before .before .before .before .before .before .before .before .before .before .before .before .before .before .before .before .before .before .before .before .before .before .before .before .before .before .pre .0 in
     let a = c .before .before .before .before .before .before .before .before .before .before .before .before .before .before .before .before .before .before .before .before .before .before .before .before .before .before .before .before .before .before .before .before .before .before .before .before .args in
-    going.passed (a .p) (a .m) (a .n) (a .z .now) (a .zs .now) (a .t .now) (a .c .now) (a .d .now) (a .a1 .now) _ _ _ _ (c .before .before .before .before .before .before .before .before .before .before .before .mean-loop .ensures)
-    (laws.loaded-mat (a .m) _ (g .transition) (c .before .before .before .before .before .before .before .before .before .before .before .before .before .before .before .before .before .before .before .before .load64 .ensures)) (laws.loaded (a .m) _ (g .shift) (c .before .before .before .before .before .before .before .before .before .before .before .before .before .before .before .before .before .before .before .load8 .ensures)) (laws.loaded (a .m) _ (g .start) (c .before .before .before .before .before .before .before .before .before .before .before .before .before .before .before .before .before .before .load82 .ensures)) (c .before .before .put8 .ensures)
+    going.passed (a .p) (a .m) (a .n) (a .z .now) (a .zs .now) (a .t .now) (a .c .now) (a .d .now) (a .a1 .now) _ _ _ _ (c .before .before .save8 .last .0) (c .before .before .before .before .before .before .before .before .before .before .before .mean-loop .ensures)
+    (laws.loaded-mat (a .m) _ (g .transition) (c .before .before .before .before .before .before .before .before .before .before .before .before .before .before .before .before .before .before .before .before .load64 .ensures)) (laws.loaded (a .m) _ (g .shift) (c .before .before .before .before .before .before .before .before .before .before .before .before .before .before .before .before .before .before .before .load8 .ensures)) (laws.loaded (a .m) _ (g .start) (c .before .before .before .before .before .before .before .before .before .before .before .before .before .before .before .before .before .before .load82 .ensures))
+    (block-long _ (a .m) _ (omega (arith, c .before .before .before .before .before .before .before .before .before .before .before .before .before .before .before .before .before .before .before .before .before .before .before .before .before .before .before .before .before .before .before .before .before .before .before .before .pre .1 .pm, c .before .before .before .before .before .before .before .before .before .before .before .mean-loop .kept .1 .0))) (c .before .before .save8 .ensures)
 
 pub mean-pass-spec : {M : Type 1} → statement M
-mean-pass-spec = tie.close (tie.spec load64-requires load8-requires load8-requires-2 mean-loop-requires put8-requires same-length same-length-2 same-length-3 returns)
+mean-pass-spec = tie.close (tie.spec load64-requires load8-requires load8-requires-2 mean-loop-requires mul-from add-to mul-save8 sub-save8 part-save8-start part-save8-end save8-requires same-length same-length-2 same-length-3 returns)

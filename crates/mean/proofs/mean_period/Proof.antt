@@ -1,4 +1,5 @@
--- The period is begin, elements and step. Made of Proof.tpl by tools/expand.
+-- Made from Proof.tpl by tools/expand: edit that.
+-- The period is begin, elements and step.
 use Rattle.dense.specs.Views.{vec, mat}
 use Rattle.mean.specs.View.{meanIn}
 use Rattle.laws.specs.Flat.{flatIn}

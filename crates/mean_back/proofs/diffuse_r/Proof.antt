@@ -1,4 +1,5 @@
--- The element over what each call left. Made of Proof.tpl by tools/expand.
+-- Made from Proof.tpl by tools/expand: edit that.
+-- The element over what each call left.
 use borrow.Author.Needs.{needs}
 use Rattle.mean.proofs.Laws.{loaded}
 use Rattle.mean_back.proofs.Laws as laws

@@ -1,4 +1,5 @@
--- The loop over the elements goes down along the fold. Made of Proof.tpl by tools/expand.
+-- Made from Proof.tpl by tools/expand: edit that.
+-- The loop over the elements goes down along the fold.
 use native.Mathlib.Omega.{arith}
 use Rattle.element_back.specs.View.{rsIn}
 use Rattle.laws.specs.Flat.{flatIn}

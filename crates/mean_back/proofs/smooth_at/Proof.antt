@@ -1,4 +1,5 @@
--- The moments are the period's blocks. Made of Proof.tpl by tools/expand.
+-- Made from Proof.tpl by tools/expand: edit that.
+-- The moments are the period's blocks.
 use borrow.Author.Needs.{needs}
 use Rattle.mean_back.proofs.Laws as laws
 use Rattle.mean_back.proofs.smooth_at.Statement.{statement}

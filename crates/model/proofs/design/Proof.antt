@@ -11,7 +11,7 @@ use borrow.Author.Tests.{eq-eqb, ne-eqb}
 use lib.ListN.{length}
 use Rattle.definition.specs.Inputs.{designFrom}
 use Rattle.model.specs.Design.{Some, some-listed, entry-in}
-use Rattle.model.proofs.Laws.{product-most}
+use Rattle.dense.proofs.Laws.{area}
 
 -- past the test there is a list
 listed : (c : tie.Else1) → Some (c .before .before .before .args .p * c .before .before .before .args .m) (length (c .before .before .before .args .zs .now)) (c .before .before .before .args .listed)
@@ -26,7 +26,7 @@ unfolding designFrom
 returns c = rw (eq-eqb _ _ (c .if1 .taken)) refl
 
 mul-k : tie.Need-mul-k
-mul-k c = omega (arith, product-most (c .before .before .before .pre .p8) (c .before .before .before .pre .m8))
+mul-k c = omega (arith, area (c .before .before .before .pre .p8) (c .before .before .before .pre .m8))
 
 entry-of-requires : tie.Need-entry-of-requires
 entry-of-requires c κs = listed (c) .some

@@ -1,11 +1,13 @@
+-- p m fits, and is not 0.
 use Rattle.model.proofs.listed.Statement.{statement}
 use Rattle.model.proofs.listed.Tie as tie
 use borrow.Author.Needs.{needs}
 use native.Mathlib.Omega.{arith}
-use Rattle.model.proofs.Laws.{product-most, product-some}
+use Rattle.dense.proofs.Laws.{area}
+use Rattle.model.proofs.Laws.{product-some}
 
 mul-result : tie.Need-mul-result
-mul-result c = omega (arith, product-most (c .pre .1) (c .pre .3))
+mul-result c = omega (arith, area (c .pre .1) (c .pre .3))
 
 div-result : tie.Need-div-result
 div-result c = product-some (c .pre .0) (c .pre .2)

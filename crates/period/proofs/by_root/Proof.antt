@@ -1,3 +1,4 @@
+-- Made from Proof.tpl by tools/expand: edit that.
 use Rattle.period.proofs.by_root.Statement.{statement}
 use Rattle.period.proofs.by_root.Tie as tie
 use borrow.Author.Needs.{needs}

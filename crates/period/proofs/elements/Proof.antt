@@ -1,3 +1,4 @@
+-- Made from Proof.tpl by tools/expand: edit that.
 use Rattle.period.proofs.elements.Statement.{statement}
 use Rattle.period.proofs.elements.Tie as tie
 use native.Mathlib.Omega.{arith}

@@ -1,3 +1,4 @@
+-- Made from Proof.tpl by tools/expand: edit that.
 use Rattle.period.proofs.rest.Statement.{statement}
 use Rattle.period.proofs.rest.Tie as tie
 use borrow.Author.Needs.{needs}

@@ -1,16 +1,18 @@
+-- Made from Proof.tpl by tools/expand: edit that.
 use Rattle.period.proofs.stretch.Statement.{statement}
 use Rattle.period.proofs.stretch.Tie as tie
 use native.Mathlib.Omega.{arith}
 use mathlib.Core.Path.{sym, _∙_}
 use Prim.Native.Nat.{_-_}
 use Rattle.dense.specs.Views.{mat}
-use Rattle.element.specs.Views.{notes, books, fixedOf}
+use Rattle.laws.specs.Flat.{flatIn}
+use Rattle.element.specs.Views.{carried, fixedOf}
 use Rattle.period.specs.Views.{gapsOf}
 use Rattle.period.proofs.Along as along
 
 abbrev Inv-loop : tie.InvT-loop
 Inv-loop star₀ p-inf₀ root₀ kinds₀ fs₀ fi₀ ms₀ mi₀ from fresh live pre sd unres design hs ys p m i₀ star p-inf root kinds fs fi ms mi i =
-    along.Under p m (mat p hs) (fixedOf p m live design pre unres) (gapsOf ys) fresh from i (books star₀ p-inf₀ root₀ (notes kinds₀ fs₀ fi₀ ms₀ mi₀)) (books star p-inf root (notes kinds fs fi ms mi))
+    along.Under p m (mat p hs) (fixedOf p m live design pre unres) (gapsOf ys) fresh from i (carried star₀ p-inf₀ root₀ (flatIn kinds₀ fs₀ fi₀ ms₀ mi₀)) (carried star p-inf root (flatIn kinds fs fi ms mi))
 
 abbrev μ-loop : tie.MeasureT-loop
 μ-loop star₀ p-inf₀ root₀ kinds₀ fs₀ fi₀ ms₀ mi₀ from fresh live pre sd unres design hs ys p m i₀ star p-inf root kinds fs fi ms mi i =

@@ -1,16 +1,17 @@
+-- Made from Proof.tpl by tools/expand: edit that.
 use Rattle.period.proofs.with_root.Statement.{statement}
 use Rattle.period.proofs.with_root.Tie as tie
 use native.Mathlib.Omega.{arith}
 use Prim.Native.Nat.{_-_}
 use Rattle.dense.specs.Views.{mat}
 use Rattle.star.specs.Views.{Sound}
-use Rattle.element.specs.Views.{notes}
+use Rattle.laws.specs.Flat.{flatIn}
 use Rattle.period.specs.Views.{gapsOf}
 use Rattle.period.proofs.Along as along
 
 abbrev Inv-loop : tie.InvT-loop
 Inv-loop star₀ kinds₀ fs₀ fi₀ ms₀ mi₀ from pre sd design hs ys p m root₀ i₀ star kinds fs fi ms mi root i =
-    Sound m root × along.Rooted p m (mat p hs) design pre (gapsOf ys) from root₀ star₀ (notes kinds₀ fs₀ fi₀ ms₀ mi₀) i root star (notes kinds fs fi ms mi)
+    Sound m root × along.Rooted p m (mat p hs) design pre (gapsOf ys) from root₀ star₀ (flatIn kinds₀ fs₀ fi₀ ms₀ mi₀) i root star (flatIn kinds fs fi ms mi)
 
 abbrev μ-loop : tie.MeasureT-loop
 μ-loop star₀ kinds₀ fs₀ fi₀ ms₀ mi₀ from pre sd design hs ys p m root₀ i₀ star kinds fs fi ms mi root i =

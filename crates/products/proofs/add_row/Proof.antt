@@ -1,4 +1,5 @@
--- The loop adds the terms of row l place by place. Made of Proof.tpl by tools/expand.
+-- Made from Proof.tpl by tools/expand: edit that.
+-- The loop adds the terms of row l place by place.
 use Rattle.products.proofs.add_row.Statement.{statement}
 use Rattle.products.proofs.add_row.Tie as tie
 use borrow.Author.Needs.{needs}

@@ -1,4 +1,5 @@
--- By the size. Made of Proof.tpl by tools/expand.
+-- Made from Proof.tpl by tools/expand: edit that.
+-- By the size.
 use borrow.Author.Needs.{needs}
 use Rattle.products.proofs.mul_into.Statement.{statement}
 use Rattle.products.proofs.mul_into.Tie as tie

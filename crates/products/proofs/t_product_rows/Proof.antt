@@ -1,4 +1,5 @@
--- Each row is put where it stays. Made of Proof.tpl by tools/expand.
+-- Made from Proof.tpl by tools/expand: edit that.
+-- Each row is put where it stays.
 use Rattle.products.proofs.t_product_rows.Statement.{statement}
 use Rattle.products.proofs.t_product_rows.Tie as tie
 use borrow.Author.Needs.{needs}

@@ -38,14 +38,14 @@ use denote.Triple.Spec.{Meets, tripleOf}
 use denote.Triple.Table.{entered}
 use denote.Triple.Walked.{says, Stays, stay-none-slice, stay-none, walkOf, goes-none-slice, goes-none, Walks, ends-at, walked, walk-meets}
 use denote.Exit.{yes}
-use Rattle.record.specs.Records.{skippedRecord}
-use Rattle.record.specs.declared.Kind.the-variants.{Skipped}
-use Rattle.record.specs.declared.Record.{Record}
+use Rattle.promise.specs.Records.{skippedRecord}
+use Rattle.promise.specs.declared.Kind.the-variants.{Skipped}
+use Rattle.promise.specs.declared.Record.{Record}
 use Rattle.record.proofs.Walking.{machine, machines, word, scaled}
-use Rattle.record.proofs.Kind as K
-use Rattle.record.proofs.Kind.Laws as K′
-use Rattle.record.proofs.Record as T
-use Rattle.record.proofs.Record.Laws as T′
+use Rattle.promise.proofs.Kind as K
+use Rattle.promise.proofs.Kind.Laws as K′
+use Rattle.promise.proofs.Record as T
+use Rattle.promise.proofs.Record.Laws as T′
 use Rattle.record.proofs.get.Key.{name as #record·get}
 use Rattle.record.proofs.get as f
 use Rattle.record.proofs.get.Statement as stated

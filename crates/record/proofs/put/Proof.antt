@@ -40,11 +40,11 @@ use denote.Triple.Spec.{Meets, tripleOf}
 use denote.Triple.Table.{entered}
 use denote.Triple.Walked.{says, Stays, stay-slice, stay-none, walkOf, goes-slice, goes-none, Walks, ends-at, walked, walk-meets}
 use denote.Exit.{yes}
-use Rattle.record.specs.Records.{skippedRecord}
-use Rattle.record.specs.declared.Record.{Record}
+use Rattle.promise.specs.Records.{skippedRecord}
+use Rattle.promise.specs.declared.Record.{Record}
 use Rattle.record.proofs.Walking.{machine, machines, word, scaled}
-use Rattle.record.proofs.Record as T
-use Rattle.record.proofs.Record.Laws as T′
+use Rattle.promise.proofs.Record as T
+use Rattle.promise.proofs.Record.Laws as T′
 use Rattle.record.proofs.put.Key.{name as #record·put}
 use Rattle.record.proofs.put as f
 use Rattle.record.proofs.put.Statement as stated

@@ -1,7 +1,7 @@
 -- Each kind by its numbers.
 use mathlib.Core.Path.{sym, ap}
 use borrow.Author.Needs.{needs}
-use Rattle.record.specs.Records.{flatKind}
+use Rattle.promise.specs.Records.{flatKind}
 use Rattle.record.proofs.to_flat.Statement.{statement}
 use Rattle.record.proofs.to_flat.Tie as tie
 

@@ -1,4 +1,5 @@
--- `records::flat` meets its contract. Assumes nothing. Made of Proof.tpl by tools/expand.
+-- Made from Proof.tpl by tools/expand: edit that.
+-- `records::flat` meets its contract. Assumes nothing.
 use mathlib.Core.Path.{sym, _∙_}
 use Rattle.records.proofs.Laws.{few-so, enough-so}
 use Rattle.records.proofs.flat.Statement.{statement}

@@ -1,4 +1,5 @@
--- `records::flat_smooth` meets its contract. Assumes nothing. Made of Proof.tpl by tools/expand.
+-- Made from Proof.tpl by tools/expand: edit that.
+-- `records::flat_smooth` meets its contract. Assumes nothing.
 use mathlib.Core.Path.{sym, _∙_}
 use Rattle.records.proofs.Laws.{few-smooth-so, enough-smooth-so}
 use Rattle.records.proofs.flat_smooth.Statement.{statement}

@@ -1,4 +1,5 @@
--- The first t periods' numbers are told. Made of Proof.tpl by tools/expand.
+-- Made from Proof.tpl by tools/expand: edit that.
+-- The first t periods' numbers are told.
 use Prim.Native.Nat.{_≤_, _-_, _*_}
 use native.Mathlib.Omega.{arith}
 use borrow.Author.Needs.{needs}

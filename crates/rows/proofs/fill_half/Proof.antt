@@ -1,4 +1,5 @@
--- Four places, one after the other. Made of Proof.tpl by tools/expand.
+-- Made from Proof.tpl by tools/expand: edit that.
+-- Four places, one after the other.
 use borrow.Author.Needs.{needs}
 use Rattle.rows.proofs.Filling.{half}
 use Rattle.rows.proofs.fill_half.Statement.{statement}

@@ -1,3 +1,4 @@
+-- Made from Proof.tpl by tools/expand: edit that.
 -- `table::row` meets its contract. Assumes nothing.
 use native.Mathlib.Omega.{arith}
 use borrow.Author.Needs.{needs}

@@ -1,3 +1,4 @@
+-- The loops: the rows passed, and the entries passed of the row, are the definition's.
 use Rattle.model.proofs.diffuse.diffuse_cov.Statement.{statement}
 use Rattle.model.proofs.diffuse.diffuse_cov.Tie as tie
 use native.Mathlib.Omega.{arith}

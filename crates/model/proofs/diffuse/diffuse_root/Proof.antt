@@ -1,3 +1,4 @@
+-- The loops: the rows passed, and the entries passed of the row, are the definition's; `column` is how many flags stand before the row.
 use Rattle.model.proofs.diffuse.diffuse_root.Statement.{statement}
 use Rattle.model.proofs.diffuse.diffuse_root.Tie as tie
 use native.Mathlib.Omega.{arith}

@@ -1,3 +1,4 @@
+-- By the test.
 use Rattle.model.proofs.diffuse.one_more_if.Statement.{statement}
 use Rattle.model.proofs.diffuse.one_more_if.Tie as tie
 use borrow.Author.Needs.{needs}

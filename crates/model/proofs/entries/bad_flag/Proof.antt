@@ -1,3 +1,4 @@
+-- The loop: `found` is whether the test holds of an entry passed.
 use Rattle.model.proofs.entries.bad_flag.Statement.{statement}
 use Rattle.model.proofs.entries.bad_flag.Tie as tie
 use native.Mathlib.Omega.{arith}

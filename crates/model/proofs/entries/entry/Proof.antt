@@ -1,3 +1,4 @@
+-- The place lies within the matrix.
 use Rattle.model.proofs.entries.entry.Statement.{statement}
 use Rattle.model.proofs.entries.entry.Tie as tie
 use native.Mathlib.Omega.{arith}

@@ -1,3 +1,4 @@
+-- The loop: `found` is whether the test holds of an entry passed.
 use Rattle.model.proofs.entries.not_finite.Statement.{statement}
 use Rattle.model.proofs.entries.not_finite.Tie as tie
 use native.Mathlib.Omega.{arith}

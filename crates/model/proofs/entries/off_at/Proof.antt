@@ -1,3 +1,4 @@
+-- The entries that are read lie within their matrix; the test is the definition's.
 use Rattle.model.proofs.entries.off_at.Statement.{statement}
 use Rattle.model.proofs.entries.off_at.Tie as tie
 use borrow.Author.Needs.{needs}

@@ -1,3 +1,4 @@
+-- By what the parts ensure.
 use Rattle.model.proofs.entries.start_shape.Statement.{statement}
 use Rattle.model.proofs.entries.start_shape.Tie as tie
 use borrow.Author.Needs.{needs}

@@ -1,3 +1,4 @@
+-- The products that the code works out fit; the tests are the definition's.
 use Rattle.model.proofs.lengths.design_fits.Statement.{statement}
 use Rattle.model.proofs.lengths.design_fits.Tie as tie
 use borrow.Author.Needs.{needs}

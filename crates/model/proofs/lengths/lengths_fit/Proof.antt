@@ -1,3 +1,4 @@
+-- The products that the code works out fit; the tests are the definition's.
 use Rattle.model.proofs.lengths.lengths_fit.Statement.{statement}
 use Rattle.model.proofs.lengths.lengths_fit.Tie as tie
 use native.Mathlib.Omega.{arith}
@@ -25,9 +26,12 @@ mul-result-4 c = omega (arith, small (c .before .pre))
 mul-result-5 : tie.Need-mul-result-5
 mul-result-5 c = omega (arith, small (c .before .pre))
 
+mul-result-6 : tie.Need-mul-result-6
+mul-result-6 c = omega (arith, small (c .before .pre))
+
 returns : tie.Need-returns
 unfolding lengthsFit
 returns c = cc
 
 pub lengths-fit-spec : {M : Type 1} → statement M
-lengths-fit-spec = tie.close (tie.spec mul-design-fits design-fits-requires mul-result mul-result-2 mul-result-3 mul-result-4 mul-result-5 returns)
+lengths-fit-spec = tie.close (tie.spec mul-design-fits design-fits-requires mul-result mul-result-2 mul-result-3 mul-result-4 mul-result-5 mul-result-6 returns)

@@ -1,3 +1,4 @@
+-- By what the parts ensure.
 use Rattle.model.proofs.lengths.outside.Statement.{statement}
 use Rattle.model.proofs.lengths.outside.Tie as tie
 use borrow.Author.Needs.{needs}

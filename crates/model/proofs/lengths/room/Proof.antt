@@ -1,3 +1,4 @@
+-- Out of range nothing is promised; else the products fit.
 use Rattle.model.proofs.lengths.room.Statement.{statement}
 use Rattle.model.proofs.lengths.room.Tie as tie
 use borrow.Author.Needs.{needs}

@@ -1,3 +1,4 @@
+-- The products that the code works out fit; the tests are the definition's.
 use Rattle.model.proofs.lengths.rooms.Statement.{statement}
 use Rattle.model.proofs.lengths.rooms.Tie as tie
 use native.Mathlib.Omega.{arith}

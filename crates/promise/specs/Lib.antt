@@ -1,0 +1,5 @@
+pub mod Lent
+pub mod Calls
+pub mod Exported
+pub mod Records
+pub mod WithRecords

@@ -1,0 +1,5 @@
+pub mod Again
+pub mod Lent
+pub mod Locals
+pub mod Pieces
+pub mod Shared
