@@ -93,7 +93,7 @@ pub fn refusal(
 
 // ---- the period's design
 
-// How many designs the list has: the only division, once a call.
+// How many designs the list has: the only division, and no period makes it.
 pub fn listed(zs: &[f64], p: usize, m: usize) -> usize
     requires { ⌜ (0 < p) × (p ≤ 8) × (0 < m) × (m ≤ 8) ⌝ }
     ensures { λ r. ⌜ r ≡ length (now (zs .entry)) / (p * m) ⌝ }
