@@ -18,7 +18,7 @@ use Rattle.laws.specs.Passes.{wrote-none, wrote-next, wrote-all, state-next, st
 use Rattle.laws.specs.Passes as passes
 use Rattle.laws.specs.Backward.{block-long}
 use Rattle.laws.specs.Blocks.{part-in}
-use Rattle.dense.specs.Views.{vec, mat, rect}
+use Rattle.dense.specs.Views.{mat, rect}
 use Rattle.dense.specs.Places.{Saved, saved}
 use Rattle.period.specs.Views.{stateOf, gapsOf}
 use Rattle.cov.specs.View.{Blocks, Held, Room, LoopedTo, Passed}
@@ -196,10 +196,6 @@ module _ (p m n : ℕ) {r : List CovPeriod × Cov} {d : ℕ} {p* p∞ : List Flo
       }
 
 -- the pass: the inputs as they were lent
-pub loaded : (k : ℕ) (a l : List Float) → length l ≡ k * k → vec (length l) a ≡ l → mat k a ≡ l
-unfolding vec rect
-loaded k a l e h = rw e at h
-
 module _ (p m n : ℕ) (z zs : List Float) (gs : List (List Bool)) (h h′ t t′ r r′ : List Float) (c c′ : Cov) where
   same-run : h′ ≡ h → t′ ≡ t → r′ ≡ r → c′ ≡ c → covRun (systemFrom p m z zs h′ t′ r′) 0 c′ gs ≡ covRun (systemFrom p m z zs h t r) 0 c gs
   same-run a b e f = cc

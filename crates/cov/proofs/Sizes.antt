@@ -5,25 +5,11 @@ use native.Mathlib.Omega.{arith}
 use mathlib.Core.List.{List}
 use lib.ListN.{length, take, drop}
 use lib.Ieee.{Float}
-use mir.Val.{Fits}
-use mir.Syntax.{w64}
 use Rattle.definition.specs.Inputs.{designFrom}
 use Rattle.laws.specs.Backward.{block-long}
 use Rattle.laws.specs.Blocks.{part-in}
 use Rattle.model.specs.Design.{length-design}
 use Rattle.cov.specs.View.{Period, Blocks, Periods, Room, Ready, Rooms}
-
-pub at-most : {a b k : ℕ} → a ≡ b → b ≤ k → a ≤ k
-at-most e h = omega arith
-
-pub as-long : {a l l′ : ℕ} → a ≤ l → l′ ≡ l → a ≤ l′
-as-long h e = omega arith
-
-pub eight : {k : ℕ} → k ≤ 8 → k ≤ 64
-eight h = omega arith
-
-pub fits : {k : ℕ} → k ≤ 64 → Fits w64 k
-fits h = omega arith
 
 -- the diffuse periods before period i are at most i
 pub fewer : {d i n : ℕ} → d ≤ i → i < n → n ≤ 4096 → d ≤ 4096

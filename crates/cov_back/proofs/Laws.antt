@@ -1,7 +1,6 @@
 -- Laws of one period back: what is read off the lent parts, the elements from the last, the smoothed covariance, the step.
 use mathlib.Core.Path.{_≡_, sym, ap, ap₂, _∙_}
 use Prim.Native.Nat.{ℕ, suc, _+_, _-_, _*_, _≤_, _<_}
-use native.Mathlib.Nat.{zero-add}
 use native.Mathlib.Omega.{arith}
 use mathlib.Core.Bool.{Bool, cond}
 use mathlib.Core.List.{List}
@@ -13,21 +12,17 @@ use Rattle.definition.specs.Dense.{mul, transposed, minus, quad, symmetrise, ro
 use Rattle.definition.specs.Run.{foldBack}
 use Rattle.definition.specs.Cov.{skipped}
 use Rattle.definition.specs.Smooth.{Ns, backN, backElement, elementsN, between, diffuseV, backV, stepNs, backCovOf}
-use Rattle.laws.specs.Lists.{tab-at, length-tab}
-use Rattle.laws.specs.Flat.{Flat, decisionOf, readBack, decisionsAt, blockAt, lookAt}
-use Rattle.laws.specs.Backward.{fold-none, fold-step, part-block, part-row, block-long}
+use Rattle.laws.specs.Flat.{Flat, decisionOf, readBack, decisionsAt, decisions-long, decision-at, blockAt, lookAt}
+use Rattle.laws.specs.Backward.{fold-none, fold-step, part-block, block-long}
 use Rattle.dense.specs.Views.{vec, mat}
 use Rattle.dense.specs.Places.{Saved}
-use Rattle.dense.proofs.Laws.{saved-rect}
+use Rattle.dense.proofs.Laws.{loaded-vec, saved-rect}
 
 -- ---- parts of slices, loaded and saved
 
 -- the m entries from place k * m on
 pub loaded-block : (k m : ℕ) (l r : List Float) → k * m + m ≤ length l → vec (length (take (k * m + m - k * m) (drop (k * m) l))) r ≡ take (k * m + m - k * m) (drop (k * m) l) → vec m r ≡ blockAt m l k
-loaded-block k m l r h e = ap (λ (i : ℕ). vec i r) (sym (block-long k m l h)) ∙ e ∙ part-block k m l h
-
-pub loaded-row : (i m : ℕ) (l r : List Float) → i * m + m ≤ length l → vec (length (take (i * m + m - i * m) (drop (i * m) l))) r ≡ take (i * m + m - i * m) (drop (i * m) l) → vec m r ≡ row m l i
-loaded-row i m l r h e = ap (λ (i : ℕ). vec i r) (sym (block-long i m l h)) ∙ e ∙ part-row i m l h
+loaded-block k m l r h e = loaded-vec m r (block-long k m l h) e ∙ part-block k m l h
 
 -- ---- one element, by the record at place k
 
@@ -39,14 +34,6 @@ element-back m i k live design r n z ms mi ez es ei h = rw (ez, es, ei) at h
 -- ---- the elements of a period, last to first
 
 module _ (p m t : ℕ) (r : Flat) where
-  decisions-long : length (decisionsAt p m r t) ≡ p
-  unfolding decisionsAt
-  decisions-long = length-tab p 0 (λ i. readBack m r (t * p + i))
-
-  decision-at : (i : ℕ) → i < p → getD (decisionsAt p m r t) i skipped ≡ readBack m r (t * p + i)
-  unfolding decisionsAt
-  decision-at i h = tab-at p 0 i (λ i. readBack m r (t * p + i)) skipped h ∙ ap (λ (j : ℕ). readBack m r (t * p + j)) (zero-add i)
-
   -- the loop over them: what holds with the elements from i on done
   module _ (live : Bool) (design : List Float) (s₀ : Ns) where
     pub record Along (i : ℕ) (s : Ns) : Type 0 where
@@ -54,7 +41,7 @@ module _ (p m t : ℕ) (r : Flat) where
       pub ran : s ≡ foldBack (backElement m live design) i s₀ (drop i (decisionsAt p m r t))
 
     pub along-none : Along p s₀
-    along-none = record { low = omega arith; ran = fold-none (backElement m live design) (decisionsAt p m r t) s₀ p decisions-long }
+    along-none = record { low = omega arith; ran = fold-none (backElement m live design) (decisionsAt p m r t) s₀ p (decisions-long p m t r) }
 
     pub along-next : {i j : ℕ} {s s′ : Ns} → Along i s → j + 1 ≡ i → s′ ≡ backElement m live design j s (readBack m r (t * p + j)) → Along j s′
     along-next {i} {j} {s} {s′} g e h =
@@ -63,7 +50,7 @@ module _ (p m t : ℕ) (r : Flat) where
         let so : s ≡ foldBack (backElement m live design) (suc j) s₀ (drop (suc j) (decisionsAt p m r t)) = rw e′ at (g .ran) in
         record {
           low = omega arith;
-          ran = h ∙ ap₂ (backElement m live design j) so (sym (decision-at j b)) ∙ sym (fold-step (backElement m live design) (decisionsAt p m r t) s₀ j skipped (rw decisions-long b));
+          ran = h ∙ ap₂ (backElement m live design j) so (sym (decision-at p m t r j b)) ∙ sym (fold-step (backElement m live design) (decisionsAt p m r t) s₀ j skipped (rw (decisions-long p m t r) b));
         }
 
     pub along-all : {i : ℕ} {s : Ns} → Along i s → i ≤ 0 → s ≡ elementsN m live design s₀ (decisionsAt p m r t)

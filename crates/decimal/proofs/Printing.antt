@@ -1,6 +1,6 @@
 -- Laws of the printer: a byte written before what stands, a part before a part, and the text's length. Assumes nothing.
 use mathlib.Core.Path.{_≡_, refl, sym, ap, _∙_, subst}
-use mathlib.Core.Bool.{Bool, true, false, _&&_, cond, true≢false}
+use mathlib.Core.Bool.{Bool, true, false, _&&_, and-false, cond, true≢false}
 use mathlib.Core.List.{List, [], _∷_, _++_, append-assoc}
 use Prim.Native.Nat.{ℕ, zero, suc, _+_, _-_, _/_, _%_, _^_, _≤_, _<_}
 use native.Mathlib.Nat.{le-refl, zero-add, add-zero, pow-suc}
@@ -219,17 +219,13 @@ field-by old o₁ o₂ o₃ o₄ at pad r k w d f minus e p₁ p₂ p₃ p₄ =
     sum at pad r k s p e = omega arith
 
 -- ---- what the whole call leaves
-false-right : (b : Bool) → (b && false) ≡ false
-false-right true = refl
-false-right false = refl
-
 pub past-end : (len at width d : ℕ) (minus : Bool) (n : ℕ) → len < at + width → fitsIn len at width d minus n ≡ false
 unfolding fitsIn
 past-end len at width d minus n h = ap (λ (b : Bool). b && leb (length (textOf d minus n)) width) (lt-leb (at + width) len h)
 
 pub too-wide : (len at width d : ℕ) (minus : Bool) (n : ℕ) → width < length (textOf d minus n) → fitsIn len at width d minus n ≡ false
 unfolding fitsIn
-too-wide len at width d minus n h = ap (λ (b : Bool). leb (at + width) len && b) (lt-leb (length (textOf d minus n)) width h) ∙ false-right (leb (at + width) len)
+too-wide len at width d minus n h = ap (λ (b : Bool). leb (at + width) len && b) (lt-leb (length (textOf d minus n)) width h) ∙ and-false (leb (at + width) len)
 
 pub not-put : (old : List ℕ) (at width d : ℕ) (minus : Bool) (n : ℕ) → fitsIn (length old) at width d minus n ≡ false → (false ≡ fitsIn (length old) at width d minus n) × (old ≡ putIn at width d minus n old)
 unfolding putIn

@@ -8,15 +8,16 @@ use lib.Dec.{ltb, eqb}
 use borrow.Author.Tests.{ltb-true, ltb-false, eqb-true, eqb-false}
 use native.Mathlib.Omega.{arith}
 use native.Mathlib.Numerals.{add-one}
-use native.Mathlib.Nat.{mul-le-mul, mul-le-mul-right, suc-mul, mul-zero, div-add-mod', mod-lt, div-lt-iff-lt-mul, not-suc-le-zero, le-of-suc-le-suc}
-use lib.ListN.{length, getD, set, take, replicate, length-set, length-append, List·getD-append}
+use native.Mathlib.Nat.{mul-le-mul, suc-mul, mul-zero, div-add-mod', mod-lt, div-lt-iff-lt-mul, not-suc-le-zero, le-of-suc-le-suc}
+use lib.ListN.{length, getD, set, take, drop, replicate, length-set, length-append, List·getD-append}
 use lib.Seq.{getD-set-same, getD-set-other, ext-getD, getD-take, length-take-le, take-all, getD-append-add}
 use lib.Ieee.{Float, nan}
-use mir.Val.{Fits}
-use mir.Syntax.{w64}
-use Rattle.definition.specs.Num.{tabFrom, tabulate, matrix, at, ent, zeros, sumTo, sumBut, sumFrom, _⊕_, 0ᶠ}
+use Rattle.definition.specs.Num.{tabFrom, tabulate, matrix, at, ent, zeros, sumBut, sumFrom, _⊕_, 0ᶠ}
+use Rattle.definition.specs.Dense as Dense
 use Rattle.definition.specs.Dense.{transpose, transposeAt}
 use Rattle.laws.specs.Lists.{vector-at, matrix-at, length-tab, tab-cong}
+use Rattle.laws.specs.Passes.{block-in}
+use Rattle.laws.specs.Backward.{block-long, part-row}
 use Rattle.dense.specs.Views.{vec, rect}
 use Rattle.dense.specs.Places.{Saved}
 
@@ -37,24 +38,13 @@ lt-or-le a b = by-test (ltb a b) refl
     by-test true e = inl (ltb-true a b e)
     by-test false e = inr (ltb-false a b e)
 
--- block i of c places ends within n blocks
-pub room : (i n c : ℕ) → i < n → i * c + c ≤ n * c
-room i n c h = omega (arith, suc-mul i c, mul-le-mul-right {m = suc i} {n = n} c h)
-
 -- a place of a matrix with at most 8 rows and 8 columns is below 64
 pub cell : {r c i j : ℕ} → r ≤ 8 → c ≤ 8 → i < r → j < c → i * c + j < 64
-cell {r} {c} {i} {j} hr hc hi hj = omega (arith, room i r c hi, mul-le-mul {n₁ = r} {m₁ = c} {n₂ = 8} {m₂ = 8} hr hc)
+cell {r} {c} {i} {j} hr hc hi hj = omega (arith, block-in i r c hi, mul-le-mul {n₁ = r} {m₁ = c} {n₂ = 8} {m₂ = 8} hr hc)
 
 -- such a matrix has at most 64 places
 pub area : {r c : ℕ} → r ≤ 8 → c ≤ 8 → r * c ≤ 64
 area h g = mul-le-mul h g
-
--- numbers below 2^18 fit, and so does one times the size of a double
-pub fits : {x : ℕ} → x ≤ 262144 → Fits w64 x
-fits h = omega arith
-
-pub fits8 : {x : ℕ} → x ≤ 262144 → Fits w64 (x * 8)
-fits8 h = omega arith
 
 module _ {A : Type 0} where
   pub row-none : (g : ℕ → A) (a : ℕ) (l out : List A) → out ≡ l → out ≡ row g a 0 l
@@ -136,7 +126,7 @@ module _ {A : Type 0} where
   grid-at f c (suc n) l i j d hi hj b =
       ⊎-elim
       (λ (e : i < n).
-      row-before (f n) (n * c) c (grid f c n l) (i * c + j) d (omega (arith, room i n c e))
+      row-before (f n) (n * c) c (grid f c n l) (i * c + j) d (omega (arith, block-in i n c e))
       ∙ grid-at f c n l i j d e hj (omega (arith, suc-mul n c)))
       (λ (e : n ≤ i).
       let q : i ≡ n = omega arith in
@@ -153,7 +143,7 @@ vec-at k i a h = getD-take k a i nan h
 
 pub rect-at : (r c i j : ℕ) (a : List Float) → i < r → j < c → ent c (rect r c a) i j ≡ ent c a i j
 unfolding rect
-rect-at r c i j a hi hj = getD-take (r * c) a (i * c + j) nan (omega (arith, room i r c hi))
+rect-at r c i j a hi hj = getD-take (r * c) a (i * c + j) nan (omega (arith, block-in i r c hi))
 
 pub transpose-at : (r c i j : ℕ) (a : List Float) → i < c → j < r → ent r (transpose r c a) i j ≡ ent c a j i
 unfolding transpose transposeAt
@@ -259,7 +249,7 @@ module _ (g : ℕ → Float) (c j : ℕ) (l : List Float) where
   unfolding column
   column-after zero i hj h = refl
   column-after (suc n) i hj h =
-      getD-set-other (column g c j n l) (n * c + j) (i * c + j) (g n) nan (λ e. omega (arith, room n i c h)) ∙ column-after n i hj (omega arith)
+      getD-set-other (column g c j n l) (n * c + j) (i * c + j) (g n) nan (λ e. omega (arith, block-in n i c h)) ∙ column-after n i hj (omega arith)
 
   pub column-beside : (n i k : ℕ) → j < c → k < c → (k ≡ j → ⊥) → getD (column g c j n l) (i * c + k) nan ≡ getD l (i * c + k) nan
   unfolding column
@@ -268,8 +258,8 @@ module _ (g : ℕ → Float) (c j : ℕ) (l : List Float) where
     where
       apart : i * c + k ≡ n * c + j → ⊥
       apart e =
-          ⊎-elim (λ (a : n < i). omega (arith, room n i c a))
-          (λ (a : i ≤ n). ⊎-elim (λ (b : i < n). omega (arith, room i n c b)) (λ (b : n ≤ i). let q : n ≡ i = omega arith in d (omega (arith, ap (λ (x : ℕ). x * c) q))) (lt-or-le i n))
+          ⊎-elim (λ (a : n < i). omega (arith, block-in n i c a))
+          (λ (a : i ≤ n). ⊎-elim (λ (b : i < n). omega (arith, block-in i n c b)) (λ (b : n ≤ i). let q : n ≡ i = omega arith in d (omega (arith, ap (λ (x : ℕ). x * c) q))) (lt-or-le i n))
           (lt-or-le n i)
 
   pub column-at : (n i r : ℕ) → j < c → i < n → n ≤ r → r * c ≤ length l → getD (column g c j n l) (i * c + j) nan ≡ g i
@@ -278,12 +268,12 @@ module _ (g : ℕ → Float) (c j : ℕ) (l : List Float) where
   column-at (suc n) i r hj h s b =
       ⊎-elim
       (λ (a : i < n).
-      getD-set-other (column g c j n l) (n * c + j) (i * c + j) (g n) nan (λ e. omega (arith, room i n c a))
+      getD-set-other (column g c j n l) (n * c + j) (i * c + j) (g n) nan (λ e. omega (arith, block-in i n c a))
       ∙ column-at n i r hj a (omega arith) b)
       (λ (a : n ≤ i).
       let q : i ≡ n = omega arith in
       ap (λ (x : ℕ). getD (set (column g c j n l) (n * c + j) (g n)) (x * c + j) nan) q
-      ∙ getD-set-same (column g c j n l) (n * c + j) (g n) nan (omega (arith, length-column n, room n r c s))
+      ∙ getD-set-same (column g c j n l) (n * c + j) (g n) nan (omega (arith, length-column n, block-in n r c s))
       ∙ sym (ap g q))
       (lt-or-le i n)
 
@@ -377,6 +367,13 @@ pub loaded-rect : (r c n : ℕ) (a : List Float) {s : List Float} → n ≡ r * 
 unfolding vec rect
 loaded-rect r c n a h e = ap (λ (k : ℕ). take k a) (sym h) ∙ e
 
+pub loaded-vec : (k : ℕ) {n : ℕ} (a : List Float) {s : List Float} → n ≡ k → vec n a ≡ s → vec k a ≡ s
+loaded-vec k a h e = ap (λ (i : ℕ). vec i a) (sym h) ∙ e
+
+-- and row i of a design
+pub loaded-row : (i m : ℕ) (l r : List Float) → i * m + m ≤ length l → vec (length (take (i * m + m - i * m) (drop (i * m) l))) r ≡ take (i * m + m - i * m) (drop (i * m) l) → vec m r ≡ Dense.row m l i
+loaded-row i m l r h e = loaded-vec m r (block-long i m l h) e ∙ part-row i m l h
+
 pub saved-vec : (k : ℕ) {n : ℕ} {a out : List Float} → n ≡ k → Saved n a out → out ≡ vec k a
 unfolding vec
 saved-vec k {n} {a} h s = s .holds ∙ ap (λ (x : ℕ). take x a) h
@@ -421,18 +418,7 @@ pub rect-zeros : (r c n : ℕ) → r * c ≤ n → rect r c (replicate n 0ᶠ) �
 unfolding rect vec
 rect-zeros r c n h = vec-zeros (r * c) n h
 
--- ---- sums
-
-pub sum-none : (f : ℕ → Float) → 0ᶠ ≡ sumTo 0 f
-unfolding sumTo
-sum-none f = refl
-
-pub sum-next : (f : ℕ → Float) (k : ℕ) (s x : Float) → s ≡ sumTo k f → x ≡ f k → s ⊕ x ≡ sumTo (k + 1) f
-unfolding sumTo
-sum-next f k s x h e = rw add-one (cc)
-
-pub sum-end : (f : ℕ → Float) {k n : ℕ} {s : Float} → s ≡ sumTo k f → k ≤ n → n ≤ k → s ≡ sumTo n f
-sum-end f {k} {n} {s} h a b = let e : k ≡ n = omega arith in cc
+-- ---- sums that leave terms out, and sums from a first value
 
 pub but-none : (o : ℕ → Bool) (f : ℕ → Float) → 0ᶠ ≡ sumBut 0 o f
 unfolding sumBut

@@ -12,7 +12,8 @@ use Rattle.definition.specs.Num.{_⊕_, _⊗_, half, ent}
 use Rattle.definition.specs.Dense.{symAt, symmetrise}
 use Rattle.dense.specs.Views.{mat}
 use Rattle.dense.specs.Pairs.{meanOf, Paired}
-use Rattle.dense.proofs.Laws.{room, lt-or-le, rect-at, rect-by}
+use Rattle.laws.specs.Passes.{block-in}
+use Rattle.dense.proofs.Laws.{lt-or-le, rect-at, rect-by}
 
 pub pair-start : (m : ℕ) (p : List Float) → Paired m 0 0 p p
 pair-start m p =
@@ -36,8 +37,8 @@ pair-column m j i p out e q =
 -- two places are the same only where row and column are
 same-place : (m a b i j : ℕ) → b < m → j < m → a * m + b ≡ i * m + j → (a ≡ i) × (b ≡ j)
 same-place m a b i j hb hj e =
-    ⊎-elim (λ (u : a < i). absurd (omega (arith, room a i m u)))
-    (λ (u : i ≤ a). ⊎-elim (λ (v : i < a). absurd (omega (arith, room i a m v))) (λ (v : a ≤ i). let q : a ≡ i = omega arith in (q, omega (arith, ap (λ (x : ℕ). x * m) q))) (lt-or-le i a))
+    ⊎-elim (λ (u : a < i). absurd (omega (arith, block-in a i m u)))
+    (λ (u : i ≤ a). ⊎-elim (λ (v : i < a). absurd (omega (arith, block-in i a m v))) (λ (v : a ≤ i). let q : a ≡ i = omega arith in (q, omega (arith, ap (λ (x : ℕ). x * m) q))) (lt-or-le i a))
     (lt-or-le a i)
 
 module _ (m j i : ℕ) (p out new : List Float) (v : Float) (hi : i < j) (hj : j < m) (room-for : m * m ≤ length p) (q : Paired m j i p out) (e : new ≡ set (set out (i * m + j) v) (j * m + i) v) (w : v ≡ meanOf m (mat m out) i j) where
@@ -52,12 +53,12 @@ module _ (m j i : ℕ) (p out new : List Float) (v : Float) (hi : i < j) (hj : j
   upper =
       ap (λ (l : List Float). ent m l i j) e
       ∙ getD-set-other (set out (i * m + j) v) (j * m + i) (i * m + j) v nan (λ s. omega (arith, same-place m i j j i hj (omega arith) s))
-      ∙ getD-set-same out (i * m + j) v nan (omega (arith, q .kept, room i m m (omega arith)))
+      ∙ getD-set-same out (i * m + j) v nan (omega (arith, q .kept, block-in i m m (omega arith)))
 
   lower : ent m new j i ≡ v
   lower =
       ap (λ (l : List Float). ent m l j i) e
-      ∙ getD-set-same (set out (i * m + j) v) (j * m + i) v nan (omega (arith, q .kept, length-set out (i * m + j) v, room j m m hj))
+      ∙ getD-set-same (set out (i * m + j) v) (j * m + i) v nan (omega (arith, q .kept, length-set out (i * m + j) v, block-in j m m hj))
 
   value : v ≡ meanOf m p i j
   unfolding meanOf

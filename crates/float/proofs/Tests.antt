@@ -1,19 +1,19 @@
 -- What the code's tests say of a float, by its cases: comparisons with zero, with an infinity and with itself. Assumes nothing.
 use mathlib.Core.Path.{_≡_, refl, sym, _∙_, subst}
 use mathlib.Core.Bool.{Bool, true, false, true≢false, false≢true, not, _&&_, _||_, Bool·beq}
-use Prim.Native.Nat.{ℕ, zero, suc, _*_, _<_, _^_}
-use native.Mathlib.Nat.{mul-pos, zero-lt-suc, zero-mul, mul-one, one-mul, pow-succ'}
+use Prim.Native.Nat.{ℕ, zero, suc, _*_, _<_}
+use native.Mathlib.Nat.{zero-lt-suc, zero-mul, mul-one}
 use native.Mathlib.Omega.{arith}
-use lib.IntN.{ℤ, pos, negsuc}
+use lib.IntN.{ℤ}
 use lib.Dec.{T, ltb, eqb, eqb→eq, ltb→lt, lt→ltb, eqb-refl}
-use lib.Pow.{pow-pos}
 use lib.Ieee.{Float, nan, inf, fin, sub, lt, eq, ne, neg, fits, binary64, up, down, isNan, ofBits}
-use lib.Ieee.Fits.{up-pos, neg-fits, and-i, and-l, eq→eqb}
+use lib.Ieee.Fits.{neg-fits, and-i, and-l, eq→eqb}
 use lib.Ieee.Bits.{is-false}
 use lib.Ieee.Positive.{positive}
 use Rattle.definition.specs.Num.{0ᶠ, absOf, isInfinite, isFinite}
 use Rattle.laws.specs.Swap.{add-swap}
-use Rattle.laws.specs.Same.{plus-zero, minus-zero, add-plus-zero, zeros-add}
+use Rattle.laws.specs.Same.{zero-exp, plus-zero, minus-zero, some-above, add-plus-zero, zeros-add}
+use Rattle.laws.specs.Says.{or-right}
 
 abbrev pub top : Float
 top = ofBits binary64 0x7FF0000000000000
@@ -59,12 +59,6 @@ outside-cases P f g h (fin false (suc m) e) z = absurd z
 
 -- m * 2 ^ e against 0, as `lt` and `eq` work it out
 
-some-above : (m : ℕ) (e : ℤ) → 0 * down e < suc m * up e * 1
-some-above m e = more (suc m * up e) (down e) (mul-pos (zero-lt-suc m) (up-pos e))
-  where
-    more : (a d : ℕ) → 0 < a → 0 * d < a * 1
-    more a d h = omega (arith, zero-mul d, mul-one a)
-
 none-above : (d u : ℕ) → 0 * d < 0 * u * 1 → ⊥
 none-above d u h = omega (arith, zero-mul d, zero-mul u)
 
@@ -75,14 +69,10 @@ not-level m e b t = apart (0 * down e) (suc m * up e * 1) (some-above m e) (eqb�
     apart a b h e = omega arith
 
 level-zero : (s : Bool) (e : ℤ) → T (eqb (0 * up e * 1) (0 * down e) && (Bool·beq s false || eqb (0 * up e * 1) 0))
-level-zero s e = and-i (eqb (0 * up e * 1) (0 * down e)) (Bool·beq s false || eqb (0 * up e * 1) 0) (eq→eqb (left ∙ sym (zero-mul (down e)))) (or-r (Bool·beq s false) (eqb (0 * up e * 1) 0) (eq→eqb left))
+level-zero s e = and-i (eqb (0 * up e * 1) (0 * down e)) (Bool·beq s false || eqb (0 * up e * 1) 0) (eq→eqb (left ∙ sym (zero-mul (down e)))) (or-right (Bool·beq s false) (eqb (0 * up e * 1) 0) (eq→eqb left))
   where
     left : 0 * up e * 1 ≡ 0
     left = mul-one (0 * up e) ∙ zero-mul (up e)
-
-    or-r : (a b : Bool) → T b → T (a || b)
-    or-r true b t = tt
-    or-r false b t = t
 
 pub zero-of : (x : Float) → eq x 0ᶠ ≡ true → Zero x
 unfolding eq ofBits
@@ -177,16 +167,7 @@ abs-above (inf false) h = refl
 abs-above (fin true m e) h = absurd (false≢true h)
 abs-above (fin false m e) h = refl
 
--- a zero that fits is written in the one way: 2 ^ e is 1 / 1 only for e = 0
-two-up : (p q : ℕ) → 0 < p → q ≡ 2 * p → q ≡ 1 → ⊥
-two-up p q h e g = omega arith
-
-zero-exp : (e : ℤ) → up e * down e ≡ 1 → e ≡ pos 0
-zero-exp (pos zero) h = refl
-zero-exp (pos (suc k)) h = absurd (two-up (2 ^ k) (2 ^ suc k) (pow-pos k) (pow-succ' 2 k) (sym (mul-one (2 ^ suc k)) ∙ h))
-zero-exp (negsuc k) h = absurd (two-up (2 ^ k) (2 ^ suc k) (pow-pos k) (pow-succ' 2 k) (sym (one-mul (2 ^ suc k)) ∙ h))
-
--- 0 - x is the magnitude of every x that is not above zero, and +0 at either zero
+-- 0 - x is the magnitude of every x that is not above zero, and +0 at either zero: a zero that fits is written in the one way
 pub abs-rest : (x : Float) → T (fits binary64 x) → lt 0ᶠ x ≡ false → sub binary64 0ᶠ x ≡ absOf x
 unfolding lt absOf ofBits sub neg fits
 abs-rest nan f h = add-swap binary64 plus-zero nan

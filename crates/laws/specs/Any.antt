@@ -64,12 +64,6 @@ module _ {A : Type 0} where
   of-cong q q′ [] h = refl
   of-cong q q′ (x ∷ l) h = ap₂ _||_ (h x) (of-cong q q′ l h)
 
-  pub of-false : (q : A → Bool) (l : List A) (i : ℕ) (d : A) → anyOf q l ≡ false → i < length l → q (getD l i d) ≡ false
-  unfolding anyOf
-  of-false q [] i d e h = absurd (not-suc-le-zero h)
-  of-false q (x ∷ l) zero d e h = either-false (q x) (anyOf q l) e .0
-  of-false q (x ∷ l) (suc i) d e h = of-false q l i d (either-false (q x) (anyOf q l) e .1) (le-of-suc-le-suc h)
-
 pub of-map : {A B : Type 0} (q : B → Bool) (f : A → B) (l : List A) → anyOf q (map f l) ≡ anyOf (λ (x : A). q (f x)) l
 unfolding anyOf
 of-map q f [] = refl

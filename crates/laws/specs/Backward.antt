@@ -77,6 +77,17 @@ module _ {A S : Type 0} (f : ℕ → S → A → S) (xs : List A) (s : S) where
   unfolding foldBack
   fold-step t d h = ap (foldBack f t s) (drop-cons xs t d h)
 
+-- ---- the count, down
+
+pub one-less : {i n : ℕ} → 0 < i → i ≤ n → i - 1 < n
+one-less h g = omega arith
+
+pub falls : {i : ℕ} → 0 < i → i - 1 < i
+falls h = omega arith
+
+pub up : {i : ℕ} → 0 < i → i - 1 + 1 ≡ i
+up h = omega arith
+
 -- ---- a part of a slice, as the block that it is
 pub part-block : (t k : ℕ) (l : List Float) → t * k + k ≤ length l → take (t * k + k - t * k) (drop (t * k) l) ≡ blockAt k l t
 unfolding blockAt

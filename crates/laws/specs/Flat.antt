@@ -1,7 +1,7 @@
 -- The flat form read back: the decisions, and what the way back looks at, off the lent lists that a pass wrote.
-use mathlib.Core.Path.{_≡_, refl}
-use Prim.Native.Nat.{ℕ, zero, suc, _+_, _*_, _≤_}
-use native.Mathlib.Nat.{mul-le-mul-right}
+use mathlib.Core.Path.{_≡_, refl, ap, _∙_}
+use Prim.Native.Nat.{ℕ, zero, suc, _+_, _*_, _≤_, _<_}
+use native.Mathlib.Nat.{mul-le-mul-right, zero-add}
 use native.Mathlib.Omega.{arith}
 use mathlib.Core.List.{List, []}
 use lib.ListN.{length, getD}
@@ -10,6 +10,7 @@ use lib.Ieee.{Float}
 use Rattle.definition.specs.Num.{tabulate, at}
 use Rattle.definition.specs.Cov.{Decision, skipped, usual, diffuse, CovPeriod}
 use Rattle.definition.specs.Mean.{MeanPeriod}
+use Rattle.laws.specs.Lists.{tab-at, length-tab}
 
 pub record Flat : Type 0 where
   pub kinds : List ℕ
@@ -66,6 +67,15 @@ readBack m r k =
 
 unfoldable pub decisionsAt : ℕ → ℕ → Flat → ℕ → List Decision
 decisionsAt p m r t = tabulate p (λ i. readBack m r (t * p + i))
+
+module _ (p m t : ℕ) (r : Flat) where
+  pub decisions-long : length (decisionsAt p m r t) ≡ p
+  unfolding decisionsAt
+  decisions-long = length-tab p 0 (λ i. readBack m r (t * p + i))
+
+  pub decision-at : (i : ℕ) → i < p → getD (decisionsAt p m r t) i skipped ≡ readBack m r (t * p + i)
+  unfolding decisionsAt
+  decision-at i h = tab-at p 0 i (λ i. readBack m r (t * p + i)) skipped h ∙ ap (λ (j : ℕ). readBack m r (t * p + j)) (zero-add i)
 
 unfoldable pub decisionRows : ℕ → ℕ → ℕ → Flat → List (List Decision)
 decisionRows n p m r = tabulate n (decisionsAt p m r)

@@ -1,7 +1,10 @@
+-- Halves, `mul-swap` of Swap and `sumTo-cong` of Lists wait for request l of document 02, Signs and `scanBack-append` of Lists for e; nothing cites them yet.
+
 -- lists, and going through them
 pub mod Lists
 pub mod Any
 pub mod Passes
+pub mod Sizes
 pub mod Blocks
 pub mod Backward
 -- doubles

@@ -1,13 +1,14 @@
--- Laws of lists: going through one with a state, one place changed, cut in parts and joined; tables, matrices and sums by their entries.
+-- Laws of lists: going through one with a state, one place changed, cut in parts and joined; tables, matrices and sums by their entries; a running sum.
 use mathlib.Core.Path.{_≡_, refl, sym, ap, ap₂, _∙_}
 use Prim.Native.Nat.{ℕ, zero, suc, _+_, _*_, _/_, _%_, _≤_, _<_}
-use native.Mathlib.Nat.{mul-le-mul, mul-le-mul-right, mod-lt, div-lt-iff-lt-mul, mul-add-div-right, div-eq-of-lt, mul-add-mod-self-right, mod-eq-of-lt, zero-mul, zero-add, add-zero, add-suc, suc-add, not-suc-le-zero, le-of-suc-le-suc}
+use native.Mathlib.Nat.{mul-le-mul-right, mod-lt, div-lt-iff-lt-mul, mul-add-div-right, div-eq-of-lt, mul-add-mod-self-right, mod-eq-of-lt, zero-mul, zero-add, add-zero, add-suc, suc-add, not-suc-le-zero, le-of-suc-le-suc}
+use native.Mathlib.Numerals.{add-one}
 use native.Mathlib.Omega.{arith}
 use mathlib.Core.Bool.{Bool, true, false, _||_}
 use mathlib.Core.List.{List, [], _∷_, _++_, map}
 use lib.ListN.{length, getD, set, take, drop, length-append, length-take, length-drop, List·getD-append}
 use lib.Ieee.{Float, nan}
-use Rattle.definition.specs.Num.{_⊕_, sumTo, tabFrom, tabulate, matrix, at, ent}
+use Rattle.definition.specs.Num.{0ᶠ, _⊕_, sumTo, tabFrom, tabulate, matrix, at, ent}
 use lib.Seq.{take-suc, take-set-lt, drop-set-lt, take-set-le, drop-set-add, getD-append-add}
 use Rattle.definition.specs.Run.{scan, scanBack, pairs, chunks, join, count, anyOf}
 
@@ -121,13 +122,10 @@ module _ {A : Type 0} where
   anyOf-set q (x ∷ l) zero a d e = ap (λ (b : Bool). b || anyOf q l) e
   anyOf-set q (x ∷ l) (suc k) a d e = ap (λ (b : Bool). q x || b) (anyOf-set q l k a d e)
 
--- ---- places and sizes: an entry lies within its matrix, and a matrix of at most 8 by 8 has at most 64
+-- ---- places: an entry lies within its matrix
 
 pub place-lt : (n p t i : ℕ) → t < n → i < p → t * p + i < n * p
 place-lt n p t i h g = omega (arith, mul-le-mul-right p h)
-
-pub square-le : (m : ℕ) → m ≤ 8 → m * m ≤ 64
-square-le m h = mul-le-mul h h
 
 -- ---- vectors and matrices, once over the size
 
@@ -174,3 +172,16 @@ pub sumTo-cong : (k : ℕ) (f g : ℕ → Float) → ((i : ℕ) → i < k → f 
 unfolding sumTo
 sumTo-cong zero f g h = refl
 sumTo-cong (suc k) f g h = ap₂ _⊕_ (sumTo-cong k f g (λ i u. h i (omega arith))) (h k (omega arith))
+
+-- ---- a running sum
+
+pub sum-none : (f : ℕ → Float) → 0ᶠ ≡ sumTo 0 f
+unfolding sumTo
+sum-none f = refl
+
+pub sum-next : (f : ℕ → Float) (k : ℕ) (s x : Float) → s ≡ sumTo k f → x ≡ f k → s ⊕ x ≡ sumTo (k + 1) f
+unfolding sumTo
+sum-next f k s x h e = rw add-one (cc)
+
+pub sum-end : (f : ℕ → Float) {k n : ℕ} {s : Float} → s ≡ sumTo k f → k ≤ n → n ≤ k → s ≡ sumTo n f
+sum-end f {k} {n} {s} h a b = let e : k ≡ n = omega arith in cc

@@ -244,7 +244,7 @@ count-val f nan s a v = absurd v
 count-val f (inf t) s a v = absurd v
 count-val f (fin t m e) s a v = ap (λ (y : ℕ). y / down e) (v .1) ∙ mul-div-cancel a (down-pos e)
 
-units-fits : (f : Format) (q k : ℕ) → q ≤ 2 ^ prec f → q * 2 ^ k < 2 ^ (low f + suc (emax f)) → T (fits f (units f false q k))
+pub units-fits : (f : Format) (q k : ℕ) → q ≤ 2 ^ prec f → q * 2 ^ k < 2 ^ (low f + suc (emax f)) → T (fits f (units f false q k))
 unfolding units
 units-fits f q k a h = go (ltb (q * 2 ^ k) (2 ^ (low f + suc (emax f)))) (lt→ltb (q * 2 ^ k) (2 ^ (low f + suc (emax f))) h)
   where

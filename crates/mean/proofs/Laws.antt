@@ -1,23 +1,21 @@
 -- Laws of one element and of a period's elements: what is read off the flat parts, and the loop over the elements against the scan.
 use mathlib.Core.Path.{_≡_, refl, sym, ap, ap₂, _∙_}
 use Prim.Native.Nat.{ℕ, zero, suc, _+_, _-_, _*_, _≤_, _<_}
-use native.Mathlib.Nat.{zero-add}
 use native.Mathlib.Omega.{arith}
 use native.Mathlib.Numerals.{add-one}
 use mathlib.Core.List.{List, [], _∷_}
 use lib.ListN.{length, getD, take, drop, set, length-take, length-drop, length-set}
 use lib.Seq.{getD-take, getD-drop, take-suc-set, take-all}
 use lib.Ieee.{Float, nan}
-use Rattle.definition.specs.Num.{_⊕_, _⊗_, _⊘_, 0ᶠ, at, tabulate}
+use Rattle.definition.specs.Num.{_⊕_, _⊗_, _⊘_, at, tabulate}
 use Rattle.definition.specs.Dense.{axpy, axpyAt, over, overAt, row}
 use Rattle.definition.specs.Run.{scan, pairs}
 use Rattle.definition.specs.Cov.{Decision, skipped}
 use Rattle.definition.specs.Mean.{Mean, vOf, heed, usualTerm, diffuseTerm, hear, meanStep, meanEnded, meanPeriodOf}
-use Rattle.laws.specs.Lists.{tab-at, tab-cong, vector-at, length-tab, pairs-at, scan-next}
-use Rattle.laws.specs.Flat.{Flat, decisionOf, readBack, decisionsAt, blockAt, kind-diffuse}
+use Rattle.laws.specs.Lists.{tab-cong, vector-at, pairs-at, scan-next}
+use Rattle.laws.specs.Flat.{Flat, decisionOf, readBack, decisionsAt, decisions-long, decision-at, blockAt, kind-diffuse}
 use Rattle.laws.specs.Backward.{part-block, part-row}
-use Rattle.dense.specs.Views.{vec, rect, mat}
-use Rattle.dense.specs.Places.{Saved}
+use Rattle.dense.specs.Views.{vec}
 use Rattle.dense.proofs.Laws.{both, vec-at}
 use Rattle.promise.specs.declared.Kind.the-variants.{Usual, Diffuse}
 use Rattle.promise.specs.declared.Record.{Record}
@@ -25,21 +23,6 @@ use Rattle.promise.specs.declared.FlatRecord.{FlatRecord}
 use Rattle.promise.specs.Records.{skippedRecord, recordOf, flatOf}
 use Rattle.record.specs.RoundTrip.{v-told}
 use Rattle.mean.specs.View.{meanIn, entryAt, heardAt, leftIn, Followed, Recorded}
-
--- ---- a part of a slice, loaded and saved
-
--- an array that a part of k places was loaded into
-pub loaded : (k : ℕ) {s : List Float} (r : List Float) → length s ≡ k → vec (length s) r ≡ s → vec k r ≡ s
-loaded k r e h = rw e at h
-
-pub loaded-mat : (m : ℕ) {s : List Float} (r : List Float) → length s ≡ m * m → vec (length s) r ≡ s → mat m r ≡ s
-unfolding vec rect
-loaded-mat m r e h = loaded (m * m) r e h
-
--- a part of k places that an array was saved into
-pub saved : (k n : ℕ) {a out : List Float} → n ≡ k → Saved n a out → out ≡ vec k a
-unfolding vec
-saved k n {a} e h = h .holds ∙ ap (λ (i : ℕ). take i a) e
 
 -- ---- one element, by its kind
 
@@ -100,22 +83,18 @@ scan-wrote f xs i s₀ s s′ d out x h g e q = rw (add-one, scan-next f xs i s�
 
 -- what a period hears: p entries, by place
 module _ (p m t : ℕ) (r : Flat) (ys : List Float) where
-  decisions-long : length (decisionsAt p m r t) ≡ p
-  unfolding decisionsAt
-  decisions-long = length-tab p 0 (λ i. readBack m r (t * p + i))
-
   readings-long : t * p + p ≤ length ys → length (take p (drop (t * p) ys)) ≡ p
   readings-long room = simp (length-take, length-drop) (omega arith)
 
   heard-long : t * p + p ≤ length ys → length (heardAt p m r ys t) ≡ p
   unfolding entryAt
-  heard-long room = length-pairs p (decisionsAt p m r t) (take p (drop (t * p) ys)) decisions-long (readings-long room)
+  heard-long room = length-pairs p (decisionsAt p m r t) (take p (drop (t * p) ys)) (decisions-long p m t r) (readings-long room)
 
   heard-at : t * p + p ≤ length ys → (i : ℕ) → i < p → getD (heardAt p m r ys t) i (skipped, nan) ≡ (readBack m r (t * p + i), at ys (t * p + i))
-  unfolding entryAt decisionsAt
+  unfolding entryAt
   heard-at room i h =
-      pairs-at (decisionsAt p m r t) (take p (drop (t * p) ys)) i skipped nan (skipped, nan) (rw decisions-long h) (rw (readings-long room) h)
-      ∙ ap₂ (λ (d : Decision) (x : Float). (d, x)) (tab-at p 0 i (λ i. readBack m r (t * p + i)) skipped h ∙ ap (λ (j : ℕ). readBack m r (t * p + j)) (zero-add i)) (getD-take p (drop (t * p) ys) i nan h ∙ getD-drop (t * p) ys i nan)
+      pairs-at (decisionsAt p m r t) (take p (drop (t * p) ys)) i skipped nan (skipped, nan) (rw (decisions-long p m t r) h) (rw (readings-long room) h)
+      ∙ ap₂ (λ (d : Decision) (x : Float). (d, x)) (decision-at p m t r i h) (getD-take p (drop (t * p) ys) i nan h ∙ getD-drop (t * p) ys i nan)
 
   -- the loop over them: what holds before element i
   module _ (design ds : List Float) (s₀ : Mean) where

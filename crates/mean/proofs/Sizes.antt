@@ -1,54 +1,16 @@
--- Places and lengths: block t of a part, what a period needs of what the pass has.
+-- Places and lengths: what an element and a period need of what the pass has.
 use mathlib.Core.Path.{_≡_, ap, _∙_}
-use Prim.Native.Nat.{ℕ, _+_, _-_, _*_, _≤_, _<_}
-use native.Mathlib.Nat.{mul-le-mul, mul-assoc}
+use Prim.Native.Nat.{ℕ, _+_, _*_, _<_}
+use native.Mathlib.Nat.{mul-assoc}
 use native.Mathlib.Omega.{arith}
 use mathlib.Core.List.{List}
 use lib.ListN.{length}
 use lib.Ieee.{Float}
-use mir.Val.{Fits}
-use mir.Syntax.{w64}
 use Rattle.definition.specs.Inputs.{designFrom}
 use Rattle.laws.specs.Flat.{Flat, fewer}
 use Rattle.laws.specs.Passes.{block-in}
 use Rattle.model.specs.Design.{length-design}
 use Rattle.mean.specs.View.{Element, Period, Periods, Room, Ready, Rooms}
-
-pub at-most : {a b c : ℕ} → a ≡ b → b ≤ c → a ≤ c
-at-most e h = omega arith
-
-pub square-most : {m a : ℕ} → a ≡ m * m → m ≤ 8 → a ≤ 64
-square-most {m} e h = omega (arith, mul-le-mul {n₁ = m} {m₁ = m} {n₂ = 8} {m₂ = 8} h h)
-
--- ---- block t of k places, of at most 4096 blocks of at most 8
-
-module _ {n k t : ℕ} (few : n ≤ 4096) (small : k ≤ 8) (h : t < n) where
-  within : t * k + k ≤ 32768
-  within = omega (arith, block-in t n k h, mul-le-mul {n₁ = n} {m₁ = k} {n₂ = 4096} {m₂ = 8} few small)
-
-  pub from-fits : Fits w64 (t * k)
-  from-fits = omega (arith, within)
-
-  pub to-fits : Fits w64 (t * k + k)
-  to-fits = omega (arith, within)
-
-  pub bytes-fit : Fits w64 (t * k * 8)
-  bytes-fit = omega (arith, within)
-
-pub next-fits : {n t : ℕ} → n ≤ 4096 → t < n → Fits w64 (t + 1)
-next-fits few h = omega arith
-
-pub falls : (n t : ℕ) → t < n → n - (t + 1) < n - t
-falls n t h = omega arith
-
-pub ordered : (a k : ℕ) → a ≤ a + k
-ordered a k = omega arith
-
--- a part that is as long as it was has room for block t
-pub part-in : {n t long long₀ : ℕ} (k : ℕ) → t < n → n * k ≤ long₀ → long ≡ long₀ → t * k + k ≤ long
-part-in {n} {t} k h room e = omega (arith, block-in t n k h)
-
--- ---- what has to be there
 
 -- element i of a period, by a record of its block
 pub element-in : {p m t i design d y v : ℕ} {r : Flat} (k : ℕ) → Period p m t design d y v r → i < p → k < t * p + p → Element m i k design d y r

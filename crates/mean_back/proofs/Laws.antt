@@ -14,11 +14,11 @@ use Rattle.definition.specs.Run.{foldBack, pairs}
 use Rattle.definition.specs.Cov.{Decision, skipped, diffuse}
 use Rattle.definition.specs.Smooth.{Rs, lZero, lZeroAt, lOne, lOneAt, fOne, kOne, lUsual, lDiffuse, usualR, diffuseR, backR, backMeanElement, elementsR, backA, stepRs, backMeanOf}
 use Rattle.laws.specs.Lists.{tab-at, length-tab, matrix-at, pairs-at}
-use Rattle.laws.specs.Flat.{Flat, readBack, decisionsAt, blockAt, lookAt, meanLookAt}
-use Rattle.dense.proofs.Laws.{but-next}
+use Rattle.laws.specs.Flat.{Flat, readBack, decisionsAt, decisions-long, decision-at, blockAt, lookAt, meanLookAt}
+use Rattle.dense.proofs.Laws.{but-next, loaded-row}
 use Rattle.dense.specs.Views.{vec}
-use Rattle.laws.specs.Backward.{fold-none, fold-step, part-block, part-row, block-long}
-use Rattle.mean.proofs.Laws.{length-pairs, loaded}
+use Rattle.laws.specs.Backward.{fold-none, fold-step, part-block}
+use Rattle.mean.proofs.Laws.{length-pairs}
 use Rattle.promise.specs.declared.Kind.the-variants.{Skipped, Usual, Diffuse}
 use Rattle.promise.specs.declared.Record.{Record}
 use Rattle.promise.specs.Records.{recordAt}
@@ -71,15 +71,12 @@ module _ (m : ℕ) (z : List Float) where
 
 -- ---- the row of the design, loaded, and the parts that an element and a period read
 
-pub row-of : (i m : ℕ) (design z : List Float) → i * m + m ≤ length design → vec (length (take (i * m + m - i * m) (drop (i * m) design))) z ≡ take (i * m + m - i * m) (drop (i * m) design) → vec m z ≡ row m design i
-row-of i m design z h e = loaded m z (block-long i m design h) e ∙ part-row i m design h
-
 module _ (m i k : ℕ) (v f : Float) (design z : List Float) (hr : i * m + m ≤ length design) (el : vec (length (take (i * m + m - i * m) (drop (i * m) design))) z ≡ take (i * m + m - i * m) (drop (i * m) design)) where
   pub usual-at : (a a′ gains : List Float) → k * m + m ≤ length gains → a′ ≡ usualR m (vec m z) v (fOne f) (lUsual m (vec m z) f (take (k * m + m - k * m) (drop (k * m) gains))) a → a′ ≡ usualR m (row m design i) v (fOne f) (lUsual m (row m design i) f (blockAt m gains k)) a
-  usual-at a a′ gains hg h = rw (row-of i m design z hr el, part-block k m gains hg) at h
+  usual-at a a′ gains hg h = rw (loaded-row i m design z hr el, part-block k m gains hg) at h
 
   pub diffuse-at : (g : Float) (s s′ : Rs) (m* m∞ : List Float) → k * m + m ≤ length m* → k * m + m ≤ length m∞ → s′ ≡ backR m (vec m z) s (diffuse f g (take (k * m + m - k * m) (drop (k * m) m*)) (take (k * m + m - k * m) (drop (k * m) m∞))) v → s′ ≡ backR m (row m design i) s (diffuse f g (blockAt m m* k) (blockAt m m∞ k)) v
-  diffuse-at g s s′ m* m∞ hs hi h = rw (row-of i m design z hr el, part-block k m m* hs, part-block k m m∞ hi) at h
+  diffuse-at g s s′ m* m∞ hs hi h = rw (loaded-row i m design z hr el, part-block k m m* hs, part-block k m m∞ hi) at h
 
 pub smooth-at : (m t : ℕ) (live : Bool) (r : Rs) (pm pc pi out : List Float) → t * m + m ≤ length pm → t * (m * m) + m * m ≤ length pc → t * (m * m) + m * m ≤ length pi
     → out ≡ backA m live (take (t * (m * m) + m * m - t * (m * m)) (drop (t * (m * m)) pc)) (take (t * (m * m) + m * m - t * (m * m)) (drop (t * (m * m)) pi)) (take (t * m + m - t * m) (drop (t * m) pm)) r → out ≡ backA m live (blockAt (m * m) pc t) (blockAt (m * m) pi t) (blockAt m pm t) r
@@ -91,22 +88,18 @@ module _ (p m t : ℕ) (r : Flat) (vs : List Float) where
   abbrev pub told : List (Decision × Float)
   told = pairs (decisionsAt p m r t) (blockAt p vs t)
 
-  decisions-long : length (decisionsAt p m r t) ≡ p
-  unfolding decisionsAt
-  decisions-long = length-tab p 0 (λ i. readBack m r (t * p + i))
-
   news-long : length (blockAt p vs t) ≡ p
   unfolding blockAt
   news-long = length-tab p 0 (λ i. at vs (t * p + i))
 
   told-long : length told ≡ p
-  told-long = length-pairs p (decisionsAt p m r t) (blockAt p vs t) decisions-long news-long
+  told-long = length-pairs p (decisionsAt p m r t) (blockAt p vs t) (decisions-long p m t r) news-long
 
   told-at : (i : ℕ) → i < p → getD told i (skipped, nan) ≡ (readBack m r (t * p + i), at vs (t * p + i))
-  unfolding decisionsAt blockAt
+  unfolding blockAt
   told-at i h =
-      pairs-at (decisionsAt p m r t) (blockAt p vs t) i skipped nan (skipped, nan) (rw decisions-long h) (rw news-long h)
-      ∙ ap₂ (λ (d : Decision) (x : Float). (d, x)) (tab-at p 0 i (λ i. readBack m r (t * p + i)) skipped h ∙ ap (λ (j : ℕ). readBack m r (t * p + j)) (zero-add i)) (tab-at p 0 i (λ i. at vs (t * p + i)) nan h ∙ ap (λ (j : ℕ). at vs (t * p + j)) (zero-add i))
+      pairs-at (decisionsAt p m r t) (blockAt p vs t) i skipped nan (skipped, nan) (rw (decisions-long p m t r) h) (rw news-long h)
+      ∙ ap₂ (λ (d : Decision) (x : Float). (d, x)) (decision-at p m t r i h) (tab-at p 0 i (λ i. at vs (t * p + i)) nan h ∙ ap (λ (j : ℕ). at vs (t * p + j)) (zero-add i))
 
   -- the loop over them: what holds with the elements from i on done
   module _ (design : List Float) (s₀ : Rs) where

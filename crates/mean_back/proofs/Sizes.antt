@@ -1,27 +1,16 @@
 -- Places and lengths on the way back: what an element and a period need of what the pass has.
 use mathlib.Core.Path.{_≡_, ap, _∙_}
-use Prim.Native.Nat.{ℕ, _+_, _-_, _*_, _≤_, _<_}
-use native.Mathlib.Nat.{mul-le-mul}
+use Prim.Native.Nat.{ℕ, _+_, _*_, _≤_, _<_}
 use native.Mathlib.Omega.{arith}
 use mathlib.Core.List.{List}
 use lib.ListN.{length}
 use lib.Ieee.{Float}
 use Rattle.definition.specs.Inputs.{designFrom}
 use Rattle.laws.specs.Flat.{Flat, fewer}
-use Rattle.laws.specs.Lists.{square-le}
+use Rattle.laws.specs.Sizes.{square-le}
 use Rattle.laws.specs.Passes.{block-in}
 use Rattle.model.specs.Design.{length-design}
 use Rattle.mean_back.specs.View.{Square, Element, Period, Block, Periods}
-
-pub one-less : {i n : ℕ} → 0 < i → i ≤ n → i - 1 < n
-one-less h g = omega arith
-
-pub falls : {i : ℕ} → 0 < i → i - 1 < i
-falls h = omega arith
-
--- block t of a part that is as long as it was: it lies within, and its places are small numbers
-pub own-block : {n m t long long₀ : ℕ} → n ≤ 4096 → m ≤ 8 → t < n → n * m ≤ long₀ → long ≡ long₀ → (t * m + m ≤ long) × (t * m + m ≤ 32768)
-own-block {n} {m} {t} few small h room e = (omega (arith, block-in t n m h), omega (arith, block-in t n m h, mul-le-mul {n₁ = n} {m₁ = m} {n₂ = 4096} {m₂ = 8} few small))
 
 -- row i of a square part
 pub row-in : {m i a : ℕ} → Square m i a → i * m + m ≤ a

@@ -3,7 +3,7 @@ use mathlib.Core.Path.{_≡_, refl, sym, ap, subst, _∙_}
 use Prim.Native.Nat.{ℕ, _*_, _≤_, _<_, _^_}
 use native.Mathlib.Omega.{arith}
 use native.Mathlib.Nat.{mul-le-mul}
-use mathlib.Core.Bool.{Bool, true, false, not, _&&_, cond}
+use mathlib.Core.Bool.{Bool, true, false, not, _&&_, and-true, and-false, cond}
 use mathlib.Core.List.{List, map}
 use lib.ListN.{length}
 use lib.Dec.{leb, ltb}
@@ -67,14 +67,6 @@ few-parts : (a b : Bool) → (not a && b) ≡ true → (a ≡ false) × (b ≡ t
 few-parts true b e = absurd (clash (sym e))
 few-parts false b e = (refl, e)
 
-and-none : (a : Bool) → (a && false) ≡ false
-and-none true = refl
-and-none false = refl
-
-and-all : (a : Bool) → (a && true) ≡ a
-and-all true = refl
-and-all false = refl
-
 short : (a b : Bool) → not (a && b && false) ≡ true
 short true true = refl
 short true false = refl
@@ -89,14 +81,14 @@ module _ (x : Model) (o : Offsets) (y : List Float) (have : ℕ) where
   two room e =
       let h = few-parts (outside (x .p) (x .m) (x .r) (x .n)) (ltb have (x .n * x .p)) e in
       let l : leb (x .n * x .p) have ≡ false = lt-leb (x .n * x .p) have (ltb-true have (x .n * x .p) (h .1)) in
-      rw (h .0, l, and-none, short) refl
+      rw (h .0, l, and-false, short) refl
 
   -- else the list has room, where it is asked
   has-room : (room : Bool) → few ≡ false → outside (x .p) (x .m) (x .r) (x .n) ≡ false → (room && leb (kindsNeed x) have) ≡ room
   unfolding kindsNeed
   has-room room e h =
       let l : leb (x .n * x .p) have ≡ true = le-leb (x .n * x .p) have (ltb-false have (x .n * x .p) (maybe-few (x .p) (x .m) (x .r) (x .n) have h ∙ e)) in
-      rw l (and-all room)
+      rw l (and-true room)
 
   module _ (w : CovParts) (w′ : MeanParts) where
     pub few-so : few ≡ true → Promise (outcomeWithRecords x o y w w′ have) (Refused 2) w w′

@@ -1,13 +1,12 @@
 -- The leaves' definitions by the tests that the code makes.
 use mathlib.Core.Path.{_≡_, refl, sym, _∙_}
-use mathlib.Core.Bool.{Bool, true, false, cond, not, _&&_}
+use mathlib.Core.Bool.{Bool, false, cond, not, _&&_, and-false}
 use mathlib.Core.List.{List}
 use Prim.Native.Nat.{ℕ, _+_, _*_}
-use native.Mathlib.Numerals.{add-one}
 use borrow.Author.Tests.{ne-eqb}
 use lib.Dec.{eqb}
 use lib.Ieee.{Float, isNan, ne}
-use Rattle.definition.specs.Num.{_⊕_, 0ᶠ, sumTo}
+use Rattle.definition.specs.Num.{0ᶠ}
 use Rattle.rows.specs.Rows.{byteAt, numAt, fateOf, openOf, offsetOpenOf}
 
 -- ---- fates
@@ -23,20 +22,7 @@ pub fate-other : (k : ℕ) (x : Float) {b : Bool} → (k ≡ 1 → ⊥) → (k �
 unfolding fateOf
 fate-other k x a b e = simp (ne-eqb k 1 a, ne-eqb k 2 b, e)
 
--- ---- a running sum
-pub sum-none : (f : ℕ → Float) → 0ᶠ ≡ sumTo 0 f
-unfolding sumTo
-sum-none f = refl
-
-pub sum-next : (f : ℕ → Float) (k : ℕ) (s x : Float) → s ≡ sumTo k f → x ≡ f k → s ⊕ x ≡ sumTo (k + 1) f
-unfolding sumTo
-sum-next f k s x h e = rw add-one (cc)
-
 -- ---- the offset's bound
-and-false : (a : Bool) → false ≡ (a && false)
-and-false true = refl
-and-false false = refl
-
 module _ (pinf : List Float) (kinds : List ℕ) (t : ℕ) where
   pub first-news : {b : ℕ} → b ≡ byteAt kinds (2 * t) → b ≡ 2 → false ≡ offsetOpenOf pinf kinds t
   unfolding offsetOpenOf
@@ -44,7 +30,7 @@ module _ (pinf : List Float) (kinds : List ℕ) (t : ℕ) where
 
   pub second-news : {b : ℕ} → b ≡ byteAt kinds (2 * t + 1) → b ≡ 2 → false ≡ offsetOpenOf pinf kinds t
   unfolding offsetOpenOf
-  second-news e h = rw (sym e ∙ h) (and-false (not (eqb (byteAt kinds (2 * t)) 2)))
+  second-news e h = rw (sym e ∙ h) (sym (and-false (not (eqb (byteAt kinds (2 * t)) 2))))
 
   pub no-news : {a b : ℕ} {o : Bool} {x : Float} → a ≡ byteAt kinds (2 * t) → (a ≡ 2 → ⊥) → b ≡ byteAt kinds (2 * t + 1) → (b ≡ 2 → ⊥) → o ≡ openOf pinf t → x ≡ numAt pinf (9 * t) → (o && ne x 0ᶠ) ≡ offsetOpenOf pinf kinds t
   unfolding offsetOpenOf ne

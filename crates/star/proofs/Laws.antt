@@ -1,5 +1,5 @@
 -- The star root: what the calls give, put together, over plain variables.
-use Prim.Native.Nat.{ℕ, zero, suc, _+_, _-_, _≤_, _<_}
+use Prim.Native.Nat.{ℕ, zero, suc, _+_, _≤_, _<_}
 use mathlib.Core.Path.{_≡_, refl, sym, ap, _∙_, subst}
 use mathlib.Core.Bool.{Bool, true, false, not, _&&_, _||_, cond}
 use mathlib.Core.List.{List, [], _∷_, _++_}
@@ -235,9 +235,6 @@ module _ (p m : ℕ) (z h : List Float) (s : List ℕ) (k : ℕ) where
 
   pub replay-next : (r₀ r r′ : Root) (taken : List ℕ) (t : ℕ) → r ≡ replay p m z h s k r₀ (take t taken) → t < length taken → r′ ≡ downdate k r (on k s (Dense.row m z (getD taken t 0))) (ent p h (getD taken t 0) (getD taken t 0)) → r′ ≡ replay p m z h s k r₀ (take (t + 1) taken)
   replay-next r₀ r r′ taken t e b g = rw (add-one, take-suc taken t 0 b) (g ∙ ap (λ (x : Root). downdate k x (on k s (Dense.row m z (getD taken t 0))) (ent p h (getD taken t 0) (getD taken t 0))) e ∙ sym (replay-snoc r₀ (take t taken) (getD taken t 0)))
-
-  pub replay-end : (r₀ r : Root) (taken : List ℕ) (t n : ℕ) → r ≡ replay p m z h s k r₀ (take t taken) → t ≤ n → n ≤ t → r ≡ replay p m z h s k r₀ (take n taken)
-  replay-end r₀ r taken t n e a b = let q : t ≡ n = omega arith in rw q at e
 
 -- the replay, loop and whole
 module _ (p m : ℕ) (z h : List Float) where

@@ -3,7 +3,7 @@
 use mathlib.Core.Path.{refl}
 use Prim.Native.Nat.{_-_, _*_}
 use Rattle.dense.specs.Views.{mat}
-use Rattle.laws.specs.Lists.{square-le}
+use Rattle.laws.specs.Sizes.{eight, square-le, fits}
 use Rattle.laws.specs.Blocks as blocks
 use Rattle.period.specs.Views.{stateOf}
 use Rattle.cov.proofs.Going as going
@@ -21,10 +21,10 @@ abbrev μ-loop : tie.MeasureT-loop
     n - t
 
 mul-mm : tie.Need-mul-mm Inv-loop μ-loop
-mul-mm c = sizes.fits (square-le (c .before .before .before .before .before .before .before .before .before .before .before .args .m) (c .before .before .before .before .before .before .before .before .before .before .before .pre .0 .design .m8))
+mul-mm c = fits (square-le (c .before .before .before .before .before .before .before .before .before .before .before .args .m) (c .before .before .before .before .before .before .before .before .before .before .before .pre .0 .design .m8))
 
 mul-pm : tie.Need-mul-pm Inv-loop μ-loop
-mul-pm c = sizes.fits (area (c .before .before .before .before .before .before .before .before .before .before .before .pre .0 .design .p8) (c .before .before .before .before .before .before .before .before .before .before .before .pre .0 .design .m8))
+mul-pm c = fits (area (c .before .before .before .before .before .before .before .before .before .before .before .pre .0 .design .p8) (c .before .before .before .before .before .before .before .before .before .before .before .pre .0 .design .m8))
 
 loop-holds : tie.Need-loop-holds Inv-loop μ-loop
 loop-holds c = going.going-none _ _ _ _ _ _ _ _ _ _ _ _ _ _ _ _ _ _ _ refl
@@ -39,10 +39,10 @@ add-cov-end : tie.Need-add-cov-end Inv-loop μ-loop
 add-cov-end c = blocks.to-fits (blocks.early (c .before .before .before .before .before .before .before .before .before .before .before .before .before .before .pre .0 .n4096) (c .before .loop-test .taken)) (square-le (c .before .before .before .before .before .before .before .before .before .before .before .before .before .before .args .m) (c .before .before .before .before .before .before .before .before .before .before .before .before .before .before .pre .0 .design .m8))
 
 mul-element : tie.Need-mul-element Inv-loop μ-loop
-mul-element c = blocks.from-fits (blocks.early (c .before .before .before .before .before .before .before .before .before .before .before .before .before .before .pre .0 .n4096) (c .before .loop-test .taken)) (sizes.eight (c .before .before .before .before .before .before .before .before .before .before .before .before .before .before .pre .0 .design .p8))
+mul-element c = blocks.from-fits (blocks.early (c .before .before .before .before .before .before .before .before .before .before .before .before .before .before .pre .0 .n4096) (c .before .loop-test .taken)) (eight (c .before .before .before .before .before .before .before .before .before .before .before .before .before .before .pre .0 .design .p8))
 
 add-element-end : tie.Need-add-element-end Inv-loop μ-loop
-add-element-end c = blocks.to-fits (blocks.early (c .before .before .before .before .before .before .before .before .before .before .before .before .before .before .pre .0 .n4096) (c .before .loop-test .taken)) (sizes.eight (c .before .before .before .before .before .before .before .before .before .before .before .before .before .before .pre .0 .design .p8))
+add-element-end c = blocks.to-fits (blocks.early (c .before .before .before .before .before .before .before .before .before .before .before .before .before .before .pre .0 .n4096) (c .before .loop-test .taken)) (eight (c .before .before .before .before .before .before .before .before .before .before .before .before .before .before .pre .0 .design .p8))
 
 mul-gain : tie.Need-mul-gain Inv-loop μ-loop
 mul-gain c = blocks.from-fits (blocks.early (c .before .before .before .before .before .before .before .before .before .before .before .before .before .before .pre .0 .n4096) (c .before .loop-test .taken)) (area (c .before .before .before .before .before .before .before .before .before .before .before .before .before .before .pre .0 .design .p8) (c .before .before .before .before .before .before .before .before .before .before .before .before .before .before .pre .0 .design .m8))
@@ -96,7 +96,7 @@ part-cov-period-end-4 : tie.Need-part-cov-period-end-4 Inv-loop μ-loop
 part-cov-period-end-4 c = let a = c .before .before .before .before .before .before .before .before .before .before .before .before .before .before .before .before .before .before .before .before .before .args in blocks.part-in (a .p) (c .before .before .before .before .before .before .before .before .loop-test .taken) (c .before .before .before .before .before .before .before .before .before .before .before .before .before .before .before .before .before .before .before .before .before .pre .1 .kinds) (c .before .before .before .before .before .before .before .before .before .loop .inv .kinds .0)
 
 mul-cov-period-4 : tie.Need-mul-cov-period-4 Inv-loop μ-loop
-mul-cov-period-4 c = blocks.bytes-fit (blocks.early (c .before .before .before .before .before .before .before .before .before .before .before .before .before .before .before .before .before .before .before .before .before .before .pre .0 .n4096) (c .before .before .before .before .before .before .before .before .before .loop-test .taken)) (sizes.eight (c .before .before .before .before .before .before .before .before .before .before .before .before .before .before .before .before .before .before .before .before .before .before .pre .0 .design .p8))
+mul-cov-period-4 c = blocks.bytes-fit (blocks.early (c .before .before .before .before .before .before .before .before .before .before .before .before .before .before .before .before .before .before .before .before .before .before .pre .0 .n4096) (c .before .before .before .before .before .before .before .before .before .loop-test .taken)) (eight (c .before .before .before .before .before .before .before .before .before .before .before .before .before .before .before .before .before .before .before .before .before .before .pre .0 .design .p8))
 
 sub-cov-period-5 : tie.Need-sub-cov-period-5 Inv-loop μ-loop
 sub-cov-period-5 c = blocks.ordered _ _
@@ -108,7 +108,7 @@ part-cov-period-end-5 : tie.Need-part-cov-period-end-5 Inv-loop μ-loop
 part-cov-period-end-5 c = let a = c .before .before .before .before .before .before .before .before .before .before .before .before .before .before .before .before .before .before .before .before .before .before .args in blocks.part-in (a .p) (c .before .before .before .before .before .before .before .before .before .loop-test .taken) (c .before .before .before .before .before .before .before .before .before .before .before .before .before .before .before .before .before .before .before .before .before .before .pre .1 .stars) (c .before .before .before .before .before .before .before .before .before .before .loop .inv .stars .0)
 
 mul-cov-period-5 : tie.Need-mul-cov-period-5 Inv-loop μ-loop
-mul-cov-period-5 c = blocks.bytes-fit (blocks.early (c .before .before .before .before .before .before .before .before .before .before .before .before .before .before .before .before .before .before .before .before .before .before .before .pre .0 .n4096) (c .before .before .before .before .before .before .before .before .before .before .loop-test .taken)) (sizes.eight (c .before .before .before .before .before .before .before .before .before .before .before .before .before .before .before .before .before .before .before .before .before .before .before .pre .0 .design .p8))
+mul-cov-period-5 c = blocks.bytes-fit (blocks.early (c .before .before .before .before .before .before .before .before .before .before .before .before .before .before .before .before .before .before .before .before .before .before .before .pre .0 .n4096) (c .before .before .before .before .before .before .before .before .before .before .loop-test .taken)) (eight (c .before .before .before .before .before .before .before .before .before .before .before .before .before .before .before .before .before .before .before .before .before .before .before .pre .0 .design .p8))
 
 sub-cov-period-6 : tie.Need-sub-cov-period-6 Inv-loop μ-loop
 sub-cov-period-6 c = blocks.ordered _ _
@@ -144,7 +144,7 @@ part-cov-period-end-8 : tie.Need-part-cov-period-end-8 Inv-loop μ-loop
 part-cov-period-end-8 c = let a = c .before .before .before .before .before .before .before .before .before .before .before .before .before .before .before .before .before .before .before .before .before .before .before .before .before .args in blocks.part-in (a .p * a .m) (c .before .before .before .before .before .before .before .before .before .before .before .before .loop-test .taken) (c .before .before .before .before .before .before .before .before .before .before .before .before .before .before .before .before .before .before .before .before .before .before .before .before .before .pre .1 .m-infs) (c .before .before .before .before .before .before .before .before .before .before .before .before .before .loop .inv .m-infs .0)
 
 mul-cov-period-8 : tie.Need-mul-cov-period-8 Inv-loop μ-loop
-mul-cov-period-8 c = blocks.bytes-fit (blocks.early (c .before .before .before .before .before .before .before .before .before .before .before .before .before .before .before .before .before .before .before .before .before .before .before .before .before .before .pre .0 .n4096) (c .before .before .before .before .before .before .before .before .before .before .before .before .before .loop-test .taken)) (sizes.eight (c .before .before .before .before .before .before .before .before .before .before .before .before .before .before .before .before .before .before .before .before .before .before .before .before .before .before .pre .0 .design .p8))
+mul-cov-period-8 c = blocks.bytes-fit (blocks.early (c .before .before .before .before .before .before .before .before .before .before .before .before .before .before .before .before .before .before .before .before .before .before .before .before .before .before .pre .0 .n4096) (c .before .before .before .before .before .before .before .before .before .before .before .before .before .loop-test .taken)) (eight (c .before .before .before .before .before .before .before .before .before .before .before .before .before .before .before .before .before .before .before .before .before .before .before .before .before .before .pre .0 .design .p8))
 
 sub-cov-period-9 : tie.Need-sub-cov-period-9 Inv-loop μ-loop
 sub-cov-period-9 c = blocks.ordered _ _

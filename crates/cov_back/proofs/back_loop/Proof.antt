@@ -6,12 +6,13 @@ use Rattle.definition.specs.Inputs.{frameFrom}
 use Rattle.dense.specs.Views.{mat}
 use Rattle.element_back.specs.View.{nsIn}
 use Rattle.laws.specs.Flat.{flatIn}
-use Rattle.cov_back.proofs.Laws as laws
+use Rattle.laws.specs.Sizes.{square-le, fits}
+use Rattle.laws.specs.Blocks as blocks
+use Rattle.laws.specs.Backward.{block-long, one-less, falls, up}
 use Rattle.cov_back.proofs.Sizes as sizes
 use Rattle.cov_back.proofs.Going as going
 use Rattle.cov_back.proofs.back_loop.Statement.{statement}
 use Rattle.cov_back.proofs.back_loop.Tie as tie
-use Rattle.laws.specs.Backward.{block-long}
 
 abbrev Inv-loop : tie.InvT-loop
 Inv-loop n0₀ n1₀ n2₀ sm-cov₀ z zs tr pred-cov pred-inf kinds f-star f-inf m-star m-inf d-diffuse p m n listed mm t₀ n0 n1 n2 sm-cov t =
@@ -21,7 +22,7 @@ abbrev μ-loop : tie.MeasureT-loop
 μ-loop n0₀ n1₀ n2₀ sm-cov₀ z zs tr pred-cov pred-inf kinds f-star f-inf m-star m-inf d-diffuse p m n listed mm t₀ n0 n1 n2 sm-cov t = t
 
 mul-mm : tie.Need-mul-mm Inv-loop μ-loop
-mul-mm c = sizes.square-fits (c .before .before .before .before .before .before .before .before .before .before .pre .0 .design .m8)
+mul-mm c = fits (square-le _ (c .before .before .before .before .before .before .before .before .before .before .pre .0 .design .m8))
 
 loop-holds : tie.Need-loop-holds Inv-loop μ-loop
 loop-holds c = going.going-none _ _ _ _ _ _ _ _ _ _
@@ -33,42 +34,42 @@ design-requires : tie.Need-design-requires Inv-loop μ-loop
 design-requires c κs = c .before .before .before .before .before .before .before .before .before .before .before .before .pre .0 .design
 
 mul-from : tie.Need-mul-from Inv-loop μ-loop
-mul-from c = sizes.from-fits (sizes.early (c .before .before .before .before .before .before .before .before .before .before .before .before .before .pre .0 .n4096) (sizes.one-less (c .before .loop-test .taken) (c .before .before .loop .inv .low))) (sizes.square (c .before .before .before .before .before .before .before .before .before .before .before .before .before .pre .0 .design .m8))
+mul-from c = blocks.from-fits (blocks.early (c .before .before .before .before .before .before .before .before .before .before .before .before .before .pre .0 .n4096) (one-less (c .before .loop-test .taken) (c .before .before .loop .inv .low))) (square-le _ (c .before .before .before .before .before .before .before .before .before .before .before .before .before .pre .0 .design .m8))
 
 add-to : tie.Need-add-to Inv-loop μ-loop
-add-to c = sizes.to-fits (sizes.early (c .before .before .before .before .before .before .before .before .before .before .before .before .before .pre .0 .n4096) (sizes.one-less (c .before .loop-test .taken) (c .before .before .loop .inv .low))) (sizes.square (c .before .before .before .before .before .before .before .before .before .before .before .before .before .pre .0 .design .m8))
+add-to c = blocks.to-fits (blocks.early (c .before .before .before .before .before .before .before .before .before .before .before .before .before .pre .0 .n4096) (one-less (c .before .loop-test .taken) (c .before .before .loop .inv .low))) (square-le _ (c .before .before .before .before .before .before .before .before .before .before .before .before .before .pre .0 .design .m8))
 
 mul-period : tie.Need-mul-period Inv-loop μ-loop
-mul-period c = sizes.bytes-fit (sizes.early (c .before .before .before .before .before .before .before .before .before .before .before .before .before .before .before .before .pre .0 .n4096) (sizes.one-less (c .before .before .before .before .loop-test .taken) (c .before .before .before .before .before .loop .inv .low))) (sizes.square (c .before .before .before .before .before .before .before .before .before .before .before .before .before .before .before .before .pre .0 .design .m8))
+mul-period c = blocks.bytes-fit (blocks.early (c .before .before .before .before .before .before .before .before .before .before .before .before .before .before .before .before .pre .0 .n4096) (one-less (c .before .before .before .before .loop-test .taken) (c .before .before .before .before .before .loop .inv .low))) (square-le _ (c .before .before .before .before .before .before .before .before .before .before .before .before .before .before .before .before .pre .0 .design .m8))
 
 sub-period : tie.Need-sub-period Inv-loop μ-loop
-sub-period c = sizes.ordered _ _
+sub-period c = blocks.ordered _ _
 
 part-period-start : tie.Need-part-period-start Inv-loop μ-loop
-part-period-start c = sizes.ordered _ _
+part-period-start c = blocks.ordered _ _
 
 part-period-end : tie.Need-part-period-end Inv-loop μ-loop
-part-period-end c = let m = c .before .before .before .before .before .before .before .before .before .before .before .before .before .before .before .before .args .m in sizes.part-in (m * m) (sizes.one-less (c .before .before .before .before .loop-test .taken) (c .before .before .before .before .before .loop .inv .low)) (c .before .before .before .before .before .before .before .before .before .before .before .before .before .before .before .before .pre .1) (c .before .before .before .before .before .loop .inv .out .0)
+part-period-end c = let m = c .before .before .before .before .before .before .before .before .before .before .before .before .before .before .before .before .args .m in blocks.part-in (m * m) (one-less (c .before .before .before .before .loop-test .taken) (c .before .before .before .before .before .loop .inv .low)) (c .before .before .before .before .before .before .before .before .before .before .before .before .before .before .before .before .pre .1) (c .before .before .before .before .before .loop .inv .out .0)
 
 period-requires : tie.Need-period-requires Inv-loop μ-loop
 period-requires c κs =
     let s = c .before .before .before .before .before .before .before .before .before .before .before .before .before .before .before .before .before in
     let g = c .before .before .before .before .before .before .loop .inv in
-    let h = sizes.one-less (c .before .before .before .before .before .loop-test .taken) (g .low) in
+    let h = one-less (c .before .before .before .before .before .loop-test .taken) (g .low) in
     let k = s .args .m * s .args .m in
-    (sizes.period-in (s .args .z .now) (s .args .zs .now) (s .pre .0) h (c .before .before .before .before .design .ensures), sizes.blocks-in (s .pre .0) h (block-long _ k _ (sizes.part-in k h (s .pre .1) (g .out .0))))
+    (sizes.period-in (s .args .z .now) (s .args .zs .now) (s .pre .0) h (c .before .before .before .before .design .ensures), sizes.blocks-in (s .pre .0) h (block-long _ k _ (blocks.part-in k h (s .pre .1) (g .out .0))))
 
 loop-less : tie.Need-loop-less Inv-loop μ-loop
-loop-less c = sizes.falls (c .before .before .before .before .before .before .before .before .loop-test .taken)
+loop-less c = falls (c .before .before .before .before .before .before .before .before .loop-test .taken)
 
 loop-again : tie.Need-loop-again Inv-loop μ-loop
 loop-again c =
     let s = c .before .before .before .before .before .before .before .before .before .before .before .before .before .before .before .before .before .before .before .before in
     let g = c .before .before .before .before .before .before .before .before .before .loop .inv in
-    let h = sizes.one-less (c .before .before .before .before .before .before .before .before .loop-test .taken) (g .low) in
+    let h = one-less (c .before .before .before .before .before .before .before .before .loop-test .taken) (g .low) in
     let k = s .args .m * s .args .m in
     let w = c .before .before .period in
-    going.going-next _ _ _ _ _ _ _ _ _ _ g (sizes.up (c .before .before .before .before .before .before .before .before .loop-test .taken)) (s .pre .1) (w .kept .1 .1 .1 .0 ∙ block-long _ k _ (sizes.part-in k h (s .pre .1) (g .out .0)))
+    going.going-next _ _ _ _ _ _ _ _ _ _ g (up (c .before .before .before .before .before .before .before .before .loop-test .taken)) (s .pre .1) (w .kept .1 .1 .1 .0 ∙ block-long _ k _ (blocks.part-in k h (s .pre .1) (g .out .0)))
     (going.framed (s .args .p) (s .args .m) _ (s .args .z .now) (s .args .zs .now) _ _ _ _ (c .before .before .before .before .before .before .before .design .ensures) (w .ensures))
 
 same-length : tie.Need-same-length Inv-loop μ-loop

@@ -2,6 +2,10 @@
 -- The loop over the elements runs along the fold from the back.
 use Rattle.element_back.specs.View.{nsIn}
 use Rattle.laws.specs.Flat.{flatIn}
+use native.Mathlib.Nat.{le-of-lt}
+use Rattle.laws.specs.Sizes.{eight}
+use Rattle.laws.specs.Blocks as blocks
+use Rattle.laws.specs.Backward.{one-less, falls, up}
 use Rattle.cov_back.proofs.Laws as laws
 use Rattle.cov_back.proofs.Sizes as sizes
 use Rattle.cov_back.proofs.elements.Statement.{statement}
@@ -15,7 +19,7 @@ abbrev μ-loop : tie.MeasureT-loop
 μ-loop n0₀ n1₀ n2₀ live design kinds f-star f-inf m-star m-inf p m t first i₀ n0 n1 n2 i = i
 
 mul-first : tie.Need-mul-first Inv-loop μ-loop
-mul-first c = sizes.from-fits (c .before .before .before .before .before .before .pre .t4096) (sizes.eight (c .before .before .before .before .before .before .pre .p8))
+mul-first c = blocks.from-fits (le-of-lt (c .before .before .before .before .before .before .pre .t4096)) (eight (c .before .before .before .before .before .before .pre .p8))
 
 loop-holds : tie.Need-loop-holds Inv-loop μ-loop
 loop-holds c = laws.along-none _ _ _ _ _ _ _
@@ -24,16 +28,16 @@ sub-i : tie.Need-sub-i Inv-loop μ-loop
 sub-i c = c .loop-test .taken
 
 add-element : tie.Need-add-element Inv-loop μ-loop
-add-element c = sizes.place-fits (c .before .before .before .before .before .before .before .before .before .before .before .pre .t4096) (c .before .before .before .before .before .before .before .before .before .before .before .pre .p8) (sizes.one-less (c .before .before .before .loop-test .taken) (c .before .before .before .before .loop .inv .low))
+add-element c = sizes.place-fits (c .before .before .before .before .before .before .before .before .before .before .before .pre .t4096) (c .before .before .before .before .before .before .before .before .before .before .before .pre .p8) (one-less (c .before .before .before .loop-test .taken) (c .before .before .before .before .loop .inv .low))
 
 element-requires : tie.Need-element-requires Inv-loop μ-loop
-element-requires c κs = sizes.element-in (c .before .before .before .before .before .before .before .before .before .before .before .pre) (sizes.one-less (c .before .before .before .loop-test .taken) (c .before .before .before .before .loop .inv .low))
+element-requires c κs = sizes.element-in (c .before .before .before .before .before .before .before .before .before .before .before .pre) (one-less (c .before .before .before .loop-test .taken) (c .before .before .before .before .loop .inv .low))
 
 loop-less : tie.Need-loop-less Inv-loop μ-loop
-loop-less c = sizes.falls (c .before .before .before .before .loop-test .taken)
+loop-less c = falls (c .before .before .before .before .loop-test .taken)
 
 loop-again : tie.Need-loop-again Inv-loop μ-loop
-loop-again c = laws.along-next _ _ _ _ _ _ _ (c .before .before .before .before .before .loop .inv) (sizes.up (c .before .before .before .before .loop-test .taken)) (c .element .ensures)
+loop-again c = laws.along-next _ _ _ _ _ _ _ (c .before .before .before .before .before .loop .inv) (up (c .before .before .before .before .loop-test .taken)) (c .element .ensures)
 
 returns : tie.Need-returns Inv-loop μ-loop
 returns c = laws.along-all _ _ _ _ _ _ _ (c .before .loop .inv) (c .loop-test .left)

@@ -3,12 +3,12 @@
 use mathlib.Core.Path.{refl}
 use borrow.Author.Needs.{needs}
 use Rattle.dense.proofs.Laws as dense
-use Rattle.cov_back.proofs.Sizes as sizes
+use Rattle.laws.specs.Sizes.{square-most}
 use Rattle.cov_back.proofs.less_if_diffuse.Statement.{statement}
 use Rattle.cov_back.proofs.less_if_diffuse.Tie as tie
 
 load64-requires : tie.Need-load64-requires
-load64-requires c κs = sizes.square-most (c .before .before .pre .1) (c .before .before .pre .0)
+load64-requires c κs = square-most (c .before .before .pre .1) (c .before .before .pre .0)
 
 returns : tie.Need-returns
 returns c = λ n0. rw (c .before .before .before .before .if1 .taken, ← dense.loaded-rect (c .before .before .before .before .before .before .args .m) (c .before .before .before .before .before .before .args .m) _ _ (c .before .before .before .before .before .before .pre .1) (c .before .before .before .load64 .ensures)) (c .less-diffuse .ensures n0)

@@ -5,6 +5,7 @@ use native.Mathlib.Omega.{arith}
 use mathlib.Core.Path.{_≡_, refl}
 use Prim.Native.Nat.{_≤_, _*_, _-_, _+_}
 use lib.Ieee.{nan}
+use Rattle.laws.specs.Passes.{block-in}
 use Rattle.dense.proofs.Laws as laws
 
 abbrev Inv-loop : tie.InvT-loop
@@ -14,7 +15,7 @@ abbrev μ-loop : tie.MeasureT-loop
 μ-loop a₀ x i c j₀ a j = c - j
 
 fits : (s : tie.Start Inv-loop μ-loop) → s .args .i * s .args .c + s .args .c ≤ 64
-fits s = omega (arith, laws.room (s .args .i) 8 (s .args .c) (s .pre .0), s .pre .1)
+fits s = omega (arith, block-in (s .args .i) 8 (s .args .c) (s .pre .0), s .pre .1)
 
 loop-holds : tie.Need-loop-holds Inv-loop μ-loop
 loop-holds c = (omega arith, laws.row-none _ _ _ _ refl)

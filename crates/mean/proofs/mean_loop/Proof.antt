@@ -6,6 +6,8 @@ use Rattle.definition.specs.Inputs.{frameFrom}
 use Rattle.dense.specs.Views.{vec, mat}
 use Rattle.mean.specs.View.{meanIn}
 use Rattle.laws.specs.Flat.{flatIn}
+use Rattle.laws.specs.Sizes.{eight}
+use Rattle.laws.specs.Blocks as blocks
 use Rattle.mean.proofs.Sizes as sizes
 use Rattle.mean.proofs.Going as going
 use Rattle.mean.proofs.mean_loop.Statement.{statement}
@@ -26,77 +28,77 @@ design-requires : tie.Need-design-requires Inv-loop μ-loop
 design-requires c κs = c .before .before .before .before .before .before .before .before .before .before .before .before .before .before .pre .0 .design
 
 mul-from : tie.Need-mul-from Inv-loop μ-loop
-mul-from c = sizes.from-fits (c .before .before .before .before .before .before .before .before .before .before .before .before .before .before .before .pre .0 .n4096) (c .before .before .before .before .before .before .before .before .before .before .before .before .before .before .before .pre .0 .design .m8) (c .before .loop-test .taken)
+mul-from c = blocks.from-fits (blocks.early (c .before .before .before .before .before .before .before .before .before .before .before .before .before .before .before .pre .0 .n4096) (c .before .loop-test .taken)) (eight (c .before .before .before .before .before .before .before .before .before .before .before .before .before .before .before .pre .0 .design .m8))
 
 add-to : tie.Need-add-to Inv-loop μ-loop
-add-to c = sizes.to-fits (c .before .before .before .before .before .before .before .before .before .before .before .before .before .before .before .pre .0 .n4096) (c .before .before .before .before .before .before .before .before .before .before .before .before .before .before .before .pre .0 .design .m8) (c .before .loop-test .taken)
+add-to c = blocks.to-fits (blocks.early (c .before .before .before .before .before .before .before .before .before .before .before .before .before .before .before .pre .0 .n4096) (c .before .loop-test .taken)) (eight (c .before .before .before .before .before .before .before .before .before .before .before .before .before .before .before .pre .0 .design .m8))
 
 mul-start : tie.Need-mul-start Inv-loop μ-loop
-mul-start c = sizes.from-fits (c .before .before .before .before .before .before .before .before .before .before .before .before .before .before .before .pre .0 .n4096) (c .before .before .before .before .before .before .before .before .before .before .before .before .before .before .before .pre .0 .design .p8) (c .before .loop-test .taken)
+mul-start c = blocks.from-fits (blocks.early (c .before .before .before .before .before .before .before .before .before .before .before .before .before .before .before .pre .0 .n4096) (c .before .loop-test .taken)) (eight (c .before .before .before .before .before .before .before .before .before .before .before .before .before .before .before .pre .0 .design .p8))
 
 add-end : tie.Need-add-end Inv-loop μ-loop
-add-end c = sizes.to-fits (c .before .before .before .before .before .before .before .before .before .before .before .before .before .before .before .pre .0 .n4096) (c .before .before .before .before .before .before .before .before .before .before .before .before .before .before .before .pre .0 .design .p8) (c .before .loop-test .taken)
+add-end c = blocks.to-fits (blocks.early (c .before .before .before .before .before .before .before .before .before .before .before .before .before .before .before .pre .0 .n4096) (c .before .loop-test .taken)) (eight (c .before .before .before .before .before .before .before .before .before .before .before .before .before .before .before .pre .0 .design .p8))
 
 mul-mean-period : tie.Need-mul-mean-period Inv-loop μ-loop
-mul-mean-period c = sizes.bytes-fit (c .before .before .before .before .before .before .before .before .before .before .before .before .before .before .before .before .pre .0 .n4096) (c .before .before .before .before .before .before .before .before .before .before .before .before .before .before .before .before .pre .0 .design .m8) (c .before .before .loop-test .taken)
+mul-mean-period c = blocks.bytes-fit (blocks.early (c .before .before .before .before .before .before .before .before .before .before .before .before .before .before .before .before .pre .0 .n4096) (c .before .before .loop-test .taken)) (eight (c .before .before .before .before .before .before .before .before .before .before .before .before .before .before .before .before .pre .0 .design .m8))
 
 sub-mean-period : tie.Need-sub-mean-period Inv-loop μ-loop
-sub-mean-period c = sizes.ordered _ _
+sub-mean-period c = blocks.ordered _ _
 
 part-mean-period-start : tie.Need-part-mean-period-start Inv-loop μ-loop
-part-mean-period-start c = sizes.ordered _ _
+part-mean-period-start c = blocks.ordered _ _
 
 part-mean-period-end : tie.Need-part-mean-period-end Inv-loop μ-loop
-part-mean-period-end c = sizes.part-in (c .before .before .before .before .before .before .before .before .before .before .before .before .before .before .before .before .args .m) (c .before .before .loop-test .taken) (c .before .before .before .before .before .before .before .before .before .before .before .before .before .before .before .before .pre .1 .pm) (c .before .before .before .loop .inv .pm .0)
+part-mean-period-end c = blocks.part-in (c .before .before .before .before .before .before .before .before .before .before .before .before .before .before .before .before .args .m) (c .before .before .loop-test .taken) (c .before .before .before .before .before .before .before .before .before .before .before .before .before .before .before .before .pre .1 .pm) (c .before .before .before .loop .inv .pm .0)
 
 mul-mean-period-2 : tie.Need-mul-mean-period-2 Inv-loop μ-loop
-mul-mean-period-2 c = sizes.bytes-fit (c .before .before .before .before .before .before .before .before .before .before .before .before .before .before .before .before .before .pre .0 .n4096) (c .before .before .before .before .before .before .before .before .before .before .before .before .before .before .before .before .before .pre .0 .design .m8) (c .before .before .before .loop-test .taken)
+mul-mean-period-2 c = blocks.bytes-fit (blocks.early (c .before .before .before .before .before .before .before .before .before .before .before .before .before .before .before .before .before .pre .0 .n4096) (c .before .before .before .loop-test .taken)) (eight (c .before .before .before .before .before .before .before .before .before .before .before .before .before .before .before .before .before .pre .0 .design .m8))
 
 sub-mean-period-2 : tie.Need-sub-mean-period-2 Inv-loop μ-loop
-sub-mean-period-2 c = sizes.ordered _ _
+sub-mean-period-2 c = blocks.ordered _ _
 
 part-mean-period-start-2 : tie.Need-part-mean-period-start-2 Inv-loop μ-loop
-part-mean-period-start-2 c = sizes.ordered _ _
+part-mean-period-start-2 c = blocks.ordered _ _
 
 part-mean-period-end-2 : tie.Need-part-mean-period-end-2 Inv-loop μ-loop
-part-mean-period-end-2 c = sizes.part-in (c .before .before .before .before .before .before .before .before .before .before .before .before .before .before .before .before .before .args .m) (c .before .before .before .loop-test .taken) (c .before .before .before .before .before .before .before .before .before .before .before .before .before .before .before .before .before .pre .1 .fm) (c .before .before .before .before .loop .inv .fm .0)
+part-mean-period-end-2 c = blocks.part-in (c .before .before .before .before .before .before .before .before .before .before .before .before .before .before .before .before .before .args .m) (c .before .before .before .loop-test .taken) (c .before .before .before .before .before .before .before .before .before .before .before .before .before .before .before .before .before .pre .1 .fm) (c .before .before .before .before .loop .inv .fm .0)
 
 mul-mean-period-3 : tie.Need-mul-mean-period-3 Inv-loop μ-loop
-mul-mean-period-3 c = sizes.bytes-fit (c .before .before .before .before .before .before .before .before .before .before .before .before .before .before .before .before .before .before .pre .0 .n4096) (c .before .before .before .before .before .before .before .before .before .before .before .before .before .before .before .before .before .before .pre .0 .design .p8) (c .before .before .before .before .loop-test .taken)
+mul-mean-period-3 c = blocks.bytes-fit (blocks.early (c .before .before .before .before .before .before .before .before .before .before .before .before .before .before .before .before .before .before .pre .0 .n4096) (c .before .before .before .before .loop-test .taken)) (eight (c .before .before .before .before .before .before .before .before .before .before .before .before .before .before .before .before .before .before .pre .0 .design .p8))
 
 sub-mean-period-3 : tie.Need-sub-mean-period-3 Inv-loop μ-loop
-sub-mean-period-3 c = sizes.ordered _ _
+sub-mean-period-3 c = blocks.ordered _ _
 
 part-mean-period-start-3 : tie.Need-part-mean-period-start-3 Inv-loop μ-loop
-part-mean-period-start-3 c = sizes.ordered _ _
+part-mean-period-start-3 c = blocks.ordered _ _
 
 part-mean-period-end-3 : tie.Need-part-mean-period-end-3 Inv-loop μ-loop
-part-mean-period-end-3 c = sizes.part-in (c .before .before .before .before .before .before .before .before .before .before .before .before .before .before .before .before .before .before .args .p) (c .before .before .before .before .loop-test .taken) (c .before .before .before .before .before .before .before .before .before .before .before .before .before .before .before .before .before .before .pre .1 .vs) (c .before .before .before .before .before .loop .inv .vs .0)
+part-mean-period-end-3 c = blocks.part-in (c .before .before .before .before .before .before .before .before .before .before .before .before .before .before .before .before .before .before .args .p) (c .before .before .before .before .loop-test .taken) (c .before .before .before .before .before .before .before .before .before .before .before .before .before .before .before .before .before .before .pre .1 .vs) (c .before .before .before .before .before .loop .inv .vs .0)
 
 mean-period-requires : tie.Need-mean-period-requires Inv-loop μ-loop
 mean-period-requires c κs =
     let s = c .before .before .before .before .before .before .before .before .before .before .before .before .before .before .before .before .before .before .before in
     let g = c .before .before .before .before .before .before .loop .inv in
     let h = c .before .before .before .before .before .loop-test .taken in
-    let lp = block-long _ (s .args .m) _ (sizes.part-in (s .args .m) h (s .pre .1 .pm) (g .pm .0)) in
-    let lf = block-long _ (s .args .m) _ (sizes.part-in (s .args .m) h (s .pre .1 .fm) (g .fm .0)) in
-    let lv = block-long _ (s .args .p) _ (sizes.part-in (s .args .p) h (s .pre .1 .vs) (g .vs .0)) in
+    let lp = block-long _ (s .args .m) _ (blocks.part-in (s .args .m) h (s .pre .1 .pm) (g .pm .0)) in
+    let lf = block-long _ (s .args .m) _ (blocks.part-in (s .args .m) h (s .pre .1 .fm) (g .fm .0)) in
+    let lv = block-long _ (s .args .p) _ (blocks.part-in (s .args .p) h (s .pre .1 .vs) (g .vs .0)) in
     (lp, (lf, sizes.period-in (s .args .z .now) (s .args .zs .now) (s .pre .0) h (c .before .before .before .before .design .ensures) lv))
 
 add-t : tie.Need-add-t Inv-loop μ-loop
-add-t c = sizes.next-fits (c .before .before .before .before .before .before .before .before .before .before .before .before .before .before .before .before .before .before .before .before .before .before .before .before .before .before .pre .0 .n4096) (c .before .before .before .before .before .before .before .before .before .before .before .before .loop-test .taken)
+add-t c = blocks.next-fits (c .before .before .before .before .before .before .before .before .before .before .before .before .before .before .before .before .before .before .before .before .before .before .before .before .before .before .pre .0 .n4096) (c .before .before .before .before .before .before .before .before .before .before .before .before .loop-test .taken)
 
 loop-less : tie.Need-loop-less Inv-loop μ-loop
-loop-less c = sizes.falls _ _ (c .before .before .before .before .before .before .before .before .before .before .before .before .loop-test .taken)
+loop-less c = blocks.falls _ _ (c .before .before .before .before .before .before .before .before .before .before .before .before .loop-test .taken)
 
 loop-again : tie.Need-loop-again Inv-loop μ-loop
 loop-again c =
     let s = c .before .before .before .before .before .before .before .before .before .before .before .before .before .before .before .before .before .before .before .before .before .before .before .before .before .before in
     let g = c .before .before .before .before .before .before .before .before .before .before .before .before .before .loop .inv in
     let h = c .before .before .before .before .before .before .before .before .before .before .before .before .loop-test .taken in
-    let lp = block-long _ (s .args .m) _ (sizes.part-in (s .args .m) h (s .pre .1 .pm) (g .pm .0)) in
-    let lf = block-long _ (s .args .m) _ (sizes.part-in (s .args .m) h (s .pre .1 .fm) (g .fm .0)) in
-    let lv = block-long _ (s .args .p) _ (sizes.part-in (s .args .p) h (s .pre .1 .vs) (g .vs .0)) in
+    let lp = block-long _ (s .args .m) _ (blocks.part-in (s .args .m) h (s .pre .1 .pm) (g .pm .0)) in
+    let lf = block-long _ (s .args .m) _ (blocks.part-in (s .args .m) h (s .pre .1 .fm) (g .fm .0)) in
+    let lv = block-long _ (s .args .p) _ (blocks.part-in (s .args .p) h (s .pre .1 .vs) (g .vs .0)) in
     let w = c .before .before .before .before .before .before .mean-period in
     going.going-next _ _ _ _ _ _ _ _ _ _ _ g h (s .pre .1) (w .kept .1 .0 ∙ lp) (w .kept .1 .1 .0 ∙ lf) (w .kept .1 .1 .1 .0 ∙ lv)
     (going.framed (s .args .p) (s .args .m) _ (s .args .z .now) (s .args .zs .now) _ _ _ _ _ _ (c .before .before .before .before .before .before .before .before .before .before .before .design .ensures) (w .ensures))

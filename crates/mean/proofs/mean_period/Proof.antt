@@ -3,19 +3,20 @@
 use Rattle.dense.specs.Views.{vec, mat}
 use Rattle.mean.specs.View.{meanIn}
 use Rattle.laws.specs.Flat.{flatIn}
+use Rattle.laws.specs.Sizes.{at-most}
+use Rattle.dense.proofs.Laws.{saved-vec}
 use Rattle.mean.proofs.Laws as laws
-use Rattle.mean.proofs.Sizes as sizes
 use Rattle.mean.proofs.mean_period.Statement.{statement}
 use Rattle.mean.proofs.mean_period.Tie as tie
 
 save8-requires : tie.Need-save8-requires
-save8-requires c κs = sizes.at-most (c .before .before .before .before .before .before .before .before .before .before .before .before .before .pre .0) (c .before .before .before .before .before .before .before .before .before .before .before .before .before .pre .1 .1 .m8)
+save8-requires c κs = at-most (c .before .before .before .before .before .before .before .before .before .before .before .before .before .pre .0) (c .before .before .before .before .before .before .before .before .before .before .before .before .before .pre .1 .1 .m8)
 
 elements-requires : tie.Need-elements-requires
 elements-requires c κs = c .before .before .before .before .before .before .before .before .before .before .before .before .before .before .before .before .before .before .pre .1 .1
 
 save8-requires-2 : tie.Need-save8-requires-2
-save8-requires-2 c κs = sizes.at-most (c .before .before .before .before .before .before .before .before .before .before .before .before .before .before .before .before .before .before .before .before .before .before .before .pre .1 .0) (c .before .before .before .before .before .before .before .before .before .before .before .before .before .before .before .before .before .before .before .before .before .before .before .pre .1 .1 .m8)
+save8-requires-2 c κs = at-most (c .before .before .before .before .before .before .before .before .before .before .before .before .before .before .before .before .before .before .before .before .before .before .before .pre .1 .0) (c .before .before .before .before .before .before .before .before .before .before .before .before .before .before .before .before .before .before .before .before .before .before .before .pre .1 .1 .m8)
 
 mean-step-requires : tie.Need-mean-step-requires
 mean-step-requires c κs = c .before .before .before .before .before .before .before .before .before .before .before .before .before .before .before .before .before .before .before .before .before .before .before .before .before .before .before .pre .1 .1 .m8
@@ -50,9 +51,9 @@ returns c =
     _
     _
     _
-    (laws.saved _ _ (c .before .before .before .before .before .before .before .before .before .before .before .before .before .before .before .before .before .before .before .before .before .before .before .before .before .before .before .before .pre .0) (c .before .before .before .before .before .before .before .before .before .before .before .before .before .before .save8 .ensures))
+    (saved-vec _ (c .before .before .before .before .before .before .before .before .before .before .before .before .before .before .before .before .before .before .before .before .before .before .before .before .before .before .before .before .pre .0) (c .before .before .before .before .before .before .before .before .before .before .before .before .before .before .save8 .ensures))
     (c .before .before .before .before .before .before .before .before .before .elements .ensures)
-    (laws.saved _ _ (c .before .before .before .before .before .before .before .before .before .before .before .before .before .before .before .before .before .before .before .before .before .before .before .before .before .before .before .before .pre .1 .0) (c .before .before .before .before .save82 .ensures))
+    (saved-vec _ (c .before .before .before .before .before .before .before .before .before .before .before .before .before .before .before .before .before .before .before .before .before .before .before .before .before .before .before .before .pre .1 .0) (c .before .before .before .before .save82 .ensures))
     (c .mean-step .ensures)
 
 pub mean-period-spec : {M : Type 1} → statement M

@@ -7,7 +7,7 @@ use lib.ListN.{getD}
 use Rattle.definition.specs.Num.{_⊗_, sumTo}
 use Rattle.definition.specs.Dense.{dot, dotAt}
 use Rattle.dense.specs.Views.{vec}
-use Rattle.dense.proofs.Laws as sums
+use Rattle.laws.specs.Lists as sums
 use Rattle.mean.proofs.row_dot.Statement.{statement}
 use Rattle.mean.proofs.row_dot.Tie as tie
 

@@ -3,6 +3,7 @@
 use native.Mathlib.Omega.{arith}
 use Rattle.element_back.specs.View.{rsIn}
 use Rattle.laws.specs.Flat.{flatIn}
+use Rattle.laws.specs.Backward.{one-less}
 use Rattle.mean_back.proofs.Laws as laws
 use Rattle.mean_back.proofs.Sizes as sizes
 use Rattle.mean_back.proofs.elements_back.Statement.{statement}
@@ -28,7 +29,7 @@ add-back-element : tie.Need-add-back-element Inv-loop μ-loop
 add-back-element c = omega (arith, c .before .before .before .before .before .before .before .before .before .before .before .pre .news, c .before .before .before .loop .inv .low)
 
 back-element-requires : tie.Need-back-element-requires Inv-loop μ-loop
-back-element-requires c κs = sizes.element-in (c .before .before .before .before .before .before .before .before .before .before .before .pre) (sizes.one-less (c .before .before .loop-test .taken) (c .before .before .before .loop .inv .low))
+back-element-requires c κs = sizes.element-in (c .before .before .before .before .before .before .before .before .before .before .before .pre) (one-less (c .before .before .loop-test .taken) (c .before .before .before .loop .inv .low))
 
 loop-less : tie.Need-loop-less Inv-loop μ-loop
 loop-less c = omega (arith, c .before .before .before .loop-test .taken)

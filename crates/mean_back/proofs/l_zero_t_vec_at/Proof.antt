@@ -7,7 +7,7 @@ use Rattle.definition.specs.Num.{sumTo}
 use Rattle.definition.specs.Dense.{matTVecAt, matTVecTerm}
 use Rattle.definition.specs.Smooth.{lZero}
 use Rattle.dense.specs.Views.{vec}
-use Rattle.dense.proofs.Laws as sums
+use Rattle.laws.specs.Lists as sums
 use Rattle.mean_back.proofs.Laws as laws
 use Rattle.mean_back.proofs.l_zero_t_vec_at.Statement.{statement}
 use Rattle.mean_back.proofs.l_zero_t_vec_at.Tie as tie

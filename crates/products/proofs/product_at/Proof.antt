@@ -8,7 +8,7 @@ use Prim.Native.Nat.{_≤_, _-_}
 use Rattle.definition.specs.Num.{_⊗_, sumTo}
 use Rattle.definition.specs.Dense.{productAt, productTerm}
 use Rattle.dense.specs.Views.{rect}
-use Rattle.dense.proofs.Laws as laws
+use Rattle.laws.specs.Lists as sums
 
 abbrev Inv-loop : tie.InvT-loop
 Inv-loop a b r k c i j s₀ l₀ s l = (l ≤ k) × (s ≡ sumTo l (productTerm k c (rect r k a) (rect k c b) i j))
@@ -17,7 +17,7 @@ abbrev μ-loop : tie.MeasureT-loop
 μ-loop a b r k c i j s₀ l₀ s l = k - l
 
 loop-holds : tie.Need-loop-holds Inv-loop μ-loop
-loop-holds c = (omega arith, laws.sum-none _)
+loop-holds c = (omega arith, sums.sum-none _)
 
 loop-again : tie.Need-loop-again Inv-loop μ-loop
 unfolding productTerm
@@ -25,11 +25,11 @@ loop-again c =
     let l = c .before .before .before in
     let a = l .before .args in
     let v : c .before .cell .result ⊗ c .cell2 .result ≡ productTerm (a .k) (a .c) (rect (a .r) (a .k) (a .a .now)) (rect (a .k) (a .c) (a .b .now)) (a .i) (a .j) (l .loop .l) = cc in
-    (omega arith, laws.sum-next _ _ _ _ (l .loop .inv .1) v)
+    (omega arith, sums.sum-next _ _ _ _ (l .loop .inv .1) v)
 
 returns : tie.Need-returns Inv-loop μ-loop
 unfolding productAt
-returns c = laws.sum-end _ (c .before .loop .inv .1) (c .before .loop .inv .0) (c .loop-test .left)
+returns c = sums.sum-end _ (c .before .loop .inv .1) (c .before .loop .inv .0) (c .loop-test .left)
 
 pub product-at-spec : {M : Type 1} → statement M
 product-at-spec = tie.close (tie.spec Inv-loop μ-loop loop-holds (λ c κs. search needs) (λ c κs. search needs) (λ c. omega arith) (λ c. omega arith) loop-again returns)

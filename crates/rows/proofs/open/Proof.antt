@@ -5,7 +5,7 @@ use native.Mathlib.Omega.{arith}
 use borrow.Author.Needs.{needs}
 use Rattle.definition.specs.Num.{_⊗_, sumTo}
 use Rattle.rows.specs.Rows.{squareAt, openOf}
-use Rattle.rows.proofs.Laws.{sum-none, sum-next}
+use Rattle.laws.specs.Lists.{sum-none, sum-next}
 use Rattle.rows.proofs.open.Statement.{statement}
 use Rattle.rows.proofs.open.Tie as tie
 

@@ -7,7 +7,7 @@ use lib.ListN.{length, take}
 use Rattle.dense.proofs.Laws as laws
 use Rattle.dense.specs.Views.{mat}
 use Rattle.definition.specs.Star.{sub, subAt}
-use Rattle.laws.specs.Lists.{square-le}
+use Rattle.laws.specs.Sizes.{square-le}
 
 abbrev Inv-loop2 : tie.InvT-loop2
 Inv-loop2 pre m s k out₀ a b₀ out b = (b ≤ k) × (out ≡ laws.row (subAt m (take k s) (mat m pre) a) (a * k) b out₀)

@@ -9,7 +9,7 @@ use Rattle.dense.proofs.Laws as laws
 use Rattle.definition.specs.Num.{ent, _⊖_, _⊗_}
 use Rattle.dense.specs.Views.{vec, mat}
 use Rattle.definition.specs.Star.{leftOf, leftAt}
-use Rattle.laws.specs.Lists.{square-le}
+use Rattle.laws.specs.Sizes.{square-le}
 
 abbrev Inv-loop2 : tie.InvT-loop2
 Inv-loop2 a₀ col k i j₀ a j = (j ≤ k) × (a ≡ laws.row (leftAt k (mat k a₀) (vec k col) i) (i * k) j a₀)

@@ -3,7 +3,7 @@ use Rattle.star.proofs.w_at.Tie as tie
 use native.Mathlib.Omega.{arith}
 use mathlib.Core.Path.{_≡_}
 use Prim.Native.Nat.{_≤_, _-_}
-use Rattle.dense.proofs.Laws as laws
+use Rattle.laws.specs.Lists as sums
 use Rattle.definition.specs.Num.{_⊗_, sumTo}
 use Rattle.dense.specs.Views.{vec, rect}
 use Rattle.definition.specs.Star.{wAt, wTerm}
@@ -15,18 +15,18 @@ abbrev μ-loop : tie.MeasureT-loop
 μ-loop cols r k u a s₀ l₀ s l = r - l
 
 loop-holds : tie.Need-loop-holds Inv-loop μ-loop
-loop-holds c = (omega arith, laws.sum-none _)
+loop-holds c = (omega arith, sums.sum-none _)
 
 loop-again : tie.Need-loop-again Inv-loop μ-loop
 unfolding wTerm
 loop-again c =
     let a = c .before .before .before .before .args in
     let v : c .before .cell .result ⊗ c .nth .result ≡ wTerm (a .k) (rect (a .r) (a .k) (a .cols .now)) (vec (a .r) (a .u .now)) (a .a) (c .before .before .before .loop .l) = cc in
-    (omega arith, laws.sum-next _ _ _ _ (c .before .before .before .loop .inv .1) v)
+    (omega arith, sums.sum-next _ _ _ _ (c .before .before .before .loop .inv .1) v)
 
 returns : tie.Need-returns Inv-loop μ-loop
 unfolding wAt
-returns c = laws.sum-end _ (c .before .loop .inv .1) (c .before .loop .inv .0) (c .loop-test .left)
+returns c = sums.sum-end _ (c .before .loop .inv .1) (c .before .loop .inv .0) (c .loop-test .left)
 
 pub w-at-spec : {M : Type 1} → statement M
 w-at-spec = tie.close (tie.spec Inv-loop μ-loop loop-holds (λ c κs. omega arith) (λ c κs. omega arith) (λ c. omega arith) (λ c. omega arith) loop-again returns)
