@@ -4,3 +4,4 @@ pub mod Smooth
 pub mod Lists
 pub mod FilterList
 pub mod SmoothList
+pub mod ForC

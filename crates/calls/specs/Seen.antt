@@ -20,15 +20,12 @@ use Rattle.demands.specs.Unheard.{noPeriod}
 use Rattle.demands.specs.Totals as total
 use Rattle.demands.specs.Totals.{periodsOf}
 use Rattle.promise.specs.declared.Answer.{Answer}
+pub use Rattle.promise.specs.Calls.{refusalOf}
 use Rattle.promise.specs.Calls.{answerIn, answerBy, Promise}
 use Rattle.promise.specs.declared.Outcome.{Outcome}
 use Rattle.promise.specs.declared.Outcome.the-variants.{Refused, Answered}
 
--- ---- what comes back: the refusal's number, 0 for an answer; an answer's counts and log-likelihood
-
-abbrev pub refusalOf : Outcome → ℕ
-refusalOf (Refused k) = k
-refusalOf (Answered a) = 0
+-- ---- what comes back: the refusal's number, 0 for an answer (`refusalOf`); an answer's counts and log-likelihood
 
 abbrev pub countsOf : Outcome → Counts
 countsOf (Refused k) = record { dDiffuse = 0; heard = 0; news = 0 }

@@ -18,6 +18,11 @@ unfoldable pub answerBy : ℕ → Answer → Outcome
 answerBy zero a = Answered a
 answerBy (suc r) a = Refused (suc r)
 
+-- and back: the number, 0 for an answer
+abbrev pub refusalOf : Outcome → ℕ
+refusalOf (Refused k) = k
+refusalOf (Answered a) = 0
+
 -- u is the definition's outcome; r the call's answer, b and b′ the parts afterwards
 pub record Promise (u : CovOutcome × MeanOutcome) (r : Outcome) (b : CovParts) (b′ : MeanParts) : Type 0 where
   pub answer : r ≡ answerBy (u .0 .refused) (answerIn (u .0 .counts) (u .1 .loglik))

@@ -3,6 +3,9 @@
 // What is compared: the refusal, the answer's log-likelihood, d_diffuse, heard and news, then the outputs in order, from here on.
 pub const OUTPUTS: usize = 5;
 
+// And the list of records: of each its kind, v, F* and F∞, from here on.
+pub const LIST: usize = 18;
+
 pub struct Found {
     pub differs: bool,
     pub part: usize,
@@ -71,6 +74,17 @@ fn print_record(part: usize) {
     ;
 }
 
+fn print_listed(part: usize) {
+    io::write_all(1, b"the list's ");
+    match part {
+        18 => io::write_all(1, b"kind"),
+        19 => io::write_all(1, b"v"),
+        20 => io::write_all(1, b"f_star"),
+        _ => io::write_all(1, b"f_inf"),
+    }
+    ;
+}
+
 fn print_part(part: usize) {
     if part < OUTPUTS {
         return print_answer(part);
@@ -78,7 +92,10 @@ fn print_part(part: usize) {
     if part < 10 {
         return print_moment(part);
     }
-    print_record(part)
+    if part < LIST {
+        return print_record(part);
+    }
+    print_listed(part)
 }
 
 pub fn print(case: u64, f: Found) {

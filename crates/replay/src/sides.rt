@@ -1,8 +1,10 @@
-// A case's call, of the filter or of the smoother: patterned outputs are lent, the call is made, and all that it answers and leaves is compared.
+// A case's call, of the filter or of the smoother, with a list of records: patterned outputs are lent, the call is made, and all that it answers and leaves
+// is compared. The call makes the one without a list, so both are replayed.
 ghost use mathlib.Core.Path.{_≡_};
 ghost use Prim.Native.Nat.{_≤_, _<_, _+_};
 ghost use lib.ListN.{length};
 use crate::found::Found;
+use crate::found::LIST;
 use crate::found::OUTPUTS;
 use crate::found::compare;
 use crate::words::PATTERN;
@@ -13,6 +15,11 @@ use crate::words::size;
 use crate::words::stretch;
 use crate::words::wide;
 use crate::words::word;
+use goxundar::Kind;
+use goxundar::Outcome;
+use goxundar::Record;
+use promise::DIFFUSE;
+use promise::FlatRecord;
 
 // Input j, as a part of the case's doubles.
 fn input<'a>(numbers: &'a [f64], case: &[u8], j: usize) -> &'a [f64]
@@ -39,11 +46,11 @@ fn flags<'a>(low: &'a [u8], case: &[u8]) -> &'a [u8] {
 }
 
 // The answer against the case's: words 33 to 36.
-fn answer(case: &[u8], o: promise::Outcome, refusal: u64) -> Found {
+fn answer(case: &[u8], o: Outcome, refusal: u64) -> Found {
     let f = crate::found::nothing();
     match o {
-        promise::Outcome::Refused(k) => compare(f, 0, 0, refusal, k as u64),
-        promise::Outcome::Answered(a) => {
+        Outcome::Refused(k) => compare(f, 0, 0, refusal, k as u64),
+        Outcome::Answered(a) => {
             let f = compare(f, 0, 0, refusal, 0);
             let f = compare(f, 1, 0, word(case, 33), bits::pattern(a.loglik));
             let f = compare(f, 2, 0, word(case, 34), a.d_diffuse as u64);
@@ -141,6 +148,44 @@ fn records(
     output(f, m_inf, case, 10, refusal)
 }
 
+// The record at place i of the list against the case's flat ones.
+fn record_at(
+    f: Found,
+    r: FlatRecord,
+    case: &[u8],
+    kinds: Span,
+    v: Span,
+    f_star: Span,
+    f_inf: Span,
+    i: usize,
+    refusal: u64,
+) -> Found
+    requires { ⌜ (kinds .from ≤ 8192) × (v .from ≤ 8192) × («f_star» .from ≤ 8192) × («f_inf» .from ≤ 8192) × (i < 1024) ⌝ }
+{
+    let kind = wanted(case, kinds, i, wide(DIFFUSE), refusal);
+    let told = wanted(case, v, i, PATTERN, refusal);
+    let star = wanted(case, f_star, i, PATTERN, refusal);
+    let inf = wanted(case, f_inf, i, PATTERN, refusal);
+    let f = compare(f, LIST, i, kind, wide(r.kind));
+    let f = compare(f, LIST + 1, i, told, bits::pattern(r.v));
+    let f = compare(f, LIST + 2, i, star, bits::pattern(r.f_star));
+    compare(f, LIST + 3, i, inf, bits::pattern(r.f_inf))
+}
+
+// The list of records: every place.
+fn list_output(f: Found, list: [Record; 1024], case: &[u8], refusal: u64) -> Found {
+    let kinds = stretch(case, 17);
+    let v = stretch(case, 18);
+    let f_star = stretch(case, 19);
+    let f_inf = stretch(case, 20);
+    let mut f = f;
+    for i in 0..1024 {
+        let r = record::to_flat(list[i]);
+        f = record_at(f, r, case, kinds, v, f_star, f_inf, i, refusal);
+    }
+    f
+}
+
 // The two that the smoother's call alone sees.
 fn smoothed_outputs(
     f: Found,
@@ -167,8 +212,15 @@ fn patterned_bytes() -> [u8; 1024]
     [0xA5; 1024]
 }
 
+fn patterned_records() -> [Record; 1024] {
+    let x = bits::double(PATTERN);
+    [Record {
+        kind: Kind::Diffuse(x, x, x),
+    }; 1024]
+}
+
 // The first difference of the filter's call. Word 31 has its refusal.
-pub fn filtered(case: &[u8], numbers: &[f64], low: &[u8]) -> Found {
+pub fn filtered<'a>(case: &[u8], numbers: &'a [f64], low: &'a [u8]) -> Found {
     let mut pred_mean = patterned();
     let mut pred_cov = patterned();
     let mut pred_inf = patterned();
@@ -191,7 +243,7 @@ pub fn filtered(case: &[u8], numbers: &[f64], low: &[u8]) -> Found {
     let l8 = lent(case, 8);
     let l9 = lent(case, 9);
     let l10 = lent(case, 10);
-    let o = filter::filter_univariate(
+    let x = record_lists::filter(
         size(case, 2),
         size(case, 3),
         size(case, 4),
@@ -219,7 +271,10 @@ pub fn filtered(case: &[u8], numbers: &[f64], low: &[u8]) -> Found {
         &mut f_inf[..l8],
         &mut m_star[..l9],
         &mut m_inf[..l10],
+        patterned_records(),
     );
+    let o = x.outcome;
+    let list = x.records;
     let refusal = word(case, 31);
     let f = answer(case, o, refusal);
     let f = moments(
@@ -232,7 +287,7 @@ pub fn filtered(case: &[u8], numbers: &[f64], low: &[u8]) -> Found {
         &filt_cov,
         refusal,
     );
-    records(
+    let f = records(
         f,
         case,
         &kinds,
@@ -242,11 +297,12 @@ pub fn filtered(case: &[u8], numbers: &[f64], low: &[u8]) -> Found {
         &m_star,
         &m_inf,
         refusal,
-    )
+    );
+    list_output(f, list, case, refusal)
 }
 
 // The first difference of the smoother's call. Word 32 has its refusal.
-pub fn smoothed(case: &[u8], numbers: &[f64], low: &[u8]) -> Found {
+pub fn smoothed<'a>(case: &[u8], numbers: &'a [f64], low: &'a [u8]) -> Found {
     let mut pred_mean = patterned();
     let mut pred_cov = patterned();
     let mut pred_inf = patterned();
@@ -273,7 +329,7 @@ pub fn smoothed(case: &[u8], numbers: &[f64], low: &[u8]) -> Found {
     let l10 = lent(case, 10);
     let l11 = lent(case, 11);
     let l12 = lent(case, 12);
-    let o = smoother::smooth_univariate(
+    let x = record_lists::smooth(
         size(case, 2),
         size(case, 3),
         size(case, 4),
@@ -303,7 +359,10 @@ pub fn smoothed(case: &[u8], numbers: &[f64], low: &[u8]) -> Found {
         &mut m_inf[..l10],
         &mut sm_mean[..l11],
         &mut sm_cov[..l12],
+        patterned_records(),
     );
+    let o = x.outcome;
+    let list = x.records;
     let refusal = word(case, 32);
     let f = answer(case, o, refusal);
     let f = moments(
@@ -327,5 +386,6 @@ pub fn smoothed(case: &[u8], numbers: &[f64], low: &[u8]) -> Found {
         &m_inf,
         refusal,
     );
-    smoothed_outputs(f, case, &sm_mean, &sm_cov, refusal)
+    let f = smoothed_outputs(f, case, &sm_mean, &sm_cov, refusal);
+    list_output(f, list, case, refusal)
 }

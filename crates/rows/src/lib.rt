@@ -29,9 +29,6 @@ pub const FIRST_NEWS: u8 = 2;
 
 pub const PASSED_OVER: u8 = 3;
 
-// The library's test for a diffuse period.
-const DIFFUSE: f64 = 1e-10;
-
 pub fn rows() -> [f64; 32768]
     ensures { λ r. ⌜ 32768 ≡ length r ⌝ }
 {
@@ -104,8 +101,8 @@ fn fate(kind: u8, reading: f64) -> u8
     ensures { λ r. ⌜ r ≡ fateOf kind reading ⌝ }
 {
     match kind {
-        1 => TAKEN,
-        2 => FIRST_NEWS,
+        promise::USUAL => TAKEN,
+        promise::DIFFUSE => FIRST_NEWS,
         _ => if float::is_nan(reading) {
             NO_CHECK
         } else {
@@ -124,7 +121,7 @@ fn open(pred_inf: &[f64], k: usize) -> bool
         let x = at(pred_inf, 9 * k + i);
         sum = sum + x * x;
     }
-    sum > DIFFUSE
+    sum > acceptance::TOLERANCE_RANK
 }
 
 // Whether the offset has no bound after period t. A check that is first news bounds it.

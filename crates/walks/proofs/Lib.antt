@@ -1,4 +1,5 @@
 pub mod Again
+pub mod Arrays
 pub mod Lent
 pub mod Locals
 pub mod Pieces

@@ -1,7 +1,7 @@
 -- Made from Proof.tpl by tools/expand: edit that.
--- `goxundar::goxundar_smooth` meets its contract. Assumes nothing.
-use Rattle.goxundar.proofs.goxundar_smooth.Statement.{statement}
-use Rattle.goxundar.proofs.goxundar_smooth.Tie as tie
+-- `c_smooth::goxundar_smooth` meets its contract. Assumes nothing.
+use Rattle.c_smooth.proofs.goxundar_smooth.Statement.{statement}
+use Rattle.c_smooth.proofs.goxundar_smooth.Tie as tie
 
 same-length : tie.Need-same-length
 same-length c = c .before .before .before .before .before .before .before .before .before .before .before .before .before .before .before .before .before .before .before .before .before .before .before .before .before .before .before .before .before .before .before .smooth-univariate .kept .1 .1 .1 .1 .1 .1 .1 .1 .1 .1 .1 .1 .1 .1 .1 .1 .0

@@ -1,7 +1,7 @@
 -- Made from Proof.tpl by tools/expand: edit that.
--- `goxundar::goxundar_filter` meets its contract. Assumes nothing.
-use Rattle.goxundar.proofs.goxundar_filter.Statement.{statement}
-use Rattle.goxundar.proofs.goxundar_filter.Tie as tie
+-- `c_filter::goxundar_filter` meets its contract. Assumes nothing.
+use Rattle.c_filter.proofs.goxundar_filter.Statement.{statement}
+use Rattle.c_filter.proofs.goxundar_filter.Tie as tie
 
 same-length : tie.Need-same-length
 same-length c = c .before .before .before .before .before .before .before .before .before .before .before .before .before .before .before .before .before .before .before .before .before .before .before .before .before .before .before .filter-univariate .kept .1 .1 .1 .1 .1 .1 .1 .1 .1 .1 .1 .1 .1 .1 .1 .1 .0

@@ -1,4 +1,4 @@
--- `goxundar::tell` meets its contract. Assumes nothing.
+-- `c_answer::tell` meets its contract. Assumes nothing.
 use Prim.Native.Nat.{ℕ}
 use mathlib.Core.Path.{_≡_, refl, sym, subst}
 use Rattle.promise.specs.declared.Answer.{Answer}
@@ -6,8 +6,8 @@ use Rattle.promise.specs.declared.Outcome.{Outcome}
 use Rattle.promise.specs.declared.Outcome.the-variants.{Refused, Answered}
 use Rattle.promise.specs.Exported.{Places, places, Told}
 use borrow.Author.Needs.{needs}
-use Rattle.goxundar.proofs.tell.Statement.{statement}
-use Rattle.goxundar.proofs.tell.Tie as tie
+use Rattle.c_answer.proofs.tell.Statement.{statement}
+use Rattle.c_answer.proofs.tell.Tie as tie
 
 told-refused : (o : Outcome) (k : ℕ) (old : Places) → o ≡ Refused k → Told o k old old
 told-refused o k old e = subst (λ (x : Outcome). Told x k old old) (sym e) (record { number = refl; answer = refl })
