@@ -1,12 +1,12 @@
 // The library, under a caller's names, from Rattle. None of its calls asks anything of its caller. For C they stand in crates/c_filter and crates/c_smooth.
 
 // The filter's call and the smoother's, as crates/filter and crates/smoother have them: refused with its number, or answered. And both with a list
-// of records lent too, as crates/records has them.
+// of records lent too, as crates/records and crates/records_smooth have them.
 pub use filter::filter_univariate as filter;
 pub use promise::Answer;
 pub use promise::Kind;
 pub use promise::Outcome;
 pub use promise::Record;
 pub use records::filter_records;
-pub use records::smooth_records;
+pub use records_smooth::smooth_records;
 pub use smoother::smooth_univariate as smooth;

@@ -47,10 +47,10 @@ use Rattle.promise.proofs.Outcome.Laws as O′
 use Rattle.promise.proofs.Record as T
 use Rattle.promise.proofs.Record.Laws as T′
 use Rattle.records.proofs.Both.{times, in-order}
-use Rattle.records.proofs.smooth_records as rec
-use Rattle.records.proofs.smooth_records.Symbol as rec-def
-use Rattle.records.proofs.smooth_records.Symbol.{name as #rec}
-use Rattle.records.proofs.smooth_records.Met as rec-thm
+use Rattle.records_smooth.proofs.smooth_records as rec
+use Rattle.records_smooth.proofs.smooth_records.Symbol as rec-def
+use Rattle.records_smooth.proofs.smooth_records.Symbol.{name as #rec}
+use Rattle.records_smooth.proofs.smooth_records.Met as rec-thm
 use Rattle.record_lists.specs.declared.Listed.{Listed}
 use Rattle.record_lists.proofs.Listed as L
 use Rattle.record_lists.proofs.Listed.Laws as L′
@@ -187,4 +187,4 @@ smooth-spec 𝓤 H 𝓜 𝓖 𝓡 =
     entered 𝓤 H (tripleOf 𝓤 H (𝓖 .A) f.signature (f.spec 𝓤 H (𝓖 .A) (𝓜 .mem) (𝓡 .run)))
     (tables 𝓤 H 𝓜 𝓡 code.env .C) (tables 𝓤 H 𝓜 𝓡 code.env .Λ) #own code.function (code.unfolded 𝓤 H 𝓜 𝓡)
     (meets 𝓤 H (𝓖 .A) (givenOf 𝓤 H 𝓜 𝓖) (𝓜 .mem) (𝓡 .run) (tablesOf 𝓤 H 𝓜 (tables 𝓤 H 𝓜 𝓡 code.env))
-    (cited 𝓤 H (Rec 𝓤 H (𝓖 .A) (𝓜 .mem) (𝓡 .run)) 𝓜 𝓡 code.env #rec rec-def.routine code.calls-records·smooth-records (rec-thm.met 𝓤 H 𝓜 𝓖 𝓡)))
+    (cited 𝓤 H (Rec 𝓤 H (𝓖 .A) (𝓜 .mem) (𝓡 .run)) 𝓜 𝓡 code.env #rec rec-def.routine code.calls-records-smooth·smooth-records (rec-thm.met 𝓤 H 𝓜 𝓖 𝓡)))

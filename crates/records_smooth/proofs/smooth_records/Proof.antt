@@ -1,4 +1,4 @@
--- `records::smooth_records` meets its contract: a walk of its MIR, by hand, since it takes a list of structs. Both.antt has what it shares with the other walk,
+-- `records_smooth::smooth_records` meets its contract: a walk of its MIR, by hand, since it takes a list of structs. Both.antt has what it shares with the other walk,
 -- Four.antt the four parts that are read again, and the calls of `to_tell` and `fill`. Assumes nothing.
 use mathlib.Core.Path.{_≡_, refl, sym, ap, subst}
 use Prim.Native.Nat.{ℕ}
@@ -48,25 +48,25 @@ use Rattle.promise.specs.declared.Record.{Record}
 use Rattle.promise.proofs.Record as T
 use Rattle.walks.proofs.Locals.{local, sets, reads, reborrows, enters, leaves}
 use Rattle.promise.specs.WithRecords.{smoothOutcomeWithRecords, WithRecordsSmooth}
 use Rattle.records.proofs.Both as both
 use Rattle.records.proofs.Both.{Params, Left, times, in-order}
 use Rattle.records.proofs.Four as four
 use Rattle.records.proofs.Four.{Row, Names, Tell, Fill}
 use Rattle.records.proofs.Told.{listed-smooth-so}
-use Rattle.records.proofs.flat_smooth as flat
-use Rattle.records.proofs.flat_smooth.Symbol as flat-def
-use Rattle.records.proofs.flat_smooth.Symbol.{name as #flat}
-use Rattle.records.proofs.flat_smooth.Met as flat-thm
+use Rattle.records_smooth.proofs.flat_smooth as flat
+use Rattle.records_smooth.proofs.flat_smooth.Symbol as flat-def
+use Rattle.records_smooth.proofs.flat_smooth.Symbol.{name as #flat}
+use Rattle.records_smooth.proofs.flat_smooth.Met as flat-thm
 use Rattle.records.proofs.to_tell.Symbol as tell-def
 use Rattle.records.proofs.to_tell.Symbol.{name as #tell}
 use Rattle.records.proofs.to_tell.Met as tell-thm
 use Rattle.record.proofs.fill.Symbol as fill-def
 use Rattle.record.proofs.fill.Symbol.{name as #fill}
 use Rattle.record.proofs.fill.Met as fill-thm
-use Rattle.records.proofs.smooth_records.Key.{name as #own}
-use Rattle.records.proofs.smooth_records as f
-use Rattle.records.proofs.smooth_records.Statement as stated
-use Rattle.records.proofs.smooth_records.Code as code
+use Rattle.records_smooth.proofs.smooth_records.Key.{name as #own}
+use Rattle.records_smooth.proofs.smooth_records as f
+use Rattle.records_smooth.proofs.smooth_records.Statement as stated
+use Rattle.records_smooth.proofs.smooth_records.Code as code
 
 -- what is had of each parameter at the end: nothing of the numbers and inputs; the four, still; of the other outputs and the list what says their last lists
 abbrev stayed : Stays (f.ended .signature .params) (f.ended .kept)
@@ -200,6 +200,6 @@ smooth-records-spec 𝓤 H 𝓜 𝓖 𝓡 =
     entered 𝓤 H (tripleOf 𝓤 H (𝓖 .A) f.signature (f.spec 𝓤 H (𝓖 .A) (𝓜 .mem) (𝓡 .run)))
     (tables 𝓤 H 𝓜 𝓡 code.env .C) (tables 𝓤 H 𝓜 𝓡 code.env .Λ) #own code.function (code.unfolded 𝓤 H 𝓜 𝓡)
     (meets 𝓤 H (𝓖 .A) (givenOf 𝓤 H 𝓜 𝓖) (𝓜 .mem) (𝓡 .run) (tablesOf 𝓤 H 𝓜 (tables 𝓤 H 𝓜 𝓡 code.env))
-    (cited 𝓤 H (Flat 𝓤 H (𝓖 .A) (𝓜 .mem) (𝓡 .run)) 𝓜 𝓡 code.env #flat flat-def.routine code.calls-records·flat-smooth (flat-thm.met 𝓤 H 𝓜 𝓖 𝓡))
+    (cited 𝓤 H (Flat 𝓤 H (𝓖 .A) (𝓜 .mem) (𝓡 .run)) 𝓜 𝓡 code.env #flat flat-def.routine code.calls-records-smooth·flat-smooth (flat-thm.met 𝓤 H 𝓜 𝓖 𝓡))
     (cited 𝓤 H (Tell 𝓤 H (𝓖 .A) (𝓜 .mem) (𝓡 .run)) 𝓜 𝓡 code.env #tell tell-def.routine code.calls-records·to-tell (tell-thm.met 𝓤 H 𝓜 𝓖 𝓡))
     (cited 𝓤 H (Fill 𝓤 H (𝓖 .A) (𝓜 .mem) (𝓡 .run)) 𝓜 𝓡 code.env #fill fill-def.routine code.calls-record·fill (fill-thm.met 𝓤 H 𝓜 𝓖 𝓡)))
