@@ -11,6 +11,11 @@ pub mod Inputs
 pub mod Refusals
 pub mod Parts
 pub mod Outcome
+pub mod Carried
+pub mod Saved
+pub mod Stretch
 pub mod Computed
+pub mod SavedExample
+pub mod Resumed
 pub mod Edges
 pub mod Tracks

@@ -155,12 +155,12 @@ module _ (x : Model) where
   ending o ks room =
       endingOf (refusal x o (length ks) (anyOf isInfinity ks) room) (noInformation (countsOf (covOf x ks .0) ks))
 
-  unfoldable pub covOutcome : Ending → List Class → CovParts → CovOutcome
-  covOutcome f ks b =
-      let r = covOf x ks in
+  -- of a run r, of the counts l
+  abbrev pub covEnded : Ending → List CovPeriod × Cov → Counts → CovParts → CovOutcome
+  covEnded f r l b =
       record {
         refused = numberOf f;
-        counts = countsIn f (countsOf (r .0) ks);
+        counts = countsIn f l;
         parts =
             record {
               kinds = after f (kindsWritten r) (replicate (kindsNeed x) 0) (b .kinds);
@@ -168,10 +168,15 @@ module _ (x : Model) where
             };
       }
 
-  unfoldable pub meanOutcome : Ending → Offsets → List Class → List Float → MeanParts → MeanOutcome
-  meanOutcome f o ks y b =
-      let r = meanOf x o (covOf x ks .0) y in
+  abbrev pub meanEnded : Ending → List MeanPeriod × Mean → MeanParts → MeanOutcome
+  meanEnded f r b =
       record { loglik = loglikIn f (r .1 .loglik); parts = λ q. after f (meanWritten r q) (zeros (meanNeed x q)) (b q) }
+
+  unfoldable pub covOutcome : Ending → List Class → CovParts → CovOutcome
+  covOutcome f ks b = let r = covOf x ks in covEnded f r (countsOf (r .0) ks) b
+
+  unfoldable pub meanOutcome : Ending → Offsets → List Class → List Float → MeanParts → MeanOutcome
+  meanOutcome f o ks y b = meanEnded f (meanOf x o (covOf x ks .0) y) b
 
   -- the filter's call
   unfoldable pub outcomeAt : Offsets → List Class → List Float → CovParts → MeanParts → CovOutcome × MeanOutcome

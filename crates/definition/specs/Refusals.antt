@@ -137,10 +137,14 @@ ofReadings infinity = (9, infinity) ∷ []
 abbrev pub ofStep : Model → List (ℕ × Bool)
 ofStep x = (10, mixedDriven (x .m) (x .t) (x .flags)) ∷ (11, notFinite (noise x)) ∷ []
 
--- The filter's call and the smoother's. Of the readings: how many there are, and whether one is infinite; `room` as above.
+-- 2 to 11: all that the calls share but the sizes. Of the readings: how many there are, and whether one is infinite; `room` as above.
+abbrev pub ofInputs : Model → Offsets → ℕ → Bool → Bool → List (ℕ × Bool)
+ofInputs x o readings infinity room =
+    ofLengths x o readings room ++ ofSystem x ++ ofStart x o ++ ofH x ++ ofReadings infinity ++ ofStep x
+
+-- The filter's call and the smoother's.
 unfoldable pub tests : Model → Offsets → ℕ → Bool → Bool → List (ℕ × Bool)
-tests x o readings infinity room =
-    ofSizes x ++ ofLengths x o readings room ++ ofSystem x ++ ofStart x o ++ ofH x ++ ofReadings infinity ++ ofStep x
+tests x o readings infinity room = ofSizes x ++ ofInputs x o readings infinity room
 
 unfoldable pub refusal : Model → Offsets → ℕ → Bool → Bool → ℕ
 refusal x o readings infinity room = firstOf (tests x o readings infinity room)

@@ -1,9 +1,10 @@
 -- A call as the oracle's small cases have it (oracle/FORMAT.md), and the rows that hold the definition to it: the filter's call and the smoother's.
+-- `StretchCall` has a stretch's call over the same.
 -- Doubles are their bits. Every lent output is filled with a pattern first, so that what a call leaves alone shows.
 use Prim.Native.Nat.{ℕ, zero, suc, _-_}
 use mathlib.Core.List.{List, [], _∷_, _++_, map}
-use mathlib.Core.Bool.{Bool, cond, _&&_}
-use lib.Dec.{ltb}
+use mathlib.Core.Bool.{Bool, false, _||_, cond}
+use lib.Dec.{eqb}
 use lib.ListN.{length, replicate}
 use lib.Ieee.{Float, binary64, ofBits, toBits}
 use Rattle.definition.specs.Inputs.{Model, Offsets}
@@ -15,7 +16,7 @@ pub record Lent : Type 0 where
   pub long : ℕ
   pub written : List ℕ
 
--- the answers: a refusal's number alone, or 0 with log-likelihood, d_diffuse, heard and news
+-- what every call has: the inputs, and eleven outputs
 pub record Call : Type 0 where
   pub p : ℕ
   pub m : ℕ
@@ -33,8 +34,6 @@ pub record Call : Type 0 where
   pub p-star : List ℕ
   pub flags : List ℕ
   pub y : List ℕ
-  pub filter : List ℕ
-  pub smooth : List ℕ
   pub pred-mean : Lent
   pub pred-cov : Lent
   pub pred-inf : Lent
@@ -46,15 +45,21 @@ pub record Call : Type 0 where
   pub f-inf : Lent
   pub m-star : Lent
   pub m-inf : Lent
+
+-- a case, through both calls. An answer is a refusal's number alone, or 0 with log-likelihood, d_diffuse, heard and news
+pub record Case : Type 0 where
+  pub call : Call
+  pub filter : List ℕ
+  pub smooth : List ℕ
   pub sm-mean : Lent
   pub sm-cov : Lent
 
 -- ---- the definition's call
 
-abbrev doubles : List ℕ → List Float
+abbrev pub doubles : List ℕ → List Float
 doubles a = map (ofBits binary64) a
 
-abbrev modelOf : Call → Model
+abbrev pub modelOf : Call → Model
 modelOf k =
     record {
       p = k .p;
@@ -71,7 +76,7 @@ modelOf k =
       pStar = doubles (k .p-star);
     }
 
-abbrev offsetsOf : Call → Offsets
+abbrev pub offsetsOf : Call → Offsets
 offsetsOf k = record { c = doubles (k .c); d = doubles (k .d); a1 = doubles (k .a1) }
 
 -- the parts by their names
@@ -93,16 +98,16 @@ mean k innovations = k .v
 abbrev fill : ℕ
 fill = 0xa5a5a5a5a5a5a5a5
 
-abbrev kindFill : ℕ
+abbrev pub kindFill : ℕ
 kindFill = 0xa5
 
 abbrev filled : Lent → List Float
 filled l = replicate (l .long) (ofBits binary64 fill)
 
-abbrev covParts : Call → CovParts
+abbrev pub covParts : Call → CovParts
 covParts k = record { kinds = replicate (k .kinds .long) kindFill; part = λ q. filled (cov k q) }
 
-abbrev meanParts : Call → MeanParts
+abbrev pub meanParts : Call → MeanParts
 meanParts k = λ q. filled (mean k q)
 
 -- ---- what it gives, and what the oracle says
@@ -111,44 +116,46 @@ abbrev answerBy : ℕ → Float → CovOutcome → List ℕ
 answerBy zero l c = 0 ∷ toBits binary64 l ∷ c .counts .dDiffuse ∷ c .counts .heard ∷ c .counts .news ∷ []
 answerBy (suc k) l c = suc k ∷ []
 
-abbrev answerOf : CovOutcome → MeanOutcome → List ℕ
+abbrev pub answerOf : CovOutcome → MeanOutcome → List ℕ
 answerOf c s = answerBy (c .refused) (s .loglik) c
 
 abbrev bits : List Float → List ℕ
 bits a = map (toBits binary64) a
 
--- a call refused 1 to 11 writes nothing
-abbrev writes : List ℕ → Bool
-writes [] = ltb 0 0
-writes (k ∷ ks) = cond (ltb 0 k && ltb k 12) (ltb 1 0) (ltb 0 1)
+-- a call that is refused writes nothing, but for refusal 12
+abbrev pub writes : List ℕ → Bool
+writes [] = false
+writes (k ∷ ks) = eqb k 0 || eqb k 12
 
-abbrev left : Bool → ℕ → Lent → List ℕ
+abbrev pub left : Bool → ℕ → Lent → List ℕ
 left wrote pattern l = let w = cond wrote (l .written) [] in w ++ replicate (l .long - length w) pattern
 
 -- the row of a call: its answer, then each output as it is afterwards
-abbrev covRows : Bool → Call → CovOutcome → List (List ℕ × List ℕ)
+abbrev pub covRows : Bool → Call → CovOutcome → List (List ℕ × List ℕ)
 covRows wrote k c =
     (c .parts .kinds, left wrote kindFill (k .kinds))
     ∷ map (λ q. (bits (c .parts .part q), left wrote fill (cov k q))) (predCov ∷ predInf ∷ filtCov ∷ fStar ∷ fInf ∷ mStar ∷ mInf ∷ [])
 
-abbrev meanRows : Bool → Call → MeanOutcome → List (List ℕ × List ℕ)
+abbrev pub meanRows : Bool → Call → MeanOutcome → List (List ℕ × List ℕ)
 meanRows wrote k s = map (λ q. (bits (s .parts q), left wrote fill (mean k q))) (predMean ∷ filtMean ∷ innovations ∷ [])
 
-abbrev filterRows : Call → List (List ℕ × List ℕ)
-filterRows k =
-    let e = outcome (modelOf k) (offsetsOf k) (doubles (k .y)) (covParts k) (meanParts k) in
-    let wrote = writes (k .filter) in
-    (answerOf (e .0) (e .1), k .filter) ∷ covRows wrote k (e .0) ++ meanRows wrote k (e .1)
+abbrev filterRows : Case → List (List ℕ × List ℕ)
+filterRows e =
+    let k = e .call in
+    let o = outcome (modelOf k) (offsetsOf k) (doubles (k .y)) (covParts k) (meanParts k) in
+    let wrote = writes (e .filter) in
+    (answerOf (o .0) (o .1), e .filter) ∷ covRows wrote k (o .0) ++ meanRows wrote k (o .1)
 
-abbrev smoothRows : Call → List (List ℕ × List ℕ)
-smoothRows k =
-    let e = smoothOutcome (modelOf k) (offsetsOf k) (doubles (k .y)) (covParts k) (meanParts k) (filled (k .sm-mean)) (filled (k .sm-cov)) in
-    let wrote = writes (k .smooth) in
-    (answerOf (e .0 .filter) (e .1 .filter), k .smooth)
-    ∷ (bits (e .0 .smoothed), left wrote fill (k .sm-cov))
-    ∷ (bits (e .1 .smoothed), left wrote fill (k .sm-mean))
-    ∷ covRows wrote k (e .0 .filter) ++ meanRows wrote k (e .1 .filter)
+abbrev smoothRows : Case → List (List ℕ × List ℕ)
+smoothRows e =
+    let k = e .call in
+    let o = smoothOutcome (modelOf k) (offsetsOf k) (doubles (k .y)) (covParts k) (meanParts k) (filled (e .sm-mean)) (filled (e .sm-cov)) in
+    let wrote = writes (e .smooth) in
+    (answerOf (o .0 .filter) (o .1 .filter), e .smooth)
+    ∷ (bits (o .0 .smoothed), left wrote fill (e .sm-cov))
+    ∷ (bits (o .1 .smoothed), left wrote fill (e .sm-mean))
+    ∷ covRows wrote k (o .0 .filter) ++ meanRows wrote k (o .1 .filter)
 
-abbrev pub agreed : List Call → List (List ℕ × List ℕ)
+abbrev pub agreed : List Case → List (List ℕ × List ℕ)
 agreed [] = []
-agreed (k ∷ ks) = filterRows k ++ (smoothRows k ++ agreed ks)
+agreed (e ∷ es) = filterRows e ++ (smoothRows e ++ agreed es)

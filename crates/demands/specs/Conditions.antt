@@ -145,10 +145,13 @@ OfStep x = (10, MixedDriven x) ∷ (11, NonFiniteNoise x) ∷ []
 abbrev pub OfRun : Model → List Float → List (ℕ × Type 0)
 OfRun x y = (12, NoInformation x y) ∷ []
 
+-- 2 to 11, which the calls share
+abbrev pub OfInputs : Model → Offsets → List Float → Type 0 → List (ℕ × Type 0)
+OfInputs x o y Room = OfLengths x o y Room ++ OfSystem x ++ OfStart x o ++ OfH x ++ OfReadings y ++ OfStep x
+
 -- the filter's call and the smoother's
 abbrev pub table : Model → Offsets → List Float → Type 0 → List (ℕ × Type 0)
-table x o y Room =
-    OfSizes x ++ OfLengths x o y Room ++ OfSystem x ++ OfStart x o ++ OfH x ++ OfReadings y ++ OfStep x ++ OfRun x y
+table x o y Room = OfSizes x ++ OfInputs x o y Room ++ OfRun x y
 
 -- k is the number of the first condition that applies; 0 where none does
 abbrev pub First : ℕ → List (ℕ × Type 0) → Type 0

@@ -6,3 +6,13 @@ pub mod Conditions
 pub mod Refusals
 pub mod Call
 pub mod Cases
+-- a run in stretches
+pub mod WholeStretch
+pub mod CutOnce
+pub mod Cuts
+pub mod StretchConditions
+pub mod StretchRefusals
+pub mod StretchValues
+pub mod StretchUnheard
+pub mod StretchCall
+pub mod Stretches

@@ -6,27 +6,27 @@ use Prim.Native.Nat.{ℕ, zero, suc, _*_, _≤_, _<_}
 use native.Mathlib.Omega.{arith}
 use mathlib.Core.Bool.{Bool, true, false, cond, _||_}
 use mathlib.Core.List.{List, [], _∷_, _++_, map}
-use lib.Dec.{ltb, eqb}
+use lib.Dec.{T, ltb, eqb}
 use lib.ListN.{length, getD, drop, replicate, length-map, length-replicate}
 use lib.Ieee.{Float, nan, lt, eq}
 use Rattle.definition.specs.Num.{0ᶠ, isZero, isFinite, isInfinite, at, ent}
 use Rattle.definition.specs.Run.{anyOf}
 use Rattle.definition.specs.Inputs.{Model, Offsets, classOf, isInfinity, isFlagged, noise}
-use Rattle.definition.specs.Refusals.{outside, badLength, badSystem, badStart, negativeAt, negative, notPsd, offAt, offRow, offDiagonal, shapeAt, shapeRow, shapeOf, startShape, drivenAt, drivenRow, mixedDriven, notFinite, firstOf, ofSizes, ofLengths, ofSystem, ofStart, ofH, ofReadings, ofStep, tests, refusal}
+use Rattle.definition.specs.Refusals.{outside, badLength, badSystem, badStart, negativeAt, negative, notPsd, offAt, offRow, offDiagonal, shapeAt, shapeRow, shapeOf, startShape, drivenAt, drivenRow, mixedDriven, notFinite, firstOf, ofSizes, ofLengths, ofSystem, ofStart, ofH, ofReadings, ofStep, ofInputs, tests, refusal}
 use Rattle.definition.specs.Parts.{CovPart, MeanPart}
 use Rattle.definition.specs.Outcome.{CovParts, MeanParts, CovOutcome, MeanOutcome, SmoothedCov, SmoothedMean, Ending, turned, silent, endingOf, numberOf, ending, after, kindsNeed, covNeed, meanNeed, smoothedCovNeed, smoothedMeanNeed, roomy, roomySmoothed, noInformation, covOutcome, meanOutcome, outcome, outcomeAt, smoothedCov, smoothedMean, smoothOutcome, smoothOutcomeAt}
 use Rattle.laws.specs.Any.{infinite-classes}
 use Rattle.laws.specs.Accepted.{InputsFit, positive, says-inputs, says-roomy}
-use Rattle.laws.specs.Numbered.{orElse, joined, refusal-le}
+use Rattle.laws.specs.Numbered.{numbered, orElse, joined, refusal-le}
 use Rattle.laws.specs.Says.{Says, says-itself, says-as, says-of, says-not, says-and, says-or, says-eq, says-le, says-lt, says-below, says-within}
-use Rattle.demands.specs.Conditions.{NotFinite, Negative, Some, OutOf, Dimension, Lengths, NonFiniteSystem, NonFiniteStart, NotPsd, OffDiagonal, Flagged, Misshapen, StartShape, InfiniteReading, MixedDriven, ran, NoInformation, Room, RoomSmooth, OfSizes, OfLengths, OfSystem, OfStart, OfH, OfReadings, OfStep, OfRun, table, First}
+use Rattle.demands.specs.Conditions.{NotFinite, Negative, Some, OutOf, Dimension, Lengths, NonFiniteSystem, NonFiniteStart, NotPsd, OffDiagonal, Flagged, Misshapen, StartShape, InfiniteReading, MixedDriven, ran, NoInformation, Room, RoomSmooth, OfSizes, OfLengths, OfSystem, OfStart, OfH, OfReadings, OfStep, OfRun, OfInputs, table, First}
 
 -- ---- each test of the definition says its condition
 
 says-finite : (l : List Float) → Says (notFinite l) (Some l NotFinite)
 says-finite l = says-within (λ v. says-not (says-itself (isFinite v))) l nan
 
-says-out : (top k : ℕ) → Says (eqb k 0 || ltb top k) (OutOf top k)
+pub says-out : (top k : ℕ) → Says (eqb k 0 || ltb top k) (OutOf top k)
 says-out top k = says-or (says-eq k 0) (says-lt top k)
 
 says-dimension : (x : Model) → Says (outside (x .p) (x .m) (x .r) (x .n)) (Dimension x)
@@ -211,6 +211,11 @@ reads-step x = record { rows = ((refl, says-driven x), ((refl, says-finite (nois
 pub reads-run : (x : Model) (y : List Float) → Reads ((12, noInformation (ran x y)) ∷ []) (OfRun x y)
 reads-run x y = record { rows = ((refl, says-silent x y), tt) }
 
+pub reads-inputs : (x : Model) (o : Offsets) (y : List Float) (room : Bool) (Room : Type 0) → Says room Room
+    → Reads (ofInputs x o (length (map classOf y)) (anyOf isInfinity (map classOf y)) room) (OfInputs x o y Room)
+reads-inputs x o y room Room s =
+    reads-lengths x o y room Room s then reads-system x then reads-start x o then reads-h x then reads-readings y then reads-step x
+
 -- the ending's number: that of the early refusal, else 12 where the run has no information
 number-of : (early : ℕ) (q : Bool) → numberOf (endingOf early q) ≡ orElse early (firstOf ((12, q) ∷ []))
 unfolding firstOf endingOf numberOf
@@ -218,30 +223,30 @@ number-of zero true = refl
 number-of zero false = refl
 number-of (suc k) q = refl
 
+-- a call whose tests before the run, and 12 after it, read as a table
+module _ (before : List (ℕ × Bool)) (q : Bool) (es : List (ℕ × Type 0)) (h : T (numbered before)) (reads : Reads (before ++ ((12, q) ∷ [])) es) where
+  number-is : numberOf (endingOf (firstOf before) q) ≡ firstOf (before ++ ((12, q) ∷ []))
+  number-is = number-of (firstOf before) q ∙ sym (joined before ((12, q) ∷ []) h)
+
+  pub first-is : (k : ℕ) → (numberOf (endingOf (firstOf before) q) ≡ k) ↔ First k es
+  first-is k = (
+    λ e. first-to (before ++ ((12, q) ∷ [])) es (reads .rows) k (sym number-is ∙ e),
+    λ h. number-is ∙ first-from (before ++ ((12, q) ∷ [])) es (reads .rows) k h,
+  )
+
 module _ (x : Model) (o : Offsets) (y : List Float) (room : Bool) (Room : Type 0) (s : Says room Room) where
   abbrev before : List (ℕ × Bool)
   before = tests x o (length (map classOf y)) (anyOf isInfinity (map classOf y)) room
 
-  abbrev all : List (ℕ × Bool)
-  all = before ++ ((12, noInformation (ran x y)) ∷ [])
-
-  number-is : numberOf (ending x o (map classOf y) room) ≡ firstOf all
-  unfolding ending refusal tests
-  number-is = number-of (firstOf before) (noInformation (ran x y)) ∙ sym (joined before ((12, noInformation (ran x y)) ∷ []) tt)
-
-  reads : Reads all (table x o y Room)
+  reads : Reads (before ++ ((12, noInformation (ran x y)) ∷ [])) (table x o y Room)
   unfolding tests
-  reads =
-      reads-sizes x then reads-lengths x o y room Room s then reads-system x then reads-start x o then reads-h x then reads-readings y
-      then reads-step x then reads-run x y
+  reads = reads-sizes x then reads-inputs x o y room Room s then reads-run x y
 
-  first-is : (k : ℕ) → (numberOf (ending x o (map classOf y) room) ≡ k) ↔ First k (table x o y Room)
-  first-is k = (
-    λ e. first-to all (table x o y Room) (reads .rows) k (sym number-is ∙ e),
-    λ h. number-is ∙ first-from all (table x o y Room) (reads .rows) k h,
-  )
+  filter-is : (k : ℕ) → (numberOf (ending x o (map classOf y) room) ≡ k) ↔ First k (table x o y Room)
+  unfolding ending refusal tests
+  filter-is = first-is before (noInformation (ran x y)) (table x o y Room) tt reads
 
-says-room : (x : Model) (b : CovParts) (b′ : MeanParts) → Says (roomy x b b′) (Room x b b′)
+pub says-room : (x : Model) (b : CovParts) (b′ : MeanParts) → Says (roomy x b b′) (Room x b b′)
 says-room x b b′ =
     says-as
     (λ h. record { kinds = h .kinds; covs = h .cov; means = h .mean })
@@ -258,23 +263,26 @@ says-room-smooth x b b′ sm sc =
 
 -- ---- the ending by its number
 
-early : (r : ℕ) (q : Bool) (k : ℕ) → 0 < k → k < 12 → numberOf (endingOf r q) ≡ k → endingOf r q ≡ turned k
+pub early : (r : ℕ) (q : Bool) (k : ℕ) → 0 < k → (k ≡ 12 → ⊥) → numberOf (endingOf r q) ≡ k → endingOf r q ≡ turned k
 unfolding endingOf numberOf
-early zero true k a b e = absurd (omega arith)
+early zero true k a b e = absurd (b (sym e))
 early zero false k a b e = absurd (omega arith)
 early (suc r) q k a b e = ap turned e
 
-twelfth : (r : ℕ) (q : Bool) → r ≤ 11 → numberOf (endingOf r q) ≡ 12 → endingOf r q ≡ silent
+pub twelfth : (r : ℕ) (q : Bool) → (r ≡ 12 → ⊥) → numberOf (endingOf r q) ≡ 12 → endingOf r q ≡ silent
 unfolding endingOf numberOf
 twelfth zero true l e = refl
 twelfth zero false l e = absurd (omega arith)
-twelfth (suc r) q l e = absurd (omega arith)
+twelfth (suc r) q l e = absurd (l e)
+
+below-12 : {r : ℕ} → r ≤ 11 → r ≡ 12 → ⊥
+below-12 l e = omega arith
 
 -- w needed places of an output blank, and the rest of it as it was
 abbrev pub Blanked : {A : Type 0} → ℕ → A → List A → List A → Type 0
 Blanked k blank old now = now ≡ replicate k blank ++ drop k old
 
-blanks : {A : Type 0} (f : Ending) (w old : List A) (k : ℕ) (blank : A) → f ≡ silent → Blanked k blank old (after f w (replicate k blank) old)
+pub blanks : {A : Type 0} (f : Ending) (w old : List A) (k : ℕ) (blank : A) → f ≡ silent → Blanked k blank old (after f w (replicate k blank) old)
 unfolding after
 blanks f w old k blank e =
     ap (λ (f : Ending). after f w (replicate k blank) old) e ∙ ap (λ (j : ℕ). replicate k blank ++ drop j old) (length-replicate k blank)
@@ -289,13 +297,13 @@ pub record Blank (x : Model) (b : CovParts) (b′ : MeanParts) (r : CovOutcome �
 module _ (x : Model) (o : Offsets) (y : List Float) (b : CovParts) (b′ : MeanParts) where
   pub refuses : (k : ℕ) → (outcome x o y b b′ .0 .refused ≡ k) ↔ First k (table x o y (Room x b b′))
   unfolding outcome outcomeAt covOutcome
-  refuses = first-is x o y (roomy x b b′) (Room x b b′) (says-room x b b′)
+  refuses = filter-is x o y (roomy x b b′) (Room x b b′) (says-room x b b′)
 
   -- 1 to 11 write nothing
   pub keeps : (k : ℕ) → 0 < k → k < 12 → outcome x o y b b′ .0 .refused ≡ k → (outcome x o y b b′ .0 .parts ≡ b) × (outcome x o y b b′ .1 .parts ≡ b′)
   unfolding outcome outcomeAt covOutcome meanOutcome ending after
   keeps k l u e =
-      let f = early _ _ k l u e in (
+      let f = early _ _ k l (λ z. omega arith) e in (
         ap (λ (f : Ending). covOutcome x f (map classOf y) b .parts) f,
         ap (λ (f : Ending). meanOutcome x f o (map classOf y) y b′ .parts) f,
       )
@@ -304,7 +312,7 @@ module _ (x : Model) (o : Offsets) (y : List Float) (b : CovParts) (b′ : MeanP
   pub blanked : outcome x o y b b′ .0 .refused ≡ 12 → Blank x b b′ (outcome x o y b b′)
   unfolding outcome outcomeAt covOutcome meanOutcome ending
   blanked e =
-      let f = twelfth _ _ (refusal-le x o _ _ _) e in
+      let f = twelfth _ _ (below-12 (refusal-le x o _ _ _)) e in
       record {
         kinds = blanks (ending x o (map classOf y) (roomy x b b′)) _ (b .kinds) (kindsNeed x) 0 f;
         covs = λ q. blanks (ending x o (map classOf y) (roomy x b b′)) _ (b .part q) (covNeed x q) 0ᶠ f;
@@ -319,13 +327,13 @@ module _ (x : Model) (o : Offsets) (y : List Float) (b : CovParts) (b′ : MeanP
 
   pub refuses-smooth : (k : ℕ) → (ended .0 .filter .refused ≡ k) ↔ First k (table x o y (RoomSmooth x b b′ sm sc))
   unfolding smoothOutcome smoothOutcomeAt covOutcome
-  refuses-smooth = first-is x o y (roomySmoothed x b b′ sm sc) (RoomSmooth x b b′ sm sc) (says-room-smooth x b b′ sm sc)
+  refuses-smooth = filter-is x o y (roomySmoothed x b b′ sm sc) (RoomSmooth x b b′ sm sc) (says-room-smooth x b b′ sm sc)
 
   pub keeps-smooth : (k : ℕ) → 0 < k → k < 12 → ended .0 .filter .refused ≡ k
       → (ended .0 .filter .parts ≡ b) × (ended .1 .filter .parts ≡ b′) × (ended .0 .smoothed ≡ sc) × (ended .1 .smoothed ≡ sm)
   unfolding smoothOutcome smoothOutcomeAt covOutcome meanOutcome smoothedCov smoothedMean ending after
   keeps-smooth k l u e =
-      let f = early _ _ k l u e in (
+      let f = early _ _ k l (λ z. omega arith) e in (
         ap (λ (f : Ending). covOutcome x f (map classOf y) b .parts) f,
         ap (λ (f : Ending). meanOutcome x f o (map classOf y) y b′ .parts) f,
         ap (λ (f : Ending). smoothedCov x f (map classOf y) sc) f,
@@ -338,7 +346,7 @@ module _ (x : Model) (o : Offsets) (y : List Float) (b : CovParts) (b′ : MeanP
       × Blanked (smoothedMeanNeed x) 0ᶠ sm (ended .1 .smoothed)
   unfolding smoothOutcome smoothOutcomeAt covOutcome meanOutcome smoothedCov smoothedMean ending
   blanked-smooth e =
-      let f = twelfth _ _ (refusal-le x o _ _ _) e in
+      let f = twelfth _ _ (below-12 (refusal-le x o _ _ _)) e in
       let g = ending x o (map classOf y) (roomySmoothed x b b′ sm sc) in (
         record {
           kinds = blanks g _ (b .kinds) (kindsNeed x) 0 f;

@@ -20,7 +20,8 @@ use Rattle.definition.specs.Outcome.{CovParts, MeanParts, CovOutcome, Counts, E
 use Rattle.definition.specs.Computed.{opened}
 use Rattle.definition.specs.Tracks.{heard-is}
 use Rattle.laws.specs.Lists.{length-join, length-chunks, place-lt}
-use Rattle.laws.specs.ReadBack.{AllOf, kinds-join, kinds-count, each-many}
+use Rattle.laws.specs.All.{AllOf}
+use Rattle.laws.specs.ReadBack.{kinds-join, kinds-count, each-many}
 use Rattle.laws.specs.Shapes.{run-whole, run-length, first-ones, period-first}
 use Rattle.demands.specs.Unheard.{answered-by, readings-fit, noPeriod}
 
@@ -108,11 +109,11 @@ module _ (x : Model) (o : Offsets) (y : List Float) (b : CovParts) (room : Bool)
   unfolding kindsWritten kindsNeed covOf
   written =
       let cs = periodsOf x y in
-      let each = each-many (x .p) (systemOf x .m) cs (run-whole (systemOf x) (startOf x) (map classOf y) (x .n) (x .p) fit) in
+      let each = each-many (x .p) (systemOf x .m) cs (run-whole (systemOf x) 0 (startOf x) (map classOf y) (x .n) (x .p) fit) in
       ap length (kinds-join cs)
       ∙ length-map (join (decisionsOf cs)) kindNo
       ∙ length-join (x .p) (decisionsOf cs) each
-      ∙ ap (λ (k : ℕ). k * x .p) (length-map cs _ ∙ run-length (systemOf x) (startOf x) (map classOf y) (x .n) (x .p))
+      ∙ ap (λ (k : ℕ). k * x .p) (length-map cs _ ∙ run-length (systemOf x) 0 (startOf x) (map classOf y) (x .n) (x .p))
 
   news-is : countsOf (periodsOf x y) (map classOf y) .news ≡ count (λ (k : ℕ). not (eqb k 0)) (kindsWritten (covOf x (map classOf y)))
   unfolding countsOf kindsWritten

@@ -1,10 +1,12 @@
--- A reading whose record is skipped, changed: made a gap, it leaves the covariance run as it was; whatever it is made, it leaves the mean run.
-use mathlib.Core.Path.{_≡_, refl, sym, ap, ap₂, _∙_}
-use Prim.Native.Nat.{ℕ, zero, suc, _+_, _*_, _<_}
+-- A reading whose record is skipped, changed: made a gap, it leaves the covariance run as it was; whatever it is made, it leaves the mean run. Of a
+-- stretch from any state; the filter's call is the stretch from a run's start.
+use mathlib.Core.Path.{_≡_, refl, sym, ap, _∙_}
+use Prim.Native.Nat.{ℕ, zero, suc, _+_, _*_, _/_, _%_, _<_}
+use native.Mathlib.Nat.{mul-zero, zero-lt-suc, div-lt-iff-lt-mul, mod-lt, not-suc-le-zero}
 use native.Mathlib.Omega.{arith}
 use mathlib.Core.List.{List, [], _∷_, map}
 use mathlib.Core.Bool.{Bool, true, false, not, _&&_}
-use lib.Dec.{T, ltb, eqb, eqb·suc-zero}
+use lib.Dec.{T, eqb, eqb·suc-zero}
 use lib.ListN.{length, getD, set, length-set, length-map, List·getD-map, List·getD-append}
 use lib.Seq.{map-set-same}
 use lib.Ieee.{Float, nan}
@@ -13,15 +15,16 @@ use Rattle.definition.specs.Run.{scan, pairs, chunks, join, count, anyOf, lay}
 use Rattle.definition.specs.Dense.{row}
 use Rattle.definition.specs.Cov.{System, Cov, Fixed, Inner, CovPeriod, Decision, skipped, usual, diffuse, verdict, apply, elementOf, isLive, entered, ended, periodOf, period, covRun}
 use Rattle.definition.specs.Mean.{Frame, Shift, Mean, MeanPeriod, hear, meanEnded, meanPeriodOf, meanPeriod, meanRun}
-use Rattle.definition.specs.Inputs.{Model, Offsets, Class, gap, finite, classOf, isGap, isInfinity, systemOf, frameOf, startOf, gapRows}
+use Rattle.definition.specs.Inputs.{Model, Offsets, Class, gap, finite, classOf, isGap, isInfinity, systemOf, frameOf, gapRows}
 use Rattle.definition.specs.Refusals.{refusal}
 use Rattle.definition.specs.Parts.{kindNo, kindBlock}
-use Rattle.definition.specs.Outcome.{answered, endingOf, ending, kindsWritten, covOf, meanOf, countsOf, decisionsOf, noInformation}
+use Rattle.definition.specs.Outcome.{answered, endingOf, kindsWritten, decisionsOf}
+use Rattle.definition.specs.Carried.{Carried, begunPast, begunMean, covFrom, meanFrom}
 use Rattle.definition.specs.Tracks.{finite-class, skip-unheard}
 use Rattle.laws.specs.Lists.{scan-set, map-set, pairs-set, pairs-at, chunks-set, length-chunks, chunks-each, Each, join-at, length-join, each-at, place-lt, count-set, anyOf-set}
 use Rattle.laws.specs.ReadBack.{getD-map-in, kinds-join, each-many}
-use Rattle.laws.specs.Shapes.{run-whole, run-length}
 use Rattle.laws.specs.Accepted.{accepted}
+use Rattle.laws.specs.Written.{covs-whole, covs-many}
 
 -- ---- the covariance track
 
@@ -43,16 +46,16 @@ module _ (y : System) where
       (ended (y .m) (y .transitionAt t) (y .rqr) c pinf lasts)
       (scan-set (elementOf (y .p) (y .m) (y .h) f) (λ (d : Decision). d ≡ skipped) gs i 0 s true d true (λ u r. quiet-element (y .p) (y .m) (y .h) f (getD gs i true) u r) e)
 
-  pub quiet-run : (gs : List (List Bool)) (t i : ℕ) (d : Decision) (e : CovPeriod) (c : Cov)
-      → getD (getD (covRun y 0 c gs .0) t e .decisions) i d ≡ skipped → covRun y 0 c (set gs t (set (getD gs t []) i true)) ≡ covRun y 0 c gs
+  pub quiet-run : (u : ℕ) (gs : List (List Bool)) (t i : ℕ) (d : Decision) (e : CovPeriod) (c : Cov)
+      → getD (getD (covRun y u c gs .0) t e .decisions) i d ≡ skipped → covRun y u c (set gs t (set (getD gs t []) i true)) ≡ covRun y u c gs
   unfolding covRun
-  quiet-run gs t i d e c h =
+  quiet-run u gs t i d e c h =
       scan-set
       (period y)
       (λ (k : CovPeriod). getD (k .decisions) i d ≡ skipped)
       gs
       t
-      0
+      u
       c
       []
       e
@@ -90,21 +93,21 @@ module _ (y : Frame) (x : Shift) where
       (λ u r w. deaf-element (y .m) (y .designAt t) (x .d) k v (getD readings i nan) u r e ∙ ap (step u r) (sym at-i))
       tt)
 
-  pub deaf-run : (ks : List (List Decision)) (rows : List (List Float)) (t i : ℕ) (d : Decision) (v : Float) (s : Mean)
+  pub deaf-run : (u : ℕ) (ks : List (List Decision)) (rows : List (List Float)) (t i : ℕ) (d : Decision) (v : Float) (s : Mean)
       → getD (getD ks t []) i d ≡ skipped → t < length ks → t < length rows → i < length (getD ks t []) → i < length (getD rows t [])
-      → meanRun y x 0 s (pairs ks (set rows t (set (getD rows t []) i v))) ≡ meanRun y x 0 s (pairs ks rows)
+      → meanRun y x u s (pairs ks (set rows t (set (getD rows t []) i v))) ≡ meanRun y x u s (pairs ks rows)
   unfolding meanRun
-  deaf-run ks rows t i d v s e g l g′ l′ =
+  deaf-run u ks rows t i d v s e g l g′ l′ =
       let row = getD rows t [] in
       let k = getD ks t [] in
       let at-t = pairs-at ks rows t [] [] (k, set row i v) g l in
-      ap (scan (meanPeriod y x) 0 s) (pairs-set ks rows t [] (set row i v))
+      ap (scan (meanPeriod y x) u s) (pairs-set ks rows t [] (set row i v))
       ∙ scan-set
       (meanPeriod y x)
       (λ (r : MeanPeriod). Unit {0})
       (pairs ks rows)
       t
-      0
+      u
       s
       (k, set row i v)
       (record { pred = []; vs = []; filt = [] })
@@ -141,47 +144,42 @@ abbrev pub noPeriod : CovPeriod
 noPeriod = record { diffuse = false; pred = []; predInf = []; decisions = []; filt = [] }
 
 -- news anywhere rules refusal 12 out
-informed : (heard : Bool) (news : ℕ) → 0 < news → (heard && eqb news 0) ≡ false
+pub informed : (heard : Bool) (news : ℕ) → 0 < news → (heard && eqb news 0) ≡ false
 informed true zero h = absurd (omega arith)
 informed true (suc n) h = eqb·suc-zero n
 informed false n h = refl
 
--- period t, element i of the answered call: its reading is finite, and its record, which stands in the lent kinds, is skipped
+-- a run's start, as a state to go on from: the filter's call goes on from there
+abbrev pub begun : Model → Offsets → Carried
+begun x o = record { past = begunPast x; mean = begunMean o }
+
+-- period t, element i of a stretch of x from the state s: its reading is finite, and its record, which stands in the lent kinds, is skipped
 module _
     (x : Model)
     (o : Offsets)
+    (s : Carried)
     (y : List Float)
-    (room : Bool)
     (old : List ℕ)
     (t i : ℕ)
     (inT : t < x .n)
     (inI : i < x .p)
+    (fit : length (map classOf y) ≡ x .n * x .p)
     (read : T (isFinite (at y (t * x .p + i))))
-    (ok : ending x o (map classOf y) room ≡ answered)
-    (skip : getD (lay (kindsWritten (covOf x (map classOf y))) old) (t * x .p + i) 9 ≡ 0)
+    (skip : getD (lay (kindsWritten (covFrom x (s .past) (map classOf y))) old) (t * x .p + i) 9 ≡ 0)
   where
-    passed : (refusal x o (length (map classOf y)) (anyOf isInfinity (map classOf y)) room ≡ 0) × (noInformation (countsOf (covOf x (map classOf y) .0) (map classOf y)) ≡ false)
-    unfolding ending
-    passed = answered-by _ _ ok
+    each : Each (x .p) (decisionsOf (covFrom x (s .past) (map classOf y) .0))
+    each = each-many (x .p) (x .m) (covFrom x (s .past) (map classOf y) .0) (covs-whole x (s .past) (map classOf y) fit)
 
-    fit : length (map classOf y) ≡ x .n * x .p
-    fit = readings-fit x o _ _ _ (passed .0)
+    periods : length (covFrom x (s .past) (map classOf y) .0) ≡ x .n
+    periods = covs-many x (s .past) (map classOf y) fit
 
-    periods : length (covOf x (map classOf y) .0) ≡ x .n
-    unfolding covOf
-    periods = run-length (systemOf x) (startOf x) (map classOf y) (x .n) (x .p)
+    many : length (decisionsOf (covFrom x (s .past) (map classOf y) .0)) ≡ x .n
+    many = length-map (covFrom x (s .past) (map classOf y) .0) _ ∙ periods
 
-    each : Each (x .p) (decisionsOf (covOf x (map classOf y) .0))
-    unfolding covOf
-    each = each-many (x .p) (systemOf x .m) (covOf x (map classOf y) .0) (run-whole (systemOf x) (startOf x) (map classOf y) (x .n) (x .p) fit)
-
-    many : length (decisionsOf (covOf x (map classOf y) .0)) ≡ x .n
-    many = length-map (covOf x (map classOf y) .0) _ ∙ periods
-
-    skip-at : getD (getD (decisionsOf (covOf x (map classOf y) .0)) t []) i noDecision ≡ skipped
+    skip-at : getD (getD (decisionsOf (covFrom x (s .past) (map classOf y) .0)) t []) i noDecision ≡ skipped
     unfolding kindsWritten
     skip-at =
-        let cs = covOf x (map classOf y) .0 in
+        let cs = covFrom x (s .past) (map classOf y) .0 in
         let ds = decisionsOf cs in
         let k = t * x .p + i in
         let long : k < length (join ds) = rw (length-join (x .p) ds each, many) (place-lt (x .n) (x .p) t i inT inI) in
@@ -190,33 +188,37 @@ module _
         skips _ (ap kindNo (sym (join-at (x .p) ds t i noDecision each (rw many inT) inI)) ∙ sym (getD-map-in kindNo (join ds) k noDecision 9 long) ∙ e)
 
     -- whatever stands there, the means are the same
-    pub deaf : (v : Float) → meanOf x o (covOf x (map classOf y) .0) (set y (t * x .p + i) v) ≡ meanOf x o (covOf x (map classOf y) .0) y
-    unfolding meanOf
+    pub deaf : (v : Float) → meanFrom x o (s .past .done) (s .mean) (covFrom x (s .past) (map classOf y) .0) (set y (t * x .p + i) v) ≡ meanFrom x o (s .past .done) (s .mean) (covFrom x (s .past) (map classOf y) .0) y
+    unfolding meanFrom
     deaf v =
-        let ds = decisionsOf (covOf x (map classOf y) .0) in
+        let ds = decisionsOf (covFrom x (s .past) (map classOf y) .0) in
         let rows = chunks (x .n) (x .p) y in
         let sh : Shift = record { c = o .c; d = o .d } in
-        let s : Mean = record { a = o .a1; loglik = 0ᶠ } in
+        let u = s .past .done in
         let n : length rows ≡ x .n = length-chunks (x .n) (x .p) y in
         let l : length (getD rows t []) ≡ x .p = each-at (x .p) rows t (chunks-each (x .n) (x .p) y (sym (length-map y classOf) ∙ fit)) (rw n inT) in
         let l′ : length (getD ds t []) ≡ x .p = each-at (x .p) ds t each (rw many inT) in
-        ap (λ (r : List (List Float)). meanRun (frameOf x) sh 0 s (pairs ds r)) (chunks-set (x .n) (x .p) y t i v inI)
-        ∙ deaf-run (frameOf x) sh ds rows t i noDecision v s skip-at (rw many inT) (rw n inT) (rw l′ inI) (rw l inI)
+        ap (λ (r : List (List Float)). meanRun (frameOf x) sh u (s .mean) (pairs ds r)) (chunks-set (x .n) (x .p) y t i v inI)
+        ∙ deaf-run (frameOf x) sh u ds rows t i noDecision v (s .mean) skip-at (rw many inT) (rw n inT) (rw l′ inI) (rw l inI)
 
     -- a gap there: the same covariances
     abbrev pub muted : List Class
     muted = set (map classOf y) (t * x .p + i) gap
 
-    pub quiet : covOf x muted ≡ covOf x (map classOf y)
-    unfolding covOf gapRows
+    pub gap-classes : map classOf (set y (t * x .p + i) nan) ≡ muted
+    unfolding classOf
+    gap-classes = map-set classOf y (t * x .p + i) nan
+
+    pub quiet : covFrom x (s .past) muted ≡ covFrom x (s .past) (map classOf y)
+    unfolding covFrom gapRows
     quiet =
         let ks = map classOf y in
         let gs = chunks (x .n) (x .p) (map isGap ks) in
-        let e = getD-map-in (λ (c : CovPeriod). c .decisions) (covOf x ks .0) t noPeriod [] (rw periods inT) in
+        let e = getD-map-in (λ (c : CovPeriod). c .decisions) (covFrom x (s .past) ks .0) t noPeriod [] (rw periods inT) in
         ap
-        (covRun (systemOf x) 0 (startOf x))
+        (covRun (systemOf x) (s .past .done) (s .past .cov))
         (ap (chunks (x .n) (x .p)) (map-set isGap ks (t * x .p + i) gap) ∙ chunks-set (x .n) (x .p) (map isGap ks) t i true inI)
-        ∙ quiet-run (systemOf x) gs t i noDecision noPeriod (startOf x) (sym (ap (λ (l : List Decision). getD l i noDecision) e) ∙ skip-at)
+        ∙ quiet-run (systemOf x) (s .past .done) gs t i noDecision noPeriod (s .past .cov) (sym (ap (λ (l : List Decision). getD l i noDecision) e) ∙ skip-at)
 
     seen : getD (map classOf y) (t * x .p + i) gap ≡ finite
     unfolding classOf
@@ -227,24 +229,21 @@ module _
     same-classes v h = map-set-same classOf y (t * x .p + i) v nan (finite-class v h ∙ sym (finite-class (at y (t * x .p + i)) read))
 
     -- one reading less is heard
-    pub one-less : suc (countsOf (covOf x (map classOf y) .0) muted .heard) ≡ countsOf (covOf x (map classOf y) .0) (map classOf y) .heard
-    unfolding countsOf
+    pub one-less : suc (count not (map isGap muted)) ≡ count not (map isGap (map classOf y))
     one-less =
         let ks = map classOf y in
         let k = t * x .p + i in
         ap (λ (l : List Bool). suc (count not l)) (map-set isGap ks k gap)
         ∙ count-set not (map isGap ks) k true true (rw (length-map, fit) (place-lt (x .n) (x .p) t i inT inI)) (ap not (List·getD-map isGap ks k gap ∙ ap isGap seen)) refl
 
-    news-informs : 0 < countsOf (covOf x (map classOf y) .0) (map classOf y) .news → noInformation (countsOf (covOf x (map classOf y) .0) muted) ≡ false
-    unfolding noInformation countsOf
-    news-informs h = informed (ltb 0 (countsOf (covOf x (map classOf y) .0) muted .heard)) (countsOf (covOf x (map classOf y) .0) muted .news) h
+    -- and what the refusals see of the readings is the same
+    pub same-many : length muted ≡ length (map classOf y)
+    same-many = length-set (map classOf y) (t * x .p + i) gap
 
-    -- and the call is answered still, as long as there is news
-    pub answered-still : 0 < countsOf (covOf x (map classOf y) .0) (map classOf y) .news → ending x o muted room ≡ answered
-    unfolding ending endingOf
-    answered-still news =
-        let ks = map classOf y in
-        let k = t * x .p + i in
-        let r : refusal x o (length muted) (anyOf isInfinity muted) room ≡ 0 =
-        ap₂ (λ (l : ℕ) (q : Bool). refusal x o l q room) (length-set ks k gap) (anyOf-set isInfinity ks k gap gap (sym (ap isInfinity seen))) ∙ passed .0 in
-        ap₂ endingOf r (ap (λ (c : List CovPeriod × Cov). noInformation (countsOf (c .0) muted)) quiet ∙ news-informs news)
+    pub same-infinity : anyOf isInfinity muted ≡ anyOf isInfinity (map classOf y)
+    same-infinity = anyOf-set isInfinity (map classOf y) (t * x .p + i) gap gap (sym (ap isInfinity seen))
+
+-- a place is some element of some period
+pub place : (n p k : ℕ) → k < n * p → (k / p < n) × (k % p < p)
+place n zero k h = absurd (not-suc-le-zero (rw mul-zero at h))
+place n (suc p) k h = ((div-lt-iff-lt-mul (zero-lt-suc p)) .1 h, mod-lt k (zero-lt-suc p))

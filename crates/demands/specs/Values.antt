@@ -1,13 +1,13 @@
 -- Demand 3 of document 00, for the filter's call and the smoother's: a finite reading's value reaches no refusal, covariance, decision, variance, gain
 -- or count; and a finite reading that a run with news elsewhere judged no news reaches nothing, but that it was heard.
 use mathlib.Core.Path.{_≡_, refl, sym, ap, ap₂, _∙_, subst}
-use Prim.Native.Nat.{ℕ, zero, suc, _+_, _*_, _/_, _%_, _<_}
-use native.Mathlib.Nat.{mul-zero, zero-lt-suc, div-add-mod', div-lt-iff-lt-mul, mod-lt, not-suc-le-zero}
+use Prim.Native.Nat.{ℕ, suc, _+_, _*_, _/_, _%_, _<_}
+use native.Mathlib.Nat.{div-add-mod'}
 use native.Mathlib.Omega.{arith}
 use mathlib.Core.List.{List, map}
 use mathlib.Core.Bool.{Bool, not}
 use mathlib.Core.Logic.{_⊎_, ⊎-elim}
-use lib.Dec.{T}
+use lib.Dec.{T, ltb}
 use lib.ListN.{length, replicate, getD, set, length-map, List·getD-map}
 use lib.Seq.{ext-getD}
 use lib.Ieee.{Float, nan}
@@ -18,10 +18,12 @@ use Rattle.definition.specs.Mean.{Mean, MeanPeriod}
 use Rattle.definition.specs.Smooth.{smoothCov, smoothMean}
 use Rattle.definition.specs.Inputs.{Model, Offsets, Class, gap, classOf, isGap, isInfinity, frameOf}
 use Rattle.definition.specs.Parts.{predCov, predInf, filtCov, fStar, fInf, mStar, mInf, isNews}
-use Rattle.definition.specs.Outcome.{CovParts, MeanParts, CovOutcome, MeanOutcome, SmoothedCov, SmoothedMean, Counts, Ending, turned, silent, answered, ending, after, countsIn, numberOf, roomy, roomySmoothed, kindsWritten, kindsNeed, covNeed, covWritten, meanWritten, meanNeed, smoothedCovNeed, smoothedMeanNeed, loglikIn, covOf, meanOf, countsOf, decisionsOf, covOutcome, meanOutcome, outcome, outcomeAt, smoothedCov, smoothedMean, smoothOutcome, smoothOutcomeAt}
+use Rattle.definition.specs.Outcome.{CovParts, MeanParts, CovOutcome, MeanOutcome, SmoothedCov, SmoothedMean, Counts, Ending, turned, silent, answered, endingOf, ending, noInformation, after, countsIn, numberOf, roomy, roomySmoothed, kindsWritten, kindsNeed, covNeed, covWritten, meanEnded, smoothedCovNeed, smoothedMeanNeed, covOf, meanOf, countsOf, decisionsOf, covOutcome, meanOutcome, outcome, outcomeAt, smoothedCov, smoothedMean, smoothOutcome, smoothOutcomeAt}
+use Rattle.definition.specs.Refusals.{refusal}
+use Rattle.definition.specs.Carried.{begunPast, begunMean, covFrom, meanFrom}
 use Rattle.definition.specs.Tracks.{finite-class, by-classes, smooth-by-classes}
 use Rattle.laws.specs.Lists.{map-set}
-use Rattle.demands.specs.Unheard.{deaf, same-classes, quiet, one-less, answered-still, within, readings-fit, answered-by}
+use Rattle.demands.specs.Unheard.{begun, deaf, same-classes, quiet, one-less, same-many, same-infinity, informed, within, readings-fit, answered-by, place}
 
 -- ---- the first half
 
@@ -106,7 +108,7 @@ news-answers silent l h = absurd (omega arith)
 news-answers answered l h = refl
 
 -- the lent covariance parts after a run r
-abbrev partsFrom : Model → Ending → List CovPeriod × Cov → CovParts → CovParts
+abbrev pub partsFrom : Model → Ending → List CovPeriod × Cov → CovParts → CovParts
 partsFrom x f r b =
     record {
       kinds = after f (kindsWritten r) (replicate (kindsNeed x) 0) (b .kinds);
@@ -131,25 +133,53 @@ module _ (x : Model) (o : Offsets) (y : List Float) (b : CovParts) (room : Bool)
   unfolding covOutcome countsIn
   real-news = subst (λ (f : Ending). 0 < countsIn f (countsOf (covOf x (map classOf y) .0) (map classOf y)) .news) ok (h .news)
 
+  passed : refusal x o (length (map classOf y)) (anyOf isInfinity (map classOf y)) room ≡ 0
+  unfolding ending
+  passed = answered-by _ _ ok .0
+
+  fit : length (map classOf y) ≡ x .n * x .p
+  fit = readings-fit x o _ _ _ passed
+
   -- another finite number, or whatever, leaves the mean run; a gap leaves the ending and the covariance run
   means : (v : Float) → meanOf x o (covOf x (map classOf y) .0) (set y (t * x .p + i) v) ≡ meanOf x o (covOf x (map classOf y) .0) y
-  means = deaf x o y room (b .kinds) t i inT inI (h .read) ok real-skip
+  unfolding covOf meanOf covFrom meanFrom begunPast begunMean
+  means = deaf x o (begun x o) y (b .kinds) t i inT inI fit (h .read) real-skip
 
   classes : (v : Float) → T (isFinite v) → map classOf (set y (t * x .p + i) v) ≡ map classOf y
-  classes = same-classes x o y room (b .kinds) t i inT inI (h .read) ok real-skip
+  unfolding covOf covFrom begunPast
+  classes = same-classes x o (begun x o) y (b .kinds) t i inT inI fit (h .read) real-skip
 
-  gap-classes : map classOf (set y (t * x .p + i) nan) ≡ set (map classOf y) (t * x .p + i) gap
+  abbrev muted : List Class
+  muted = set (map classOf y) (t * x .p + i) gap
+
+  gap-classes : map classOf (set y (t * x .p + i) nan) ≡ muted
   unfolding classOf
   gap-classes = map-set classOf y (t * x .p + i) nan
 
+  muted-run : covOf x muted ≡ covOf x (map classOf y)
+  unfolding covOf covFrom begunPast
+  muted-run = quiet x o (begun x o) y (b .kinds) t i inT inI fit (h .read) real-skip
+
+  less : suc (count not (map isGap muted)) ≡ count not (map isGap (map classOf y))
+  unfolding covOf covFrom begunPast
+  less = one-less x o (begun x o) y (b .kinds) t i inT inI fit (h .read) real-skip
+
+  -- answered still, as there is news
+  still : ending x o muted room ≡ answered
+  unfolding ending endingOf noInformation countsOf covOf covFrom begunPast
+  still =
+      let ks = map classOf y in
+      let many = same-many x o (begun x o) y (b .kinds) t i inT inI fit (h .read) real-skip in
+      let infinity = same-infinity x o (begun x o) y (b .kinds) t i inT inI fit (h .read) real-skip in
+      let r : refusal x o (length muted) (anyOf isInfinity muted) room ≡ 0 = ap₂ (λ (l : ℕ) (q : Bool). refusal x o l q room) many infinity ∙ passed in
+      let n : 0 < countsOf (covOf x muted .0) muted .news = rw muted-run real-news in
+      ap₂ endingOf r (informed (ltb 0 (countsOf (covOf x muted .0) muted .heard)) (countsOf (covOf x muted .0) muted .news) n)
+
   gap-ending : ending x o (map classOf (set y (t * x .p + i) nan)) room ≡ ending x o (map classOf y) room
-  gap-ending =
-      ap (λ (ks : List Class). ending x o ks room) gap-classes
-      ∙ answered-still x o y room (b .kinds) t i inT inI (h .read) ok real-skip real-news
-      ∙ sym ok
+  gap-ending = ap (λ (ks : List Class). ending x o ks room) gap-classes ∙ still ∙ sym ok
 
   gap-run : covOf x (map classOf (set y (t * x .p + i) nan)) ≡ covOf x (map classOf y)
-  gap-run = ap (covOf x) gap-classes ∙ quiet x o y room (b .kinds) t i inT inI (h .read) ok real-skip
+  gap-run = ap (covOf x) gap-classes ∙ muted-run
 
   gap-means : meanOf x o (covOf x (map classOf (set y (t * x .p + i) nan)) .0) (set y (t * x .p + i) nan) ≡ meanOf x o (covOf x (map classOf y) .0) y
   gap-means = ap (λ (r : List CovPeriod × Cov). meanOf x o (r .0) (set y (t * x .p + i) nan)) gap-run ∙ means nan
@@ -166,7 +196,7 @@ module _ (x : Model) (o : Offsets) (y : List Float) (b : CovParts) (room : Bool)
         heard =
             ap (λ (l : Counts). suc (l .heard)) new
             ∙ ap (λ (ks : List Class). suc (count not (map isGap ks))) gap-classes
-            ∙ one-less x o y room (b .kinds) t i inT inI (h .read) ok real-skip
+            ∙ less
             ∙ sym (ap (λ (l : Counts). l .heard) old);
         news =
             ap (λ (l : Counts). l .news) new
@@ -177,11 +207,7 @@ module _ (x : Model) (o : Offsets) (y : List Float) (b : CovParts) (room : Bool)
             ∙ ap (λ (r : List CovPeriod × Cov). count (λ (c : CovPeriod). c .diffuse) (r .0)) gap-run
             ∙ sym (ap (λ (l : Counts). l .dDiffuse) old);
         refusals = ap numberOf gap-ending;
-        parts =
-            ap₂
-            (λ (f : Ending) (r : List CovPeriod × Cov). partsFrom x f r b)
-            gap-ending
-            gap-run;
+        parts = ap₂ (λ (f : Ending) (r : List CovPeriod × Cov). partsFrom x f r b) gap-ending gap-run;
       }
 
 -- a place is some element of some period
@@ -193,10 +219,6 @@ module _ (x : Model) (o : Offsets) (y : List Float) (b : CovParts) (room : Bool)
       let n = readings-fit x o (length (map classOf y)) (anyOf isInfinity (map classOf y)) room (e .0) in
       let l : length y ≡ x .n * x .p = sym (length-map y classOf) ∙ n in
       omega (arith, within y k (h .read))
-
-place : (n p k : ℕ) → k < n * p → (k / p < n) × (k % p < p)
-place n zero k h = absurd (not-suc-le-zero (rw mul-zero at h))
-place n (suc p) k h = ((div-lt-iff-lt-mul (zero-lt-suc p)) .1 h, mod-lt k (zero-lt-suc p))
 
 -- ---- the filter's call
 
@@ -213,7 +235,7 @@ module _ (x : Model) (o : Offsets) (y : List Float) (b : CovParts) (b′ : MeanP
   at-element t i inT inI h =
       let room = roomy x b b′ in
       let f = ending x o (map classOf y) room in
-      let made : Ending → List MeanPeriod × Mean → MeanOutcome = λ f r. record { loglik = loglikIn f (r .1 .loglik); parts = λ q. after f (meanWritten r q) (zeros (meanNeed x q)) (b′ q) } in
+      let made : Ending → List MeanPeriod × Mean → MeanOutcome = λ f r. meanEnded x f r b′ in
       record {
         number = λ v fv.
             ap (λ (ks : List Class). outcomeAt x o ks (set y (t * x .p + i) v) b b′) (classes x o y b room t i inT inI h v fv)
@@ -248,7 +270,7 @@ module _ (x : Model) (o : Offsets) (y : List Float) (b : CovParts) (b′ : MeanP
       let f = ending x o (map classOf y) room in
       let made : Ending → List CovPeriod → List MeanPeriod × Mean → SmoothedMean =
       λ f cs r. record {
-        filter = record { loglik = loglikIn f (r .1 .loglik); parts = λ q. after f (meanWritten r q) (zeros (meanNeed x q)) (b′ q) };
+        filter = meanEnded x f r b′;
         smoothed = after f (join (smoothMean (frameOf x) cs (r .0))) (zeros (smoothedMeanNeed x)) sm;
       } in
       let cs = covOf x (map classOf y) .0 in

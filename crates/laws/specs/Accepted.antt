@@ -134,13 +134,20 @@ says-inputs x o =
 pub past-sizes : (x : Model) → firstOf (ofSizes x) ≡ 0 → InRange (x .p) (x .m) (x .r) (x .n)
 past-sizes x e = in-range (x .p) (x .m) (x .r) (x .n) (first-none (ofSizes x) tt e .0)
 
-pub past-lengths : (x : Model) (o : Offsets) (y : ℕ) (room : Bool) → firstOf (ofLengths x o y room) ≡ 0 → InputsFit x o × (y ≡ x .n * x .p) × (room ≡ true)
+pub inputs-fit : (x : Model) (o : Offsets) → inputsFit x o ≡ true → InputsFit x o
+inputs-fit x o e = says-inputs x o .to (subst T (sym e) tt)
+
+pub lengths-pass : (x : Model) (o : Offsets) (y : ℕ) (room : Bool) → badLength x o y room ≡ false → (inputsFit x o ≡ true) × (y ≡ x .n * x .p) × (room ≡ true)
 unfolding badLength
-past-lengths x o y room e =
-    let a = not-false (inputsFit x o && eqb y (x .n * x .p) && room) (first-none (ofLengths x o y room) tt e .0) in
-    let b = and-true (inputsFit x o && eqb y (x .n * x .p)) room a in
+lengths-pass x o y room e =
+    let b = and-true (inputsFit x o && eqb y (x .n * x .p)) room (not-false _ e) in
     let c = and-true (inputsFit x o) (eqb y (x .n * x .p)) (b .0) in
-    (says-inputs x o .to (subst T (sym (c .0)) tt), eqb-true y (x .n * x .p) (c .1), b .1)
+    (c .0, eqb-true y (x .n * x .p) (c .1), b .1)
+
+pub past-lengths : (x : Model) (o : Offsets) (y : ℕ) (room : Bool) → firstOf (ofLengths x o y room) ≡ 0 → InputsFit x o × (y ≡ x .n * x .p) × (room ≡ true)
+past-lengths x o y room e =
+    let a = lengths-pass x o y room (first-none (ofLengths x o y room) tt e .0) in
+    (inputs-fit x o (a .0), a .1, a .2)
 
 pub record Accepted (x : Model) (o : Offsets) (y : ℕ) (room : Bool) : Type 0 where
   pub sizes : InRange (x .p) (x .m) (x .r) (x .n)

@@ -6,7 +6,7 @@ use native.Mathlib.Omega.{arith}
 use native.Mathlib.Numerals.{add-one}
 use native.Mathlib.Nat.{le-of-suc-le-suc, not-suc-le-zero}
 use mathlib.Core.Bool.{Bool, true, false, _||_}
-use mathlib.Core.List.{List, [], _∷_, map}
+use mathlib.Core.List.{List, [], _∷_, _++_, map}
 use lib.ListN.{length, getD, take}
 use lib.Seq.{take-length}
 use lib.Ieee.{Float, nan, inf, fin}
@@ -58,6 +58,11 @@ module _ {A : Type 0} where
 
   pub of-end : (q : A → Bool) (l : List A) {k : ℕ} {found : Bool} → found ≡ anyOf q (take k l) → k ≤ length l → length l ≤ k → found ≡ anyOf q l
   of-end q l {k} {found} e a b = let s : k ≡ length l = omega arith in e ∙ ap (λ (i : ℕ). anyOf q (take i l)) s ∙ ap (anyOf q) (take-length l)
+
+  pub of-split : (q : A → Bool) (l r : List A) → anyOf q (l ++ r) ≡ false → (anyOf q l ≡ false) × (anyOf q r ≡ false)
+  unfolding anyOf
+  of-split q [] r e = (refl, e)
+  of-split q (x ∷ l) r e = let s = either-false (q x) (anyOf q (l ++ r)) e in let t = of-split q l r (s .1) in (rw (s .0) (t .0), t .1)
 
   pub of-cong : (q q′ : A → Bool) (l : List A) → ((x : A) → q x ≡ q′ x) → anyOf q l ≡ anyOf q′ l
   unfolding anyOf

@@ -20,7 +20,8 @@ use Rattle.definition.specs.Parts.{predCov, predInf, fStar, fInf, mStar, mInf, 
 use Rattle.laws.specs.Flat.{Flat, decisionsAt, decisionRows, blockAt, lookOf, meanLookOf, lookAt, looks, meanLookAt, meanLooks}
 use Rattle.laws.specs.Lists.{Each, join-at, length-join, place-lt, tab-at, length-tab, each-at}
 use Rattle.laws.specs.Passes.{over, Laid, block-in}
-use Rattle.laws.specs.ReadBack.{AllOf, Whole, getD-map-in, rows-back}
+use Rattle.laws.specs.All.{AllOf}
+use Rattle.laws.specs.ReadBack.{Whole, getD-map-in, rows-back}
 use Rattle.laws.specs.Shapes.{SizedP}
 
 module _ {A S X : Type 0} (f : ℕ → S → A → List X × S) (k : ℕ) (xs : List A) (s : S) where

@@ -1,12 +1,15 @@
--- Halves, `mul-swap` of Swap and `sumTo-cong` of Lists wait for request l of document 02, Signs and `scanBack-append` of Lists for e; nothing cites them yet.
+-- Nothing cites these yet: Halves, `mul-swap` of Swap and `sumTo-cong` of Lists wait for request l of document 02, `scanBack-append` of Lists for i.
 
 -- lists, and going through them
 pub mod Lists
 pub mod Any
+pub mod All
 pub mod Passes
 pub mod Sizes
 pub mod Blocks
 pub mod Backward
+-- bytes
+pub mod Bytes
 -- doubles
 pub mod Swap
 pub mod Same
@@ -23,3 +26,12 @@ pub mod Looked
 pub mod Says
 pub mod Numbered
 pub mod Accepted
+-- a run in stretches
+pub mod Kept
+pub mod Long
+pub mod SavedBack
+pub mod Spare
+pub mod Cut
+pub mod Written
+pub mod AcceptedStretch
+pub mod Later

@@ -6,10 +6,10 @@ use native.Mathlib.Numerals.{add-one}
 use native.Mathlib.Omega.{arith}
 use mathlib.Core.Bool.{Bool, true, false, _||_}
 use mathlib.Core.List.{List, [], _∷_, _++_, map}
-use lib.ListN.{length, getD, set, take, drop, length-append, length-take, length-drop, List·getD-append}
+use lib.ListN.{length, getD, set, take, drop, length-append, length-take, length-drop, take-append-drop, List·getD-append}
 use lib.Ieee.{Float, nan}
 use Rattle.definition.specs.Num.{0ᶠ, _⊕_, sumTo, tabFrom, tabulate, matrix, at, ent}
-use lib.Seq.{take-suc, take-set-lt, drop-set-lt, take-set-le, drop-set-add, getD-append-add}
+use lib.Seq.{take-suc, take-append-le, drop-append-le, take-set-lt, drop-set-lt, take-set-le, drop-set-add, getD-append-add}
 use Rattle.definition.specs.Run.{scan, scanBack, pairs, chunks, join, count, anyOf}
 
 -- ---- going through a list with a state
@@ -66,6 +66,20 @@ module _ {A B : Type 0} where
   pairs-at (x ∷ xs) (y ∷ ys) zero a b d h g = refl
   pairs-at (x ∷ xs) (y ∷ ys) (suc k) a b d h g = pairs-at xs ys k a b d (le-of-suc-le-suc h) (le-of-suc-le-suc g)
 
+  pub pairs-append : (xs xs′ : List A) (ys ys′ : List B) → length xs ≡ length ys → pairs (xs ++ xs′) (ys ++ ys′) ≡ pairs xs ys ++ pairs xs′ ys′
+  unfolding pairs
+  pairs-append [] xs′ [] ys′ e = refl
+  pairs-append [] xs′ (y ∷ ys) ys′ e = absurd (omega arith)
+  pairs-append (x ∷ xs) xs′ [] ys′ e = absurd (omega arith)
+  pairs-append (x ∷ xs) xs′ (y ∷ ys) ys′ e = ap (λ (l : List (A × B)). (x, y) ∷ l) (pairs-append xs xs′ ys ys′ (omega arith))
+
+  pub length-pairs : (n : ℕ) (xs : List A) (ys : List B) → length xs ≡ n → length ys ≡ n → length (pairs xs ys) ≡ n
+  unfolding pairs
+  length-pairs n [] ys e g = e
+  length-pairs n (x ∷ xs) [] e g = g
+  length-pairs zero (x ∷ xs) (y ∷ ys) e g = absurd (omega arith)
+  length-pairs (suc n) (x ∷ xs) (y ∷ ys) e g = ap suc (length-pairs n xs ys (omega arith) (omega arith))
+
 -- ---- cut in parts and joined; counts
 
 module _ {A : Type 0} where
@@ -104,6 +118,20 @@ module _ {A : Type 0} where
   unfolding join
   length-join p [] each = sym (zero-mul p)
   length-join p (l ∷ ls) each = length-append l (join ls) ∙ ap₂ _+_ (each .0) (length-join p ls (each .1)) ∙ omega arith
+
+  pub join-chunks : (n p : ℕ) (l : List A) → length l ≡ n * p → join (chunks n p l) ≡ l
+  unfolding join chunks
+  join-chunks zero p [] e = refl
+  join-chunks zero p (a ∷ l) e = absurd (omega (arith, zero-mul p))
+  join-chunks (suc n) p l e = ap (λ (r : List A). take p l ++ r) (join-chunks n p (drop p l) (simp length-drop (omega arith))) ∙ take-append-drop p l
+
+  pub chunks-append : (n k p : ℕ) (l r : List A) → length l ≡ n * p → chunks (n + k) p (l ++ r) ≡ chunks n p l ++ chunks k p r
+  unfolding chunks
+  chunks-append zero k p [] r e = rw zero-add
+  chunks-append zero k p (a ∷ l) r e = absurd (omega (arith, zero-mul p))
+  chunks-append (suc n) k p l r e =
+      let g = chunks-append n k p (drop p l) r (simp length-drop (omega arith)) in
+      rw (suc-add, take-append-le p l r (omega arith), drop-append-le p l r (omega arith)) (ap (λ (z : List (List A)). take p l ∷ z) g)
 
   pub each-at : (p : ℕ) (ls : List (List A)) (t : ℕ) → Each p ls → t < length ls → length (getD ls t []) ≡ p
   each-at p [] t each h = absurd (not-suc-le-zero h)

@@ -14,7 +14,8 @@ use Rattle.definition.specs.Outcome.{kindsWritten, covWritten, covOf}
 use Rattle.laws.specs.Flat.{lookOf, looks}
 use Rattle.laws.specs.Lists.{length-tab, length-scan}
 use Rattle.laws.specs.Passes.{Laid}
-use Rattle.laws.specs.ReadBack.{AllOf, Whole}
+use Rattle.laws.specs.All.{AllOf}
+use Rattle.laws.specs.ReadBack.{Whole}
 use Rattle.laws.specs.Shapes.{Sized, SizedP, run-whole, run-length, run-sized, period-keeps, period-first, first-ones}
 use Rattle.laws.specs.Backward.{looks-back}
 
@@ -24,10 +25,10 @@ nowhere = record { diffuse = false; pred = []; predInf = []; decisions = []; fil
 -- the run over any system, from a state of the right sizes
 module _ (y : System) (c : Cov) (ks : List Class) (n p : ℕ) (sized : Sized (y .m) c) (gaps : length ks ≡ n * p) where
   whole : AllOf (λ c. Whole p (y .m) (c .decisions)) (covRun y 0 c (gapRows n p ks) .0)
-  whole = run-whole y c ks n p gaps
+  whole = run-whole y 0 c ks n p gaps
 
   long : length (covRun y 0 c (gapRows n p ks) .0) ≡ n
-  long = run-length y c ks n p
+  long = run-length y 0 c ks n p
 
   sizes : AllOf (SizedP (y .m)) (covRun y 0 c (gapRows n p ks) .0)
   unfolding covRun

@@ -8,7 +8,7 @@ use lib.Dec.{T, leb, ltb, leb→le, ltb→lt}
 use lib.Ieee.Fits.{and-l, and-r}
 use Rattle.definition.specs.Inputs.{Model, Offsets}
 use Rattle.definition.specs.Refusals.{firstOf, tests, refusal}
-use Rattle.laws.specs.ReadBack.{AllOf}
+use Rattle.laws.specs.All.{AllOf}
 
 -- every number of a list passes q: by computation (`tt`) of a list that is written out
 abbrev pub numbers : (ℕ → Bool) → List (ℕ × Bool) → Bool
@@ -58,6 +58,12 @@ joined (e ∷ a) b h =
     pick true zero l ih = absurd (omega arith)
     pick true (suc k) l ih = refl
     pick false k l ih = ih
+
+-- a last test that fails
+pub first-more : (es : List (ℕ × Bool)) (k : ℕ) → firstOf (es ++ ((k, false) ∷ [])) ≡ firstOf es
+unfolding firstOf
+first-more [] k = refl
+first-more (e ∷ es) k = ap (λ (r : ℕ). cond (e .1) (e .0) r) (first-more es k)
 
 or-some : (k j : ℕ) → (k ≡ 0 → ⊥) → k ≡ orElse k j
 or-some zero j h = absurd (h refl)

@@ -38,6 +38,14 @@ module _ {A B : Type 0} where
   count-map q g [] = refl
   count-map q g (a ∷ l) = ap (λ (k : ℕ). cond (q (g a)) 1 0 + k) (count-map q g l)
 
+-- the blocks of two runs in a row
+module _ {A B : Type 0} (g : A → List B) where
+  pub blocks-append : (xs ys : List A) → join (map g (xs ++ ys)) ≡ join (map g xs) ++ join (map g ys)
+  blocks-append xs ys = ap join (map-append g xs ys) ∙ join-append (map g xs) (map g ys)
+
+  pub blocks-then : (xs ys : List A) (z : List B) → join (map g (xs ++ ys)) ++ z ≡ join (map g xs) ++ (join (map g ys) ++ z)
+  blocks-then xs ys z = ap (λ (l : List B). l ++ z) (blocks-append xs ys) ∙ append-assoc (join (map g xs)) (join (map g ys)) z
+
 pub block-in : (t n k : ℕ) → t < n → t * k + k ≤ n * k
 block-in t n k h = rw suc-mul at (mul-le-mul-right k h)
 

@@ -8,17 +8,13 @@ use lib.ListN.{length, getD, length-map, List·getD-append}
 use lib.Seq.{ext-getD}
 use lib.Ieee.{Float, nan}
 use Rattle.definition.specs.Num.{tabFrom, tabulate, at}
-use Rattle.definition.specs.Run.{scan, join, count}
+use Rattle.definition.specs.Run.{join, count}
 use Rattle.definition.specs.Cov.{Decision, skipped, usual, diffuse, CovPeriod}
 use Rattle.definition.specs.Parts.{fStar, fInf, mStar, mInf, kindNo, fStarOf, fInfOf, mStarOf, mInfOf, kindBlock, covBlock}
+use Rattle.laws.specs.All.{AllOf, all-append, all-at}
 use Rattle.laws.specs.Flat.{Flat, decisionOf, readBack, decisionsAt, decisionRows}
 use Rattle.laws.specs.Lists.{Each, join-at, length-join, each-at, place-lt, tab-at, length-tab}
 use Rattle.laws.specs.Passes.{map-append, join-append, count-map}
-
--- P of each
-abbrev pub AllOf : {A : Type 0} → (A → Type 0) → List A → Type 0
-AllOf P [] = Unit {0}
-AllOf P (x ∷ l) = P x × AllOf P l
 
 pub record Shaped (m : ℕ) (d : Decision) : Type 0 where
   pub star : length (mStarOf m d) ≡ m
@@ -28,12 +24,6 @@ pub record Shaped (m : ℕ) (d : Decision) : Type 0 where
 pub record Whole (p m : ℕ) (ds : List Decision) : Type 0 where
   pub many : length ds ≡ p
   pub shaped : AllOf (Shaped m) ds
-
-module _ {A B S : Type 0} (f : ℕ → S → A → B × S) (Q : A → Type 0) (P : B → Type 0) (step : (t : ℕ) (s : S) (x : A) → Q x → P (f t s x .0)) where
-  pub scan-all : (xs : List A) (t : ℕ) (s : S) → AllOf Q xs → AllOf P (scan f t s xs .0)
-  unfolding scan
-  scan-all [] t s h = tt
-  scan-all (x ∷ xs) t s h = (step t s x (h .0), scan-all xs (suc t) (f t s x .1) (h .1))
 
 module _ {A B : Type 0} where
   pub getD-map-in : (g : A → B) (l : List A) (i : ℕ) (d : A) (e : B) → i < length l → getD (map g l) i e ≡ g (getD l i d)
@@ -54,15 +44,6 @@ module _ {A B : Type 0} where
 pub map-map : {A B C : Type 0} (g : B → C) (f : A → B) (l : List A) → map g (map f l) ≡ map (λ x. g (f x)) l
 map-map g f [] = refl
 map-map {C = C} g f (x ∷ l) = ap (λ (r : List C). g (f x) ∷ r) (map-map g f l)
-
-all-append : {A : Type 0} (P : A → Type 0) (xs ys : List A) → AllOf P xs → AllOf P ys → AllOf P (xs ++ ys)
-all-append P [] ys h g = g
-all-append P (x ∷ xs) ys h g = (h .0, all-append P xs ys (h .1) g)
-
-all-at : {A : Type 0} (P : A → Type 0) (xs : List A) (i : ℕ) (d : A) → AllOf P xs → i < length xs → P (getD xs i d)
-all-at P [] i d h l = absurd (not-suc-le-zero l)
-all-at P (x ∷ xs) zero d h l = h .0
-all-at P (x ∷ xs) (suc i) d h l = all-at P xs i d (h .1) (le-of-suc-le-suc l)
 
 module _ (p m : ℕ) where
   each-whole : (dss : List (List Decision)) → AllOf (Whole p m) dss → Each p dss

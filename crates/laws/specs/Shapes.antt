@@ -14,8 +14,9 @@ use Rattle.definition.specs.Dense.{dot, matVec, matTVec, symmetrise}
 use Rattle.definition.specs.Run.{scan, chunks, count}
 use Rattle.definition.specs.Cov.{System, Cov, Fixed, Inner, Decision, skipped, usual, diffuse, CovPeriod, Candidate, usually, usualTest, diffusely, diffuseTest, fStarBy, fInfBy, judge, candidate, verdict, elementOf, isLive, entered, ended, stepped, stepStar, stepInf, periodOf, period, covRun}
 use Rattle.definition.specs.Inputs.{Class, isGap, gapRows}
-use Rattle.laws.specs.Lists.{Each, chunks-each, length-tab, length-scan, length-chunks}
-use Rattle.laws.specs.ReadBack.{AllOf, Shaped, Whole, scan-all}
+use Rattle.laws.specs.Lists.{chunks-each, length-tab, length-scan, length-chunks}
+use Rattle.laws.specs.All.{AllOf, all-true, each-all, scan-all, scan-leaves}
+use Rattle.laws.specs.ReadBack.{Shaped, Whole}
 
 -- ---- the decisions
 
@@ -56,10 +57,6 @@ unfolding verdict
 verdict-shaped p m h f i s true = skipped-shaped m
 verdict-shaped p m h f i s false = judge-shaped m (candidate p m h f i s)
 
-all-true : {A : Type 0} (l : List A) → AllOf (λ x. Unit {0}) l
-all-true [] = tt
-all-true (x ∷ l) = (tt, all-true l)
-
 period-whole : (y : System) (p t : ℕ) (c : Cov) (gaps : List Bool) → length gaps ≡ p → Whole p (y .m) (period y t c gaps .0 .decisions)
 unfolding periodOf ended elementOf
 period-whole y p t c gaps e =
@@ -68,18 +65,15 @@ period-whole y p t c gaps e =
       shaped = scan-all _ (λ x. Unit {0}) (Shaped (y .m)) (λ i s g u. verdict-shaped (y .p) (y .m) (y .h) _ i s g) gaps 0 _ (all-true gaps);
     }
 
-each-all : (p : ℕ) (gs : List (List Bool)) → Each p gs → AllOf (λ g. length g ≡ p) gs
-each-all p [] h = tt
-each-all p (g ∷ gs) h = (h .0, each-all p gs (h .1))
-
-module _ (y : System) (c : Cov) (ks : List Class) (n p : ℕ) where
-  pub run-whole : length ks ≡ n * p → AllOf (λ c. Whole p (y .m) (c .decisions)) (covRun y 0 c (gapRows n p ks) .0)
+-- of the run from any period t on
+module _ (y : System) (t : ℕ) (c : Cov) (ks : List Class) (n p : ℕ) where
+  pub run-whole : length ks ≡ n * p → AllOf (λ c. Whole p (y .m) (c .decisions)) (covRun y t c (gapRows n p ks) .0)
   unfolding covRun gapRows
-  run-whole e = scan-all (period y) (λ g. length g ≡ p) (λ c. Whole p (y .m) (c .decisions)) (λ t c g h. period-whole y p t c g h) (chunks n p (map isGap ks)) 0 c (each-all p (chunks n p (map isGap ks)) (chunks-each n p (map isGap ks) (length-map ks isGap ∙ e)))
+  run-whole e = scan-all (period y) (λ g. length g ≡ p) (λ c. Whole p (y .m) (c .decisions)) (λ t c g h. period-whole y p t c g h) (chunks n p (map isGap ks)) t c (each-all p (chunks n p (map isGap ks)) (chunks-each n p (map isGap ks) (length-map ks isGap ∙ e)))
 
-  pub run-length : length (covRun y 0 c (gapRows n p ks) .0) ≡ n
+  pub run-length : length (covRun y t c (gapRows n p ks) .0) ≡ n
   unfolding covRun gapRows
-  run-length = length-scan (period y) (chunks n p (map isGap ks)) 0 c ∙ length-chunks n p (map isGap ks)
+  run-length = length-scan (period y) (chunks n p (map isGap ks)) t c ∙ length-chunks n p (map isGap ks)
 
 -- ---- diffuse periods come first
 pub record First (f : ℕ → Cov → List Bool → CovPeriod × Cov) : Type 0 where
@@ -136,9 +130,7 @@ pub record Keeps (m : ℕ) (f : ℕ → Cov → List Bool → CovPeriod × Cov) 
 
 module _ (m : ℕ) (f : ℕ → Cov → List Bool → CovPeriod × Cov) (law : Keeps m f) where
   pub run-sized : (xs : List (List Bool)) (t : ℕ) (c : Cov) → Sized m c → AllOf (SizedP m) (scan f t c xs .0)
-  unfolding scan
-  run-sized [] t c h = tt
-  run-sized (x ∷ xs) t c h = (law .leaves t c x h, run-sized xs (suc t) (f t c x .1) (law .goes-on t c x h))
+  run-sized xs t c h = scan-leaves f (Sized m) (λ g. Unit {0}) (SizedP m) (law .goes-on) (λ t c g h u. law .leaves t c g h) xs t c h (all-true xs)
 
 cond-long : (b : Bool) (u v : List Float) (k : ℕ) → length u ≡ k → length v ≡ k → length (cond b u v) ≡ k
 cond-long true u v k e g = e

@@ -1,11 +1,12 @@
--- What the filter's call and the smoother's promise: the answer and every lent part afterwards, tails included, by the definition's outcome.
+-- What the filter's call, the smoother's and a stretch's promise: the answer and every lent part afterwards, tails included, by the definition's outcome.
 use mathlib.Core.Path.{_≡_}
 use Prim.Native.Nat.{ℕ, zero, suc}
 use mathlib.Core.List.{List}
 use lib.Ieee.{Float}
 use Rattle.definition.specs.Parts.{CovPart, MeanPart}
 use Rattle.definition.specs.Outcome.{CovParts, MeanParts, Counts, CovOutcome, MeanOutcome, SmoothedCov, SmoothedMean, outcome, smoothOutcome}
-use Rattle.promise.specs.Lent.{Given, Lent, LentSmooth}
+use Rattle.definition.specs.Stretch.{StretchOutcome, stretchOutcome}
+use Rattle.promise.specs.Lent.{Given, Lent, LentSmooth, GivenStretch, LentStretch}
 use Rattle.promise.specs.declared.Answer.{Answer}
 use Rattle.promise.specs.declared.Outcome.{Outcome}
 use Rattle.promise.specs.declared.Outcome.the-variants.{Refused, Answered}
@@ -36,6 +37,11 @@ pub record PromiseSmooth (u : SmoothedCov × SmoothedMean) (r : Outcome) (b : Co
   pub mean : sm ≡ u .1 .smoothed
   pub cov : sc ≡ u .0 .smoothed
 
+-- the same, and the part to save in
+pub record PromiseStretch (u : StretchOutcome) (r : Outcome) (b : CovParts) (b′ : MeanParts) (kept : List ℕ) : Type 0 where
+  pub filter : Promise (u .cov, u .mean) r b b′
+  pub save : kept ≡ u .save
+
 -- ---- the calls' promises: x is what the call is given, w what it is lent, r its answer, b what is lent afterwards
 
 abbrev pub Filtered : Given → Lent → Outcome → Lent → Type 0
@@ -45,3 +51,9 @@ abbrev pub Smoothed : Given → LentSmooth → Outcome → LentSmooth → Type 0
 Smoothed x w r b =
     PromiseSmooth (smoothOutcome (x .model) (x .offsets) (x .readings) (w .filter .cov) (w .filter .mean) (w .mean) (w .cov)) r
     (b .filter .cov) (b .filter .mean) (b .mean) (b .cov)
+
+abbrev pub Stretched : GivenStretch → LentStretch → Outcome → LentStretch → Type 0
+Stretched x w r b =
+    PromiseStretch
+    (stretchOutcome (x .filter .model) (x .filter .offsets) (x .from) (x .last) (x .filter .readings) (w .filter .cov) (w .filter .mean) (w .save)) r
+    (b .filter .cov) (b .filter .mean) (b .save)

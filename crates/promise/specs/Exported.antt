@@ -2,9 +2,11 @@
 -- and the four as they were.
 use mathlib.Core.Path.{_≡_}
 use Prim.Native.Nat.{ℕ}
+use mathlib.Core.Bool.{Bool, not}
+use lib.Dec.{eqb}
 use lib.Ieee.{Float}
-use Rattle.promise.specs.Lent.{Given, Lent, LentSmooth}
-use Rattle.promise.specs.Calls.{refusalOf, Filtered, Smoothed}
+use Rattle.promise.specs.Lent.{Given, Lent, LentSmooth, GivenStretch, LentStretch}
+use Rattle.promise.specs.Calls.{refusalOf, Filtered, Smoothed, Stretched}
 use Rattle.promise.specs.declared.Outcome.{Outcome}
 use Rattle.promise.specs.declared.Outcome.the-variants.{Refused, Answered}
 
@@ -27,6 +29,10 @@ pub record Told (o : Outcome) (k : ℕ) (old new : Places) : Type 0 where
   pub number : k ≡ refusalOf o
   pub answer : new ≡ placesOf o old
 
+-- a marker: any number but 0 is yes
+abbrev pub isYes : ℕ → Bool
+isYes b = not (eqb b 0)
+
 -- ---- the exported calls' promises: some outcome as the call promises it, and how that is told. x is what the call is given, w what it is lent, b what is
 -- lent afterwards; old and new are the answer's places, k the number that is handed back
 
@@ -38,4 +44,9 @@ pub record FilteredC (x : Given) (w : Lent) (old : Places) (k : ℕ) (b : Lent) 
 pub record SmoothedC (x : Given) (w : LentSmooth) (old : Places) (k : ℕ) (b : LentSmooth) (new : Places) : Type 0 where
   pub outcome : Outcome
   pub promise : Smoothed x w outcome b
+  pub told : Told outcome k old new
+
+pub record StretchedC (x : GivenStretch) (w : LentStretch) (old : Places) (k : ℕ) (b : LentStretch) (new : Places) : Type 0 where
+  pub outcome : Outcome
+  pub promise : Stretched x w outcome b
   pub told : Told outcome k old new

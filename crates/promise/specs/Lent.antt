@@ -1,10 +1,12 @@
 -- What a call is given and lent, as the definition's: `given` and `lent` take the parameters in the order in which every call has them.
 use Prim.Native.Nat.{ℕ}
+use mathlib.Core.Bool.{Bool}
 use mathlib.Core.List.{List}
 use lib.Ieee.{Float}
 use Rattle.definition.specs.Inputs.{Model, Offsets}
 use Rattle.definition.specs.Parts.{CovPart, predCov, predInf, filtCov, fStar, fInf, mStar, mInf, MeanPart, predMean, filtMean, innovations}
 use Rattle.definition.specs.Outcome.{CovParts, MeanParts}
+use Rattle.definition.specs.Stretch.{From}
 
 -- ---- the inputs, in the order of the calls' parameters
 
@@ -60,3 +62,19 @@ pub record LentSmooth : Type 0 where
 
 abbrev pub lentSmooth : List Float → List Float → List Float → List Float → List Float → List ℕ → List Float → List Float → List Float → List Float → List Float → List Float → List Float → LentSmooth
 lentSmooth pm pc pi fm fc ks v fs fi ms mi sm sc = record { filter = lent pm pc pi fm fc ks v fs fi ms mi; mean = sm; cov = sc }
+
+-- a stretch's call is given where it goes on from and whether it is the last, and is lent a part to save in
+pub record GivenStretch : Type 0 where
+  pub filter : Given
+  pub from : From
+  pub last : Bool
+
+abbrev pub givenStretch : Given → Bool → List ℕ → Bool → GivenStretch
+givenStretch x begins saved last = record { filter = x; from = record { begins = begins; saved = saved }; last = last }
+
+pub record LentStretch : Type 0 where
+  pub filter : Lent
+  pub save : List ℕ
+
+abbrev pub lentStretch : Lent → List ℕ → LentStretch
+lentStretch w save = record { filter = w; save = save }

@@ -9,7 +9,7 @@ pub struct Answer {
     pub news: usize,
 }
 
-// Refused with its number, 1 to 12, or answered.
+// Refused with its number, 1 to 12 or 15, or answered.
 pub enum Outcome {
     Refused(u8),
     Answered(Answer),

@@ -1,0 +1,107 @@
+-- Demand 3 of a stretch, the first half: the values of finite readings, and of the mean and the likelihood that were saved, reach no refusal, count,
+-- decision, variance, gain or covariance; and what is saved differs in no section but those two.
+use mathlib.Core.Path.{_≡_, refl, sym, ap, ap₂, _∙_, subst}
+use mathlib.Core.Logic.{inl}
+use Prim.Native.Nat.{ℕ, zero, suc, _+_}
+use native.Mathlib.Omega.{arith}
+use mathlib.Core.Bool.{Bool, false, not, cond}
+use mathlib.Core.List.{List, map}
+use lib.ListN.{length, take}
+use lib.Dec.{ltb, eqb}
+use lib.Ieee.{Float}
+use Rattle.definition.specs.Mean.{Mean}
+use Rattle.definition.specs.Inputs.{Model, Offsets, Class, classOf}
+use Rattle.definition.specs.Outcome.{CovParts, MeanParts, CovOutcome}
+use Rattle.definition.specs.Carried.{Past, Carried, begunPast, pastOn, went}
+use Rattle.definition.specs.Saved.{numbersIn, widths, sectionAt, sections, savedOf, savedNeed, badSaved, loadedPast}
+use Rattle.definition.specs.Stretch.{From, pastIn, carriedIn, badFrom, roomyStretch, stretchEnding, covStretch, stretchOutcome}
+use Rattle.laws.specs.SavedBack.{Savable, loaded, read, saved-length, bad-is}
+use Rattle.laws.specs.AcceptedStretch.{Ready}
+use Rattle.laws.specs.AcceptedStretch as stretch
+use Rattle.demands.specs.Values.{Alike, alike-classes}
+
+-- two saved runs that differ only in the mean and the likelihood, and are both refused or both not
+pub record Akin (p m r n : ℕ) (bs bs′ : List ℕ) : Type 0 where
+  pub long : length bs ≡ length bs′
+  pub bad : badSaved p m r n bs ≡ badSaved p m r n bs′
+  pub others : (j : ℕ) → (j ≡ 1 → ⊥) → (j ≡ 6 → ⊥) → sectionAt (numbersIn (widths m) bs) j ≡ sectionAt (numbersIn (widths m) bs′) j
+
+akin-past : (p m r n : ℕ) (bs bs′ : List ℕ) → Akin p m r n bs bs′ → loaded m bs .past ≡ loaded m bs′ .past
+unfolding loadedPast
+akin-past p m r n bs bs′ a =
+    let s0 = a .others 0 (λ q. omega arith) (λ q. omega arith) in
+    let s2 = a .others 2 (λ q. omega arith) (λ q. omega arith) in
+    let s3 = a .others 3 (λ q. omega arith) (λ q. omega arith) in
+    let s4 = a .others 4 (λ q. omega arith) (λ q. omega arith) in
+    let s5 = a .others 5 (λ q. omega arith) (λ q. omega arith) in
+    let s7 = a .others 7 (λ q. omega arith) (λ q. omega arith) in
+    cc
+
+abbrev from : Bool → List ℕ → From
+from b bs = record { begins = b; saved = bs }
+
+module _ (x : Model) (begins : Bool) (bs bs′ : List ℕ) (akin : Akin (x .p) (x .m) (x .r) (x .n) bs bs′) where
+  pub akin-pasts : pastIn x (from begins bs) ≡ pastIn x (from begins bs′)
+  unfolding pastIn
+  akin-pasts = ap (cond begins (begunPast x)) (akin-past (x .p) (x .m) (x .r) (x .n) bs bs′ akin)
+
+  akin-bad : badFrom x (from begins bs) ≡ badFrom x (from begins bs′)
+  unfolding badFrom
+  akin-bad = ap₂ (λ (n : ℕ) (b : Bool). cond begins (not (eqb n 0)) b) (akin .long) (akin .bad)
+
+  pub values : (o : Offsets) (last : Bool) (y y′ : List Float) → Alike y y′ → (b : CovParts) (b′ : MeanParts) (save : List ℕ)
+      → stretchOutcome x o (from begins bs) last y b b′ save .cov ≡ stretchOutcome x o (from begins bs′) last y′ b b′ save .cov
+  unfolding stretchOutcome
+  values o last y y′ alike b b′ save =
+      let room = roomyStretch x last b b′ save in
+      let half : Bool → Past → List Class → CovOutcome = λ bad s ks. covStretch x (stretchEnding x o s bad last ks room) s ks b in
+      ap₂ (half (badFrom x (from begins bs))) akin-pasts (alike-classes y y′ alike) ∙ ap (λ (bad : Bool). half bad (pastIn x (from begins bs′)) (map classOf y′)) akin-bad
+
+-- ---- and what is saved
+
+sections-but : (p m r : ℕ) (s : Past) (a a′ : Mean) (j : ℕ) → (j ≡ 1 → ⊥) → (j ≡ 6 → ⊥) → sectionAt (sections p m r (record { past = s; mean = a })) j ≡ sectionAt (sections p m r (record { past = s; mean = a′ })) j
+unfolding sections
+sections-but p m r s a a′ zero h g = refl
+sections-but p m r s a a′ (suc zero) h g = absurd (h refl)
+sections-but p m r s a a′ (suc (suc zero)) h g = refl
+sections-but p m r s a a′ (suc (suc (suc zero))) h g = refl
+sections-but p m r s a a′ (suc (suc (suc (suc zero)))) h g = refl
+sections-but p m r s a a′ (suc (suc (suc (suc (suc zero))))) h g = refl
+sections-but p m r s a a′ (suc (suc (suc (suc (suc (suc zero)))))) h g = absurd (g refl)
+sections-but p m r s a a′ (suc (suc (suc (suc (suc (suc (suc zero))))))) h g = refl
+sections-but p m r s a a′ (suc (suc (suc (suc (suc (suc (suc (suc j)))))))) h g = refl
+
+-- states with one past save as runs that are akin, whatever the next stretch's length
+akin-saved : (p m r : ℕ) (s s′ : Carried) (n : ℕ) → Savable p m r s → Savable p m r s′ → s .past ≡ s′ .past → Akin p m r n (savedOf p m r s) (savedOf p m r s′)
+akin-saved p m r s s′ n a b e =
+    let rd = read p m r s a in
+    let rd′ = read p m r s′ b in
+    record {
+      long = saved-length p m r s a ∙ sym (saved-length p m r s′ b);
+      bad = bad-is p m r s a n ∙ ap (λ (u : Past). ltb 4096 (u .done + n)) e ∙ sym (bad-is p m r s′ b n);
+      others = λ j h g.
+          ap (λ (ns : List (List ℕ)). sectionAt ns j) rd
+          ∙ ap (λ (u : Past). sectionAt (sections p m r (record { past = u; mean = s .mean })) j) e
+          ∙ sections-but p m r (s′ .past) (s .mean) (s′ .mean) j h g
+          ∙ sym (ap (λ (ns : List (List ℕ)). sectionAt ns j) rd′);
+    }
+
+module _ (x : Model) (begins : Bool) (bs bs′ : List ℕ) (akin : Akin (x .p) (x .m) (x .r) (x .n) bs bs′) (o : Offsets) (y y′ : List Float) (alike : Alike y y′) (b : CovParts) (b′ : MeanParts) (save : List ℕ) where
+  -- what two such stretches save is akin again: so the runs may be cut anywhere
+  pub values-saved : Ready x o (from begins bs) → Ready x o (from begins bs′) → stretchOutcome x o (from begins bs) false y b b′ save .cov .refused ≡ 0 → (k : ℕ)
+      → Akin (x .p) (x .m) (x .r) k (take (savedNeed (x .m)) (stretchOutcome x o (from begins bs) false y b b′ save .save)) (take (savedNeed (x .m)) (stretchOutcome x o (from begins bs′) false y′ b b′ save .save))
+  unfolding went
+  values-saved ready ready′ e k =
+      let w = from begins bs in
+      let w′ = from begins bs′ in
+      let ok = stretch.free x o w false y b b′ save (inl e) in
+      let same = values x begins bs bs′ akin o false y y′ alike b b′ save in
+      let ok′ = stretch.free x o w′ false y′ b b′ save (inl (sym (ap (λ (c : CovOutcome). c .refused) same) ∙ e)) in
+      ap₂-akin (stretch.saved-is x o w false y b b′ save ready ok refl) (stretch.saved-is x o w′ false y′ b b′ save ready′ ok′ refl)
+      (akin-saved (x .p) (x .m) (x .r) _ _ k (stretch.ended x o w false y b b′ save ready ok) (stretch.ended x o w′ false y′ b b′ save ready′ ok′) same-past)
+    where
+      ap₂-akin : {c c′ d d′ : List ℕ} → c ≡ d → c′ ≡ d′ → Akin (x .p) (x .m) (x .r) k d d′ → Akin (x .p) (x .m) (x .r) k c c′
+      ap₂-akin {c} {c′} {d} {d′} p q a = subst (λ (z : List ℕ). Akin (x .p) (x .m) (x .r) k z c′) (sym p) (subst (λ (z : List ℕ). Akin (x .p) (x .m) (x .r) k d z) (sym q) a)
+
+      same-past : went x o (carriedIn x o (from begins bs)) y .past ≡ went x o (carriedIn x o (from begins bs′)) y′ .past
+      same-past = ap₂ (pastOn x) (akin-pasts x begins bs bs′ akin) (alike-classes y y′ alike)

@@ -1,0 +1,76 @@
+-- A stretch that begins, is the last and has a period is the filter's call (`whole`).
+use mathlib.Core.Path.{_≡_, refl, ap, ap₂, _∙_}
+use Prim.Native.Nat.{ℕ, _<_}
+use native.Mathlib.Nat.{zero-add}
+use native.Mathlib.Omega.{arith}
+use mathlib.Core.Bool.{Bool, true, false, _&&_}
+use mathlib.Core.List.{List, [], _∷_, map}
+use lib.ListN.{length}
+use lib.Dec.{eqb}
+use lib.Ieee.{Float}
+use borrow.Author.Tests.{ne-eqb}
+use Rattle.definition.specs.Run.{anyOf}
+use Rattle.definition.specs.Inputs.{Model, Offsets, Class, classOf, isInfinity}
+use Rattle.definition.specs.Refusals.{outside, firstOf, ofInputs, tests, refusal}
+use Rattle.definition.specs.Outcome.{CovParts, MeanParts, CovOutcome, MeanOutcome, Counts, Ending, turned, silent, answered, endingOf, ending, after, countsOf, covOf, meanOf, covEnded, covOutcome, meanOutcome, noInformation, outcome, outcomeAt, roomy}
+use Rattle.definition.specs.Carried.{begunPast, begunMean, covFrom, meanFrom, plus, pastOn, meanOn}
+use Rattle.definition.specs.Stretch.{From, StretchOutcome, pastIn, meanIn, outsideStretch, badFrom, stretchTests, stretchRefusal, roomyStretch, stretchEnding, covStretch, meanStretch, saveStretch, stretchOutcome}
+use Rattle.laws.specs.Numbered.{first-more}
+use Rattle.demands.specs.Unheard.{begun}
+
+-- a run's start
+abbrev pub start : From
+start = record { begins = true; saved = [] }
+
+and-yes : (a : Bool) → (a && true) ≡ a
+and-yes true = refl
+and-yes false = refl
+
+-- with a period, refusal 1 is document 01's
+pub same-outside : (p m r n : ℕ) → 0 < n → outsideStretch p m r n ≡ outside p m r n
+unfolding outsideStretch outside
+same-outside p m r n h = let e : eqb n 0 ≡ false = ne-eqb n 0 (λ z. omega arith) in rw e
+
+pub same-refusal : (x : Model) (o : Offsets) (n : ℕ) (infinity room : Bool) → 0 < x .n → stretchRefusal x o n infinity room false ≡ refusal x o n infinity room
+unfolding stretchRefusal stretchTests refusal tests
+same-refusal x o n infinity room h =
+    let rest = ofInputs x o n infinity room in
+    first-more ((1, outsideStretch (x .p) (x .m) (x .r) (x .n)) ∷ rest) 15 ∙ ap (λ (b : Bool). firstOf ((1, b) ∷ rest)) (same-outside (x .p) (x .m) (x .r) (x .n) h)
+
+module _ (x : Model) (o : Offsets) (some : 0 < x .n) where
+  same-counts : (ks : List Class) → pastOn x (begunPast x) ks .counts ≡ countsOf (covOf x ks .0) ks
+  unfolding pastOn plus begunPast covFrom covOf
+  same-counts ks = rw (zero-add (countsOf (covOf x ks .0) ks .dDiffuse), zero-add (countsOf (covOf x ks .0) ks .heard), zero-add (countsOf (covOf x ks .0) ks .news))
+
+  same-ending : (ks : List Class) (b : CovParts) (b′ : MeanParts) (save : List ℕ) → stretchEnding x o (begunPast x) false true ks (roomyStretch x true b b′ save) ≡ ending x o ks (roomy x b b′)
+  unfolding stretchEnding ending roomyStretch
+  same-ending ks b b′ save =
+      ap₂ endingOf
+      (ap (λ (room : Bool). stretchRefusal x o (length ks) (anyOf isInfinity ks) room false) (and-yes (roomy x b b′)) ∙ same-refusal x o (length ks) (anyOf isInfinity ks) (roomy x b b′) some)
+      (ap noInformation (same-counts ks))
+
+  same-cov : (f : Ending) (ks : List Class) (b : CovParts) → covStretch x f (begunPast x) ks b ≡ covOutcome x f ks b
+  unfolding covStretch covOutcome covFrom begunPast covOf
+  same-cov f ks b = ap (λ (l : Counts). covEnded x f (covOf x ks) l b) (same-counts ks)
+
+  same-mean : (f : Ending) (y : List Float) (b : MeanParts) → meanStretch x f o (begun x o) y b ≡ meanOutcome x f o (map classOf y) y b
+  unfolding meanStretch meanOutcome meanOn meanFrom begunMean covFrom begunPast covOf meanOf
+  same-mean f y b = refl
+
+  same-save : (f : Ending) (y : List Float) (save : List ℕ) → saveStretch x f o (begun x o) true y save ≡ save
+  unfolding saveStretch after
+  same-save (turned k) y save = refl
+  same-save silent y save = refl
+  same-save answered y save = refl
+
+  pub whole : (y : List Float) (b : CovParts) (b′ : MeanParts) (save : List ℕ) → stretchOutcome x o start true y b b′ save ≡ record { cov = outcome x o y b b′ .0; mean = outcome x o y b b′ .1; save = save }
+  unfolding stretchOutcome pastIn meanIn badFrom outcome outcomeAt
+  whole y b b′ save =
+      let ks = map classOf y in
+      let f = ending x o ks (roomy x b b′) in
+      let s = begun x o in
+      ap (λ (f : Ending). record { cov = covStretch x f (begunPast x) ks b; mean = meanStretch x f o s y b′; save = saveStretch x f o s true y save }) (same-ending ks b b′ save)
+      ∙ made (covStretch x f (begunPast x) ks b) (covOutcome x f ks b) (meanStretch x f o s y b′) (meanOutcome x f o ks y b′) (saveStretch x f o s true y save) save (same-cov f ks b) (same-mean f y b′) (same-save f y save)
+    where
+      made : (c c′ : CovOutcome) (s s′ : MeanOutcome) (v v′ : List ℕ) → c ≡ c′ → s ≡ s′ → v ≡ v′ → _≡_ {A = StretchOutcome} (record { cov = c; mean = s; save = v }) (record { cov = c′; mean = s′; save = v′ })
+      made c c′ s s′ v v′ p q r = cc
