@@ -21,6 +21,8 @@ use Rattle.laws.specs.Blocks.{part-in}
 use Rattle.dense.specs.Views.{mat, rect}
 use Rattle.dense.specs.Places.{Saved, saved}
 use Rattle.period.specs.Views.{stateOf, gapsOf}
+use Rattle.carried.specs.State.{covLaid, covKept}
+use Rattle.cov.specs.declared.Ended.{Ended}
 use Rattle.cov.specs.View.{Blocks, Held, Room, LoopedTo, Passed}
 
 -- what is mapped over a part is a part of what is mapped over the whole
@@ -158,15 +160,14 @@ module _ (p m : ℕ) (z zs h t r : List Float) (c : Cov) (y : List Float) (n : �
 
   module _ {i d : ℕ} {live : Bool} (p* p∞ b u : List Float) {pc₀ pc pi₀ pi fc₀ fc : List Float} {k₀ k : List ℕ} {fs₀ fs fi₀ fi ms₀ ms mi₀ mi : List Float} where
     pub going-all : Going i (stateOf m p* p∞ b u live) d pc₀ pc pi₀ pi fc₀ fc k₀ k fs₀ fs fi₀ fi ms₀ ms mi₀ mi → n ≤ i → Room p m n (length pc₀) (length pi₀) (length fc₀) (length k₀) (length fs₀) (length fi₀) (length ms₀) (length mi₀)
-        → LoopedTo p m n (covRun Y 0 c gs) p* p∞ d pc₀ pc pi₀ pi fc₀ fc k₀ k fs₀ fs fi₀ fi ms₀ ms mi₀ mi
+        → LoopedTo p m n (covRun Y 0 c gs) p* p∞ b u (record { live = live; diffuse = d }) pc₀ pc pi₀ pi fc₀ fc k₀ k fs₀ fs fi₀ fi ms₀ ms mi₀ mi
     unfolding covRun
     going-all g h′ room =
         let e : i ≡ n = omega (arith, g .low) in
         let st = state-all (period Y) gs c n i (stateOf m p* p∞ b u live) rows e (g .state) in
         let all : take i gs ≡ gs = take-all i gs (omega (arith, rows)) in
         record {
-          star = ap (λ (s : Cov). s .star) st;
-          pinf = ap (λ (s : Cov). s .pinf) st;
+          state = st;
           diffuse = g .diffuse ∙ ap (λ (l : List (List Bool)). count (λ c. c .diffuse) (scan (period Y) 0 c l .0)) all;
           pred = wrote-all (period Y) (covBlock m predCov) (m * m) gs c n i pc₀ pc rows e (room .pred) (g .pred);
           pred-inf = wrote-all (period Y) (covBlock m predInf) (m * m) gs c n i pi₀ pi rows e (room .pred-inf) (g .pred-inf);
@@ -178,15 +179,17 @@ module _ (p m : ℕ) (z zs h t r : List Float) (c : Cov) (y : List Float) (n : �
           m-infs = wrote-all (period Y) (covBlock m mInf) (p * m) gs c n i mi₀ mi rows e (room .m-infs) (g .m-infs);
         }
 
--- place n stored too, in its own part
-module _ (p m n : ℕ) {r : List CovPeriod × Cov} {d : ℕ} {p* p∞ : List Float} {pc₀ pc pi₀ pi fc₀ fc : List Float} {k₀ k : List ℕ} {fs₀ fs fi₀ fi ms₀ ms mi₀ mi : List Float} (pcb pib : List Float) where
-  pub passed : LoopedTo p m n r p* p∞ d pc₀ pc pi₀ pi fc₀ fc k₀ k fs₀ fs fi₀ fi ms₀ ms mi₀ mi → length pcb ≡ m * m → pcb ≡ mat m p* → length pib ≡ m * m → pib ≡ mat m p∞ → Passed p m n r d pc₀ (over n (m * m) pc pcb) pi₀ (over n (m * m) pi pib) fc₀ fc k₀ k fs₀ fs fi₀ fi ms₀ ms mi₀ mi
+-- place n stored too, in its own part, and the state kept
+module _ (p m n : ℕ) {r : List CovPeriod × Cov} {e : Ended} {p* p∞ b u s s′ : List Float} {pc₀ pc pi₀ pi fc₀ fc : List Float} {k₀ k : List ℕ} {fs₀ fs fi₀ fi ms₀ ms mi₀ mi : List Float} (pcb pib : List Float) where
+  pub passed : LoopedTo p m n r p* p∞ b u e pc₀ pc pi₀ pi fc₀ fc k₀ k fs₀ fs fi₀ fi ms₀ ms mi₀ mi → length pcb ≡ m * m → pcb ≡ mat m p* → length pib ≡ m * m → pib ≡ mat m p∞ → s′ ≡ covLaid m s (mat m p*) (mat m p∞) (mat m b) (mat m u) → Passed p m n r e s s′ pc₀ (over n (m * m) pc pcb) pi₀ (over n (m * m) pi pib) fc₀ fc k₀ k fs₀ fs fi₀ fi ms₀ ms mi₀ mi
   unfolding covWritten kindsWritten
-  passed l lc ec li ei =
+  passed l lc ec li ei q =
       record {
+        live = ap (λ (c : Cov). c .live) (l .state);
         diffuse = l .diffuse;
-        pred = rw (← l .star, ← ec) (lay-last n (m * m) (join (map (covBlock m predCov) (r .0))) pcb pc₀ pc (l .pred) lc);
-        pred-inf = rw (← l .pinf, ← ei) (lay-last n (m * m) (join (map (covBlock m predInf) (r .0))) pib pi₀ pi (l .pred-inf) li);
+        state = q ∙ ap (λ (c : Cov). covKept m s c) (l .state);
+        pred = rw (← ap (λ (c : Cov). c .star) (l .state), ← ec) (lay-last n (m * m) (join (map (covBlock m predCov) (r .0))) pcb pc₀ pc (l .pred) lc);
+        pred-inf = rw (← ap (λ (c : Cov). c .pinf) (l .state), ← ei) (lay-last n (m * m) (join (map (covBlock m predInf) (r .0))) pib pi₀ pi (l .pred-inf) li);
         filt = l .filt;
         kinds = l .kinds;
         stars = l .stars;
@@ -200,9 +203,9 @@ module _ (p m n : ℕ) (z zs : List Float) (gs : List (List Bool)) (h h′ t t�
   same-run : h′ ≡ h → t′ ≡ t → r′ ≡ r → c′ ≡ c → covRun (systemFrom p m z zs h′ t′ r′) 0 c′ gs ≡ covRun (systemFrom p m z zs h t r) 0 c gs
   same-run a b e f = cc
 
-  module _ {d : ℕ} {p* p∞ : List Float} {pc₀ pc pi₀ pi fc₀ fc : List Float} {k₀ k : List ℕ} {fs₀ fs fi₀ fi ms₀ ms mi₀ mi : List Float} (pcb pib : List Float) where
-    pub finished : h′ ≡ h → t′ ≡ t → r′ ≡ r → c′ ≡ c → LoopedTo p m n (covRun (systemFrom p m z zs h′ t′ r′) 0 c′ gs) p* p∞ d pc₀ pc pi₀ pi fc₀ fc k₀ k fs₀ fs fi₀ fi ms₀ ms mi₀ mi
-        → {a b : ℕ} → a ≡ m * m → Saved a p* pcb → b ≡ m * m → Saved b p∞ pib
-        → Passed p m n (covRun (systemFrom p m z zs h t r) 0 c gs) d pc₀ (over n (m * m) pc pcb) pi₀ (over n (m * m) pi pib) fc₀ fc k₀ k fs₀ fs fi₀ fi ms₀ ms mi₀ mi
+  module _ {o : Ended} {p* p∞ w u s s′ : List Float} {pc₀ pc pi₀ pi fc₀ fc : List Float} {k₀ k : List ℕ} {fs₀ fs fi₀ fi ms₀ ms mi₀ mi : List Float} (pcb pib : List Float) where
+    pub finished : h′ ≡ h → t′ ≡ t → r′ ≡ r → c′ ≡ c → LoopedTo p m n (covRun (systemFrom p m z zs h′ t′ r′) 0 c′ gs) p* p∞ w u o pc₀ pc pi₀ pi fc₀ fc k₀ k fs₀ fs fi₀ fi ms₀ ms mi₀ mi
+        → {a b : ℕ} → a ≡ m * m → Saved a p* pcb → b ≡ m * m → Saved b p∞ pib → s′ ≡ covLaid m s (mat m p*) (mat m p∞) (mat m w) (mat m u)
+        → Passed p m n (covRun (systemFrom p m z zs h t r) 0 c gs) o s s′ pc₀ (over n (m * m) pc pcb) pi₀ (over n (m * m) pi pib) fc₀ fc k₀ k fs₀ fs fi₀ fi ms₀ ms mi₀ mi
     unfolding rect
-    finished a b e f l ec wc ei wi = passed p m n pcb pib (subst (λ (q : List CovPeriod × Cov). LoopedTo p m n q p* p∞ d pc₀ pc pi₀ pi fc₀ fc k₀ k fs₀ fs fi₀ fi ms₀ ms mi₀ mi) (same-run a b e f) l) (wc .kept ∙ ec) (saved ec wc) (wi .kept ∙ ei) (saved ei wi)
+    finished a b e f l ec wc ei wi q = passed p m n pcb pib (subst (λ (r : List CovPeriod × Cov). LoopedTo p m n r p* p∞ w u o pc₀ pc pi₀ pi fc₀ fc k₀ k fs₀ fs fi₀ fi ms₀ ms mi₀ mi) (same-run a b e f) l) (wc .kept ∙ ec) (saved ec wc) (wi .kept ∙ ei) (saved ei wi) q

@@ -14,6 +14,9 @@ use Rattle.laws.specs.Passes.{Laid}
 use Rattle.dense.specs.Views.{mat}
 use Rattle.model.specs.Design.{DesignFits}
 use Rattle.model.specs.Places.{NoiseFits, StartFits}
+use Rattle.period.specs.Views.{stateOf}
+use Rattle.carried.specs.State.{covKept}
+use Rattle.cov.specs.declared.Ended.{Ended}
 
 -- ---- one period, in three steps
 
@@ -97,10 +100,9 @@ pub record Room (p m n : ℕ) (pc pi fc ks fs fi ms mi : ℕ) : Type 0 where
   pub m-infs : n * (p * m) ≤ mi
 
 -- what the loop leaves, over the run r: the state, the count of diffuse periods, and the periods' blocks laid over the parts
-pub record LoopedTo (p m n : ℕ) (r : List CovPeriod × Cov) (p* p∞ : List Float) (dd : ℕ) (pc₀ pc pi₀ pi fc₀ fc : List Float) (ks₀ ks : List ℕ) (fs₀ fs fi₀ fi ms₀ ms mi₀ mi : List Float) : Type 0 where
-  pub star : mat m p* ≡ r .1 .star
-  pub pinf : mat m p∞ ≡ r .1 .pinf
-  pub diffuse : dd ≡ count (λ c. c .diffuse) (r .0)
+pub record LoopedTo (p m n : ℕ) (r : List CovPeriod × Cov) (p* p∞ b u : List Float) (e : Ended) (pc₀ pc pi₀ pi fc₀ fc : List Float) (ks₀ ks : List ℕ) (fs₀ fs fi₀ fi ms₀ ms mi₀ mi : List Float) : Type 0 where
+  pub state : stateOf m p* p∞ b u (e .live) ≡ r .1
+  pub diffuse : e .diffuse ≡ count (λ c. c .diffuse) (r .0)
   pub pred : Laid (n * (m * m)) (join (map (covBlock m predCov) (r .0))) pc₀ pc
   pub pred-inf : Laid (n * (m * m)) (join (map (covBlock m predInf) (r .0))) pi₀ pi
   pub filt : Laid (n * (m * m)) (join (map (covBlock m filtCov) (r .0))) fc₀ fc
@@ -133,9 +135,12 @@ pub record Rooms (p m n : ℕ) (pc pi fc ks fs fi ms mi : ℕ) : Type 0 where
   pub m-stars : n * (p * m) ≤ ms
   pub m-infs : n * (p * m) ≤ mi
 
--- what it leaves: the count of diffuse periods, and each part as the definition writes it, its tail as it was
-pub record Passed (p m n : ℕ) (r : List CovPeriod × Cov) (dd : ℕ) (pc₀ pc pi₀ pi fc₀ fc : List Float) (ks₀ ks : List ℕ) (fs₀ fs fi₀ fi ms₀ ms mi₀ mi : List Float) : Type 0 where
-  pub diffuse : dd ≡ count (λ c. c .diffuse) (r .0)
+-- what it leaves: whether the diffuse state lasts, the count of diffuse periods, the carried state, and each part as the definition writes it, its tail as
+-- it was
+pub record Passed (p m n : ℕ) (r : List CovPeriod × Cov) (e : Ended) (s s′ pc₀ pc pi₀ pi fc₀ fc : List Float) (ks₀ ks : List ℕ) (fs₀ fs fi₀ fi ms₀ ms mi₀ mi : List Float) : Type 0 where
+  pub live : e .live ≡ r .1 .live
+  pub diffuse : e .diffuse ≡ count (λ c. c .diffuse) (r .0)
+  pub state : s′ ≡ covKept m s (r .1)
   pub pred : Laid (n * (m * m) + m * m) (covWritten m r predCov) pc₀ pc
   pub pred-inf : Laid (n * (m * m) + m * m) (covWritten m r predInf) pi₀ pi
   pub filt : Laid (n * (m * m)) (covWritten m r filtCov) fc₀ fc

@@ -1,17 +1,25 @@
 // The covariance pass: the periods in order. Each is handed its own block of every output and can touch nothing else.
+// Where it begins and what it keeps of the state is crates/carried.
 ghost use mathlib.Core.Path.{_≡_};
 ghost use mathlib.Core.Bool.{cond};
 ghost use mathlib.Core.List.{map};
 ghost use Prim.Native.Nat.{_≤_, _*_, _+_};
 ghost use lib.ListN.{length};
 ghost use Rattle.definition.specs.Cov.{periodOf, covRun};
-ghost use Rattle.definition.specs.Inputs.{classOf, gapRows, systemFrom, startFrom, noiseOf};
+ghost use Rattle.definition.specs.Inputs.{classOf, gapRows, systemFrom, noiseOf};
 ghost use Rattle.dense.specs.Views.{mat};
 ghost use Rattle.period.specs.Views.{stateOf, gapsOf};
+ghost use Rattle.carried.specs.State.{StateFits, covFrom};
 ghost use Rattle.cov.specs.View.{Period, Records, Blocks, Periods, Room, Ready, Rooms};
 ghost use Rattle.cov.specs.View.{absorbOf, Entered, Absorbed, Left, Held, LoopedTo, Passed};
 
 pub mod counts;
+
+// Where the periods end: whether the diffuse state lasts, and how many of them were diffuse.
+pub struct Ended {
+    pub live: bool,
+    pub diffuse: usize,
+}
 
 // What comes before the elements: whether the period is diffuse, P∞ as it enters, and the predicted P* and P∞ stored.
 fn enter(
@@ -182,7 +190,7 @@ fn and_one(d: usize, yes: bool) -> usize
     if yes { d + 1 } else { d }
 }
 
-// All n periods, in order. Each is handed its own block of each output. How many were diffuse.
+// All n periods, in order. Each is handed its own block of each output.
 fn cov_loop<'a>(
     star: &mut [f64; 64],
     p_inf: &mut [f64; 64],
@@ -207,16 +215,17 @@ fn cov_loop<'a>(
     m: usize,
     n: usize,
     listed: usize,
-) -> usize
+) -> Ended
     requires { ⌜ Periods p m n listed (length (now z)) (length (now zs)) (length (now y))
         × Room p m n (length (now «pred_cov»)) (length (now «pred_inf»)) (length (now «filt_cov»))
         (length (now kinds)) (length (now «f_star»)) (length (now «f_inf»))
         (length (now «m_star»)) (length (now «m_inf»)) ⌝ }
-    ensures { λ dd. ⌜ LoopedTo p m n
+    ensures { λ e. ⌜ LoopedTo p m n
         (covRun (systemFrom p m (now (z .entry)) (now (zs .entry)) (mat p (now (hs .entry)))
         (mat m (now (tr .entry))) (mat m (now (rqr .entry)))) 0
         (stateOf m (now (star .entry)) (now («p_inf» .entry)) (now (root .entry)) (now (unres .entry)) live)
-        (gapRows n p (map classOf (now (y .entry))))) (now (star .exit)) (now («p_inf» .exit)) dd
+        (gapRows n p (map classOf (now (y .entry)))))
+        (now (star .exit)) (now («p_inf» .exit)) (now (root .exit)) (now (unres .exit)) e
         (now («pred_cov» .entry)) (now («pred_cov» .exit)) (now («pred_inf» .entry)) (now («pred_inf» .exit))
         (now («filt_cov» .entry)) (now («filt_cov» .exit)) (now (kinds .entry)) (now (kinds .exit))
         (now («f_star» .entry)) (now («f_star» .exit)) (now («f_inf» .entry)) (now («f_inf» .exit))
@@ -259,11 +268,12 @@ fn cov_loop<'a>(
         );
         d = and_one(d, live);
     }
-    d
+    Ended { live, diffuse: d }
 }
 
 // The covariance pass: the predicted, diffuse and filtered covariances and the records of n periods, and place n of the
-// predicted ones, in its own part too. How many periods were diffuse. `listed` is how many designs the list has.
+// predicted ones, in its own part too. It begins at the state that is lent, and leaves it as it is after the n periods; an
+// empty state: it begins at the start. `listed` is how many designs the list has.
 pub fn cov_pass<'a>(
     z: &'a [f64],
     zs: &'a [f64],
@@ -282,21 +292,25 @@ pub fn cov_pass<'a>(
     f_inf: &mut [f64],
     m_star: &mut [f64],
     m_inf: &mut [f64],
+    state: &mut [f64],
+    live: bool,
     p: usize,
     m: usize,
     r: usize,
     n: usize,
     listed: usize,
-) -> usize
-    requires { ⌜ Ready p m r n listed (length (now z)) (length (now zs)) (length (now h)) (length (now t))
+) -> Ended
+    requires { ⌜ StateFits m (length (now state))
+        × Ready p m r n listed (length (now z)) (length (now zs)) (length (now h)) (length (now t))
         (length (now rr)) (length (now q)) (length (now «p_star»)) (length (now flags)) (length (now y))
         × Rooms p m n (length (now «pred_cov»)) (length (now «pred_inf»)) (length (now «filt_cov»))
         (length (now kinds)) (length (now «f_star»)) (length (now «f_inf»))
         (length (now «m_star»)) (length (now «m_inf»)) ⌝ }
-    ensures { λ dd. ⌜ Passed p m n
+    ensures { λ e. ⌜ Passed p m n
         (covRun (systemFrom p m (now (z .entry)) (now (zs .entry)) (now (h .entry)) (now (t .entry))
         (noiseOf m r (now (rr .entry)) (now (q .entry)))) 0
-        (startFrom m (now («p_star» .entry)) (now (flags .entry))) (gapRows n p (map classOf (now (y .entry))))) dd
+        (covFrom m (now (state .entry)) live (now («p_star» .entry)) (now (flags .entry)))
+        (gapRows n p (map classOf (now (y .entry))))) e (now (state .entry)) (now (state .exit))
         (now («pred_cov» .entry)) (now («pred_cov» .exit)) (now («pred_inf» .entry)) (now («pred_inf» .exit))
         (now («filt_cov» .entry)) (now («filt_cov» .exit)) (now (kinds .entry)) (now (kinds .exit))
         (now («f_star» .entry)) (now («f_star» .exit)) (now («f_inf» .entry)) (now («f_inf» .exit))
@@ -309,16 +323,18 @@ pub fn cov_pass<'a>(
     let mut p_inf = [0.0; 64];
     let mut root = [0.0; 64];
     let mut unres = [0.0; 64];
-    let live = model::start(
+    let live = carried::cov_from(
+        state,
         p_star,
         flags,
+        live,
         m,
         &mut star,
         &mut p_inf,
         &mut root,
         &mut unres,
     );
-    let d = cov_loop(
+    let ended = cov_loop(
         &mut star,
         &mut p_inf,
         &mut root,
@@ -348,5 +364,6 @@ pub fn cov_pass<'a>(
     let to = from + mm;
     dense::save64(&mut pred_cov[from..to], &star);
     dense::save64(&mut pred_inf[from..to], &p_inf);
-    d
+    carried::keep_cov(state, &star, &p_inf, &root, &unres, m);
+    ended
 }

@@ -2,20 +2,21 @@
 use mathlib.Core.Path.{_≡_, sym, ap, _∙_}
 use Prim.Native.Nat.{ℕ, zero, suc, _≤_, _<_}
 use native.Mathlib.Omega.{arith}
-use mathlib.Core.Bool.{Bool, true, false}
+use mathlib.Core.Bool.{Bool, true}
 use mathlib.Core.List.{List, map}
 use lib.ListN.{length}
 use lib.Ieee.{Float}
 use Rattle.definition.specs.Run.{anyOf}
 use Rattle.definition.specs.Inputs.{Model, Offsets, Class, classOf, isInfinity}
-use Rattle.definition.specs.Outcome.{CovParts, MeanParts, Ending, turned, silent, answered, ending, roomy, noInformation, outcome, outcomeAt}
+use Rattle.definition.specs.Outcome.{CovParts, MeanParts, Ending, turned, endingOf, ending, numberOf, roomy, outcome, outcomeAt}
 use Rattle.laws.specs.Accepted.{accepted}
 use Rattle.model.specs.Lengths.{Room, by-room}
-use Rattle.promise.specs.declared.Answer.{Answer}
-use Rattle.forward.specs.View.{Fit, Ran}
-use Rattle.promise.specs.declared.Outcome.the-variants.{Refused, Answered}
-use Rattle.promise.specs.Calls.{Promise}
-use Rattle.filter.specs.Blanked.{Blanked}
+use Rattle.forward.specs.View.{Fit, FitOn, fit-on}
+use Rattle.judged.specs.declared.Judged.{Judged}
+use Rattle.judged.specs.Went.{Went}
+use Rattle.promise.specs.declared.Outcome.{Outcome}
+use Rattle.promise.specs.declared.Outcome.the-variants.{Refused}
+use Rattle.promise.specs.Calls.{answerBy, Promise}
 use Rattle.filter.specs.Ends as ends
 use Rattle.filter.specs.Ends.{Checked}
 
@@ -41,9 +42,12 @@ module _ {x : Model} {o : Offsets} {y : List Float} {w : CovParts} {w′ : MeanP
   pub fit : k ≤ 0 → Fit x o (length y) w w′
   fit h = record { accepted = accepted x o (length y) (anyOf isInfinity (kinds y)) (roomy x w w′) (sym (ends.none h (e .number))) }
 
-  module _ {a : Answer} {b : CovParts} {b′ : MeanParts} (none : k ≤ 0) (r : Ran x o y a w b w′ b′) where
-    pub heard : noInformation (ends.tallyOf a) ≡ false → Promise (outcome x o y w w′) (Answered a) b b′
-    heard h = rw (by-fate x o y w w′ answered (ends.is-answered x o y w w′ r (roomy x w w′) (ends.none none (e .number)) h)) (ends.answered-so x o y w w′ r)
+  -- lent no state
+  pub fit-begun : {size : ℕ} → k ≤ 0 → size ≡ 0 → FitOn x o (length y) w w′ size ends.nothing
+  fit-begun h z =
+      let f = fit h in
+      fit-on f (record { m8 = f .accepted .sizes .m8; whole = λ some. absurd (some z) }) (record { diffuse = omega arith; heard = omega arith; news = omega arith })
 
-    pub silenced : {c : CovParts} {c′ : MeanParts} → noInformation (ends.tallyOf a) ≡ true → Blanked x b c b′ c′ → Promise (outcome x o y w w′) (Refused 12) c c′
-    silenced h z = rw (by-fate x o y w w′ silent (ends.is-silent x o y w w′ r (roomy x w w′) (ends.none none (e .number)) h)) (ends.silent-so x o y w w′ r z)
+  pub told : {s s′ : List Float} {live : Bool} {g : Judged} {b : CovParts} {b′ : MeanParts} {r : Outcome} → k ≤ 0 → length s ≡ 0 → Went x o y s live ends.nothing true g s′ w b w′ b′ → r ≡ answerBy (numberOf (endingOf 0 (g .silent))) (g .answer) → Promise (outcome x o y w w′) r b b′
+  told {g = g} none z v q =
+      rw (q, by-fate x o y w w′ (endingOf 0 (g .silent)) (ends.judged-so x o y w w′ z v (roomy x w w′) (ends.none none (e .number)))) (ends.ended x o y w w′ z v)

@@ -1,29 +1,36 @@
 -- A call's three ends, over the filter's parts: turned away before anything is written, silent, answered. The smoother's call ends the same ways.
-use mathlib.Core.Path.{_≡_, refl, ap, _∙_}
+use mathlib.Core.Path.{_≡_, refl, sym, ap, _∙_}
 use Prim.Native.Nat.{ℕ, suc, _≤_}
+use native.Mathlib.Nat.{zero-add}
 use native.Mathlib.Omega.{arith}
 use mathlib.Core.Bool.{Bool, true, false}
 use mathlib.Core.List.{List, map}
-use lib.ListN.{length, replicate, length-map, length-replicate}
+use lib.ListN.{length, length-map}
 use lib.Ieee.{Float}
-use Rattle.definition.specs.Num.{0ᶠ, zeros}
+use borrow.Author.Tests.{eq-eqb}
+use Rattle.definition.specs.Num.{0ᶠ}
 use Rattle.definition.specs.Run.{anyOf}
-use Rattle.definition.specs.Inputs.{Model, Offsets, Class, classOf, isInfinity}
+use Rattle.definition.specs.Cov.{Cov, CovPeriod}
+use Rattle.definition.specs.Inputs.{Model, Offsets, Class, classOf, isInfinity, startOf}
 use Rattle.definition.specs.Refusals.{refusal}
-use Rattle.definition.specs.Outcome.{CovParts, MeanParts, Counts, CovOutcome, MeanOutcome, Ending, turned, silent, answered, endingOf, ending, numberOf, after, countsIn, loglikIn, kindsNeed, covNeed, meanNeed, covOf, countsOf, noInformation, covOutcome, meanOutcome, roomy}
-use Rattle.laws.specs.Passes.{lay-again}
+use Rattle.definition.specs.Outcome.{CovParts, MeanParts, Counts, CovOutcome, MeanOutcome, Ending, turned, endingOf, ending, numberOf, after, countsIn, loglikIn, covOf, meanOf, countsOf, noInformation, covOutcome, meanOutcome, roomy}
+use Rattle.carried.specs.State.{covFrom, meanFrom}
+use Rattle.forward.specs.View.{onward, covOn, meanOn}
+use Rattle.judged.specs.declared.Judged.{Judged}
+use Rattle.judged.specs.Went.{Went, isSilent, tallyOf}
 use Rattle.promise.specs.declared.Answer.{Answer}
-use Rattle.forward.specs.View.{Ran}
 use Rattle.promise.specs.declared.Outcome.the-variants.{Refused, Answered}
-use Rattle.promise.specs.Calls.{answerBy, Promise}
-use Rattle.filter.specs.Blanked.{Blanked}
+use Rattle.promise.specs.Calls.{answerIn, answerBy, Promise}
 
 pub none : {k c : ℕ} → k ≤ 0 → k ≡ c → 0 ≡ c
 none h e = omega arith
 
--- an answer's counts
-abbrev pub tallyOf : Answer → Counts
-tallyOf a = record { dDiffuse = a .«d_diffuse»; heard = a .heard; news = a .news }
+-- the answer before the first period
+abbrev pub nothing : Answer
+nothing = record { loglik = 0ᶠ; «d_diffuse» = 0; heard = 0; news = 0 }
+
+from-nothing : (k : Counts) (l : Float) → onward nothing k l ≡ answerIn k l
+from-nothing k l = rw (zero-add, zero-add, zero-add) refl
 
 module _ (x : Model) (o : Offsets) (y : List Float) where
   abbrev kinds : List Class
@@ -50,32 +57,45 @@ module _ (x : Model) (o : Offsets) (y : List Float) where
     unfolding covOutcome meanOutcome answerBy numberOf after
     turned-away k = record { answer = refl; kinds = refl; cov = λ q. refl; mean = λ q. refl }
 
-    module _ {a : Answer} {b : CovParts} {b′ : MeanParts} (r : Ran x o y a w b w′ b′) where
-      ended : (room t : Bool) → 0 ≡ number room → noInformation (tallyOf a) ≡ t → ending x o kinds room ≡ endingOf 0 t
-      unfolding noInformation
-      ended room t e h = by-number room 0 e ∙ ap (endingOf 0) (rw (r .answer) at h)
+    -- the run from the start, and refusal 12
+    module _ {s s′ : List Float} {live : Bool} {e : Judged} {b : CovParts} {b′ : MeanParts} (begins : length s ≡ 0) (r : Went x o y s live nothing true e s′ w b w′ b′) where
+      cov-same : covOn x s live kinds ≡ covOf x kinds
+      unfolding covOn covFrom covOf startOf
+      cov-same = rw (eq-eqb _ _ begins) refl
 
-      pub is-silent : (room : Bool) → 0 ≡ number room → noInformation (tallyOf a) ≡ true → ending x o kinds room ≡ silent
-      unfolding endingOf
-      is-silent room e h = ended room true e h
+      mean-begun : (cs : List CovPeriod) → meanOn x o s 0ᶠ cs y ≡ meanOf x o cs y
+      unfolding meanOn meanFrom meanOf
+      mean-begun cs = rw (eq-eqb _ _ begins) refl
 
-      pub is-answered : (room : Bool) → 0 ≡ number room → noInformation (tallyOf a) ≡ false → ending x o kinds room ≡ answered
-      unfolding endingOf
-      is-answered room e h = ended room false e h
+      mean-same : meanOn x o s 0ᶠ (covOn x s live kinds .0) y ≡ meanOf x o (covOf x kinds .0) y
+      mean-same = mean-begun (covOn x s live kinds .0) ∙ ap (λ (c : List CovPeriod × Cov). meanOf x o (c .0) y) cov-same
 
-      pub answered-so : Promise (End answered) (Answered a) b b′
-      unfolding covOutcome meanOutcome answerBy numberOf after countsIn loglikIn
-      answered-so = record { answer = ap Answered (r .answer); kinds = r .kinds .is; cov = λ q. r .cov q .is; mean = λ q. r .mean q .is }
+      answer-same : e .answer ≡ answerIn (countsOf (covOf x kinds .0) kinds) (meanOf x o (covOf x kinds .0) y .1 .loglik)
+      answer-same = rw (mean-same, cov-same) at (r .answer) ∙ from-nothing _ _
 
-      pub silent-so : {c : CovParts} {c′ : MeanParts} → Blanked x b c b′ c′ → Promise (End silent) (Refused 12) c c′
-      unfolding covOutcome meanOutcome answerBy numberOf after
-      silent-so {c} {c′} z =
+      pub judged-so : (room : Bool) → 0 ≡ number room → ending x o kinds room ≡ endingOf 0 (e .silent)
+      unfolding isSilent
+      judged-so room q = by-number room 0 q ∙ ap (endingOf 0) (sym (r .silent ∙ ap (λ (a : Answer). noInformation (tallyOf a)) answer-same))
+
+      by : (t : Bool) → e .silent ≡ t → Promise (End (endingOf 0 t)) (answerBy (numberOf (endingOf 0 t)) (e .answer)) b b′
+      unfolding covOutcome meanOutcome answerBy numberOf endingOf after countsIn loglikIn
+      by true h =
           record {
             answer = refl;
-            kinds = lay-again (kindsNeed x) _ (replicate (kindsNeed x) 0) (w .kinds) (b .kinds) (c .kinds) (r .kinds) (length-replicate (kindsNeed x) 0) (z .kinds);
-            cov = λ q. lay-again (covNeed x q) _ (zeros (covNeed x q)) (w .part q) (b .part q) (c .part q) (r .cov q) (length-replicate (covNeed x q) 0ᶠ) (z .cov q);
-            mean = λ q. lay-again (meanNeed x q) _ (zeros (meanNeed x q)) (w′ q) (b′ q) (c′ q) (r .mean q) (length-replicate (meanNeed x q) 0ᶠ) (z .mean q);
+            kinds = rw h at (r .kinds);
+            cov = λ q. rw h at (r .cov q);
+            mean = λ q. rw h at (r .mean q);
           }
+      by false h =
+          record {
+            answer = ap Answered answer-same;
+            kinds = rw (h, cov-same) at (r .kinds);
+            cov = λ q. rw (h, cov-same) at (r .cov q);
+            mean = λ q. rw (h, mean-same) at (r .mean q);
+          }
+
+      pub ended : Promise (End (endingOf 0 (e .silent))) (answerBy (numberOf (endingOf 0 (e .silent))) (e .answer)) b b′
+      ended = by (e .silent) refl
 
 -- k is the number of the first of refusals 1 to 11 that the inputs and the lent outputs earn, 0 if none
 pub record Checked (x : Model) (o : Offsets) (y : List Float) (w : CovParts) (w′ : MeanParts) (k : ℕ) : Type 0 where

@@ -1,90 +1,6 @@
-// filter.rs: the filter's call: the checks (crates/model), the run (crates/forward), refusal 12 with its blanks (crates/blank), the answer.
-ghost use mathlib.Core.Path.{_≡_};
-ghost use Rattle.definition.specs.Outcome.{noInformation};
-ghost use Rattle.promise.specs.Lent.{modelOf, offsetsOf, covParts, meanParts, given, lent};
+// filter.rs: the filter's call: the checks (crates/model), the run and refusal 12 with its blanks (crates/judged), the answer.
+ghost use Rattle.promise.specs.Lent.{given, lent};
 ghost use Rattle.promise.specs.Calls.{Filtered};
-ghost use Rattle.filter.specs.Ends.{Checked, tallyOf};
-
-// Refusal 12: readings were heard, and none was news.
-fn is_silent(a: promise::Answer) -> bool
-    ensures { λ r. ⌜ r ≡ noInformation (tallyOf a) ⌝ }
-{
-    (0 < a.heard) & (a.news == 0)
-}
-
-// Refusals 1 to 11, of the inputs and of the outputs lent; 0: none. It writes nothing.
-fn refusal(
-    p: usize,
-    m: usize,
-    r: usize,
-    n: usize,
-    z: &[f64],
-    zs: &[f64],
-    h: &[f64],
-    t: &[f64],
-    rr: &[f64],
-    q: &[f64],
-    c: &[f64],
-    d: &[f64],
-    a1: &[f64],
-    p_star: &[f64],
-    flags: &[u8],
-    y: &[f64],
-    pred_mean: &[f64],
-    pred_cov: &[f64],
-    pred_inf: &[f64],
-    filt_mean: &[f64],
-    filt_cov: &[f64],
-    kinds: &[u8],
-    v: &[f64],
-    f_star: &[f64],
-    f_inf: &[f64],
-    m_star: &[f64],
-    m_inf: &[f64],
-) -> u8
-    ensures { λ k. ⌜ Checked (modelOf p m r n (now (z .entry)) (now (zs .entry)) (now (h .entry)) (now (t .entry)) (now (rr .entry)) (now (q .entry)) (now («p_star» .entry)) (now (flags .entry)))
-        (offsetsOf (now (c .entry)) (now (d .entry)) (now (a1 .entry))) (now (y .entry))
-        (covParts (now («pred_cov» .entry)) (now («pred_inf» .entry)) (now («filt_cov» .entry)) (now (kinds .entry)) (now («f_star» .entry)) (now («f_inf» .entry))
-        (now («m_star» .entry)) (now («m_inf» .entry)))
-        (meanParts (now («pred_mean» .entry)) (now («filt_mean» .entry)) (now (v .entry))) k ⌝ }
-{
-    let room = model::lengths::room(
-        p,
-        m,
-        r,
-        n,
-        pred_mean.len(),
-        pred_cov.len(),
-        pred_inf.len(),
-        filt_mean.len(),
-        filt_cov.len(),
-        kinds.len(),
-        v.len(),
-        f_star.len(),
-        f_inf.len(),
-        m_star.len(),
-        m_inf.len(),
-    );
-    model::refusal(
-        p,
-        m,
-        r,
-        n,
-        z,
-        zs,
-        h,
-        t,
-        rr,
-        q,
-        c,
-        d,
-        a1,
-        p_star,
-        flags,
-        y,
-        room,
-    )
-}
 
 // The filter's call. It ends with an answer whatever it is handed: refused with its number, or answered.
 pub fn filter_univariate<'a>(
@@ -132,7 +48,24 @@ pub fn filter_univariate<'a>(
         (now (kinds .exit)) (now (v .exit)) (now («f_star» .exit)) (now («f_inf» .exit))
         (now («m_star» .exit)) (now («m_inf» .exit))) ⌝ }
 {
-    let k = refusal(
+    let room = model::lengths::room(
+        p,
+        m,
+        r,
+        n,
+        pred_mean.len(),
+        pred_cov.len(),
+        pred_inf.len(),
+        filt_mean.len(),
+        filt_cov.len(),
+        kinds.len(),
+        v.len(),
+        f_star.len(),
+        f_inf.len(),
+        m_star.len(),
+        m_inf.len(),
+    );
+    let k = model::refusal(
         p,
         m,
         r,
@@ -149,22 +82,14 @@ pub fn filter_univariate<'a>(
         p_star,
         flags,
         y,
-        pred_mean,
-        pred_cov,
-        pred_inf,
-        filt_mean,
-        filt_cov,
-        kinds,
-        v,
-        f_star,
-        f_inf,
-        m_star,
-        m_inf,
+        room,
     );
     if 0 < k {
         return promise::Outcome::Refused(k);
     }
-    let a = forward::run(
+    // The run begins at the start, and its state is not kept.
+    let mut none = [0.0; 0];
+    judged::told(judged::run(
         p,
         m,
         r,
@@ -192,25 +117,14 @@ pub fn filter_univariate<'a>(
         f_inf,
         m_star,
         m_inf,
-    );
-    if is_silent(a) {
-        blank::filtered(
-            pred_mean,
-            pred_cov,
-            pred_inf,
-            filt_mean,
-            filt_cov,
-            kinds,
-            v,
-            f_star,
-            f_inf,
-            m_star,
-            m_inf,
-            p,
-            m,
-            n,
-        );
-        return promise::Outcome::Refused(12);
-    }
-    promise::Outcome::Answered(a)
+        &mut none,
+        false,
+        promise::Answer {
+            loglik: 0.0,
+            d_diffuse: 0,
+            heard: 0,
+            news: 0,
+        },
+        true,
+    ))
 }

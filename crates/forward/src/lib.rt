@@ -1,9 +1,30 @@
 // Both passes over the periods, one after the other: the covariance pass is crates/cov, the mean pass crates/mean.
+ghost use mathlib.Core.Path.{_≡_};
 ghost use lib.ListN.{length};
 ghost use Rattle.promise.specs.Lent.{modelOf, offsetsOf, covParts, meanParts};
-ghost use Rattle.forward.specs.View.{Fit, Ran};
+ghost use Rattle.forward.specs.View.{Few, FitOn, Ran, countedOn};
 
-// The two passes, past refusals 1 to 11: every part written, and the answer.
+// Where a stretch of periods ends: the answer since the run began, and whether the diffuse state lasts.
+pub struct End {
+    pub answer: promise::Answer,
+    pub live: bool,
+}
+
+// A stretch's counts, added to those before it.
+fn counted(before: promise::Answer, diffuse: usize, heard: usize, news: usize) -> promise::Answer
+    requires { ⌜ Few before diffuse heard news ⌝ }
+    ensures { λ r. ⌜ r ≡ countedOn before diffuse heard news ⌝ }
+{
+    promise::Answer {
+        loglik: before.loglik,
+        d_diffuse: before.d_diffuse + diffuse,
+        heard: before.heard + heard,
+        news: before.news + news,
+    }
+}
+
+// The two passes over n periods: every part written, the state carried on, and the answer, which goes on from the one
+// before. An empty state: the run begins at the start, and its state is not kept. There may be no periods.
 pub fn run<'a>(
     p: usize,
     m: usize,
@@ -32,19 +53,30 @@ pub fn run<'a>(
     f_inf: &mut [f64],
     m_star: &mut [f64],
     m_inf: &mut [f64],
-) -> promise::Answer
-    requires { ⌜ Fit (modelOf p m r n (now z) (now zs) (now h) (now t) (now rr) (now q) (now «p_star») (now flags)) (offsetsOf (now c) (now d) (now a1))
-        (length (now y)) (covParts (now «pred_cov») (now «pred_inf») (now «filt_cov») (now kinds) (now «f_star») (now «f_inf») (now «m_star») (now «m_inf»))
-        (meanParts (now «pred_mean») (now «filt_mean») (now v)) ⌝ }
-    ensures { λ a. ⌜ Ran (modelOf p m r n (now (z .entry)) (now (zs .entry)) (now (h .entry)) (now (t .entry)) (now (rr .entry)) (now (q .entry)) (now («p_star» .entry)) (now (flags .entry)))
-        (offsetsOf (now (c .entry)) (now (d .entry)) (now (a1 .entry))) (now (y .entry)) a
-        (covParts (now («pred_cov» .entry)) (now («pred_inf» .entry)) (now («filt_cov» .entry)) (now (kinds .entry)) (now («f_star» .entry)) (now («f_inf» .entry)) (now («m_star» .entry)) (now («m_inf» .entry)))
-        (covParts (now («pred_cov» .exit)) (now («pred_inf» .exit)) (now («filt_cov» .exit)) (now (kinds .exit)) (now («f_star» .exit)) (now («f_inf» .exit)) (now («m_star» .exit)) (now («m_inf» .exit)))
+    state: &mut [f64],
+    live: bool,
+    before: promise::Answer,
+) -> End
+    requires { ⌜ FitOn
+        (modelOf p m r n (now z) (now zs) (now h) (now t) (now rr) (now q) (now «p_star») (now flags))
+        (offsetsOf (now c) (now d) (now a1)) (length (now y))
+        (covParts (now «pred_cov») (now «pred_inf») (now «filt_cov») (now kinds)
+        (now «f_star») (now «f_inf») (now «m_star») (now «m_inf»))
+        (meanParts (now «pred_mean») (now «filt_mean») (now v)) (length (now state)) before ⌝ }
+    ensures { λ e. ⌜ Ran
+        (modelOf p m r n (now (z .entry)) (now (zs .entry)) (now (h .entry)) (now (t .entry))
+        (now (rr .entry)) (now (q .entry)) (now («p_star» .entry)) (now (flags .entry)))
+        (offsetsOf (now (c .entry)) (now (d .entry)) (now (a1 .entry))) (now (y .entry))
+        (now (state .entry)) live before e (now (state .exit))
+        (covParts (now («pred_cov» .entry)) (now («pred_inf» .entry)) (now («filt_cov» .entry)) (now (kinds .entry))
+        (now («f_star» .entry)) (now («f_inf» .entry)) (now («m_star» .entry)) (now («m_inf» .entry)))
+        (covParts (now («pred_cov» .exit)) (now («pred_inf» .exit)) (now («filt_cov» .exit)) (now (kinds .exit))
+        (now («f_star» .exit)) (now («f_inf» .exit)) (now («m_star» .exit)) (now («m_inf» .exit)))
         (meanParts (now («pred_mean» .entry)) (now («filt_mean» .entry)) (now (v .entry)))
         (meanParts (now («pred_mean» .exit)) (now («filt_mean» .exit)) (now (v .exit))) ⌝ }
 {
     let listed = model::listed(zs, p, m);
-    let d_diffuse = cov::cov_pass(
+    let ended = cov::cov_pass(
         z,
         zs,
         h,
@@ -62,6 +94,8 @@ pub fn run<'a>(
         f_inf,
         m_star,
         m_inf,
+        state,
+        live,
         p,
         m,
         r,
@@ -70,13 +104,8 @@ pub fn run<'a>(
     );
     let heard = cov::counts::heard(y);
     let news = cov::counts::news(kinds, n * p);
-    mean::mean_pass(
-        promise::Answer {
-            loglik: 0.0,
-            d_diffuse,
-            heard,
-            news,
-        },
+    let answer = mean::mean_pass(
+        counted(before, ended.diffuse, heard, news),
         z,
         zs,
         t,
@@ -92,9 +121,14 @@ pub fn run<'a>(
         pred_mean,
         filt_mean,
         v,
+        state,
         p,
         m,
         n,
         listed,
-    )
+    );
+    End {
+        answer,
+        live: ended.live,
+    }
 }

@@ -17,6 +17,7 @@ use Rattle.laws.specs.Flat.{Flat, decisionsAt, decisionRows}
 use Rattle.laws.specs.Passes.{Wrote, wrote-none, wrote-next, wrote-all, state-next, state-all, chunk-at, block-in, over, lay-last}
 use Rattle.dense.specs.Views.{vec, mat}
 use Rattle.dense.specs.Places.{Saved, saved}
+use Rattle.carried.specs.State.{meanKept}
 use Rattle.promise.specs.declared.Answer.{Answer}
 use Rattle.mean.specs.View.{meanIn, leftIn, withLoglik, entryAt, entries, Room, Looped, Passed}
 use Rattle.mean.proofs.Laws.{length-pairs}
@@ -100,19 +101,20 @@ pub framed : (p m t : ℕ) (z zs tr c d design : List Float) (s : Mean) (e : Lis
 unfolding frameFrom
 framed p m t z zs tr c d design s e q h = h ∙ ap (λ (l : List Float). meanPeriodOf m tr c d l s e) q
 
--- place n written after the loop, through its part
-placed : {p m n k : ℕ} (r : List MeanPeriod × Mean) {w w′ : Answer} {a′ pm₀ pm′ fm₀ fm′ v₀ v′ : List Float} (b : List Float) → Looped p m n r w w′ a′ pm₀ pm′ fm₀ fm′ v₀ v′ → k ≡ m → Saved k a′ b → Passed p m n r w w′ pm₀ (over n m pm′ b) fm₀ fm′ v₀ v′
+-- place n written after the loop, through its part, and the state kept
+placed : {p m n k : ℕ} (r : List MeanPeriod × Mean) {w w′ : Answer} {a′ s s′ pm₀ pm′ fm₀ fm′ v₀ v′ : List Float} (b : List Float) → Looped p m n r w w′ a′ pm₀ pm′ fm₀ fm′ v₀ v′ → k ≡ m → Saved k a′ b → s′ ≡ meanKept m s (vec m a′) → Passed p m n r w w′ s s′ pm₀ (over n m pm′ b) fm₀ fm′ v₀ v′
 unfolding meanWritten vec
-placed {m = m} {n} r {a′ = a′} {pm₀} {pm′} b g e q =
+placed {m = m} {n} r {a′ = a′} {s} {s′} {pm₀} {pm′} b g e q h =
     record {
       answer = g .answer;
+      state = h ∙ ap (λ (u : Mean). meanKept m s (u .a)) (g .state);
       pm = rw (← ap (λ (s : Mean). s .a) (g .state), ← saved e q) (lay-last n m (join (map (meanBlock predMean) (r .0))) b pm₀ pm′ (g .pm) (q .kept ∙ e));
       fm = g .fm;
       vs = g .vs;
     }
 
--- T, c and a1 loaded before it
-pub passed : (p m n : ℕ) (z zs t c d a1 tr sh a : List Float) (es : List (List Decision × List Float)) {k : ℕ} {w w′ : Answer} {a′ pm₀ pm′ fm₀ fm′ v₀ v′ : List Float} (b : List Float)
-    → Looped p m n (meanRun (frameFrom p m z zs (mat m tr)) (record { c = vec m sh; d = d }) 0 (meanIn m a (w .loglik)) es) w w′ a′ pm₀ pm′ fm₀ fm′ v₀ v′ → mat m tr ≡ t → vec m sh ≡ c → vec m a ≡ a1 → k ≡ m → Saved k a′ b
-    → Passed p m n (meanRun (frameFrom p m z zs t) (record { c = c; d = d }) 0 (record { a = a1; loglik = w .loglik }) es) w w′ pm₀ (over n m pm′ b) fm₀ fm′ v₀ v′
-passed p m n z zs t c d a1 tr sh a es b g et ec ea e q = placed _ b (rw (et, ec, ea) at g) e q
+-- T, c and the first mean loaded before it
+pub passed : (p m n : ℕ) (z zs t c d a1 tr sh a : List Float) (es : List (List Decision × List Float)) {k : ℕ} {w w′ : Answer} {a′ s s′ pm₀ pm′ fm₀ fm′ v₀ v′ : List Float} (b : List Float)
+    → Looped p m n (meanRun (frameFrom p m z zs (mat m tr)) (record { c = vec m sh; d = d }) 0 (meanIn m a (w .loglik)) es) w w′ a′ pm₀ pm′ fm₀ fm′ v₀ v′ → mat m tr ≡ t → vec m sh ≡ c → vec m a ≡ a1 → k ≡ m → Saved k a′ b → s′ ≡ meanKept m s (vec m a′)
+    → Passed p m n (meanRun (frameFrom p m z zs t) (record { c = c; d = d }) 0 (record { a = a1; loglik = w .loglik }) es) w w′ s s′ pm₀ (over n m pm′ b) fm₀ fm′ v₀ v′
+passed p m n z zs t c d a1 tr sh a es b g et ec ea e q h = placed _ b (rw (et, ec, ea) at g) e q h

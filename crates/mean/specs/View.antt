@@ -14,6 +14,7 @@ use Rattle.laws.specs.Flat.{Flat, Holds, decisionsAt, decisionRows}
 use Rattle.laws.specs.Passes.{Laid}
 use Rattle.dense.specs.Views.{vec}
 use Rattle.model.specs.Design.{DesignFits}
+use Rattle.carried.specs.State.{meanKept}
 use Rattle.promise.specs.declared.Record.{Record}
 use Rattle.promise.specs.Records.{recordOf}
 use Rattle.promise.specs.declared.Answer.{Answer}
@@ -124,9 +125,10 @@ pub record Looped (p m n : ℕ) (r : List MeanPeriod × Mean) (x x′ : Answer) 
   pub fm : Laid (n * m) (join (map (meanBlock filtMean) (r .0))) fm₀ fm′
   pub vs : Laid (n * p) (join (map (meanBlock innovations) (r .0))) v₀ v′
 
--- what the pass leaves: the answer with the log-likelihood, and each part as the definition writes it, its tail as it was
-pub record Passed (p m n : ℕ) (r : List MeanPeriod × Mean) (x x′ : Answer) (pm₀ pm′ fm₀ fm′ v₀ v′ : List Float) : Type 0 where
+-- what the pass leaves: the answer with the log-likelihood, the carried state, and each part as the definition writes it, its tail as it was
+pub record Passed (p m n : ℕ) (r : List MeanPeriod × Mean) (x x′ : Answer) (s s′ pm₀ pm′ fm₀ fm′ v₀ v′ : List Float) : Type 0 where
   pub answer : x′ ≡ withLoglik x (r .1 .loglik)
+  pub state : s′ ≡ meanKept m s (r .1 .a)
   pub pm : Laid (n * m + m) (meanWritten r predMean) pm₀ pm′
   pub fm : Laid (n * m) (meanWritten r filtMean) fm₀ fm′
   pub vs : Laid (n * p) (meanWritten r innovations) v₀ v′

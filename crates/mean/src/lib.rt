@@ -10,6 +10,7 @@ ghost use Rattle.definition.specs.Mean.{usualTerm, diffuseTerm, hear, meanStep,
 ghost use Rattle.definition.specs.Inputs.{frameFrom};
 ghost use Rattle.laws.specs.Flat.{flatIn, readBack, blockAt};
 ghost use Rattle.dense.specs.Views.{vec, mat};
+ghost use Rattle.carried.specs.State.{StateFits, meanFrom};
 ghost use Rattle.mean.specs.View.{meanIn, entryAt, entries, heardAt, leftIn};
 ghost use Rattle.mean.specs.View.{Place, Element, Period, Periods, Room, Ready, Rooms, Followed, Recorded, Looped, Passed};
 use promise::Kind;
@@ -321,8 +322,9 @@ fn mean_loop<'a>(
     answer
 }
 
-// The mean pass: v, the predicted and the filtered means of n periods, place n of the predicted ones, and the log-likelihood. The counts of the
-// answer go through as they came. `listed` is how many designs the list has.
+// The mean pass: v, the predicted and the filtered means of n periods, place n of the predicted ones, and the log-likelihood, which goes on from the
+// answer's. The counts of the answer go through as they came. It begins at the mean of the state that is lent, and leaves there the one after the n
+// periods; an empty state: it begins at a1. `listed` is how many designs the list has.
 pub fn mean_pass<'a>(
     answer: promise::Answer,
     z: &'a [f64],
@@ -340,25 +342,28 @@ pub fn mean_pass<'a>(
     pred_mean: &mut [f64],
     filt_mean: &mut [f64],
     v: &mut [f64],
+    state: &mut [f64],
     p: usize,
     m: usize,
     n: usize,
     listed: usize,
 ) -> promise::Answer
-    requires { ⌜ Ready p m n listed (length (now z)) (length (now zs)) (length (now t))
+    requires { ⌜ StateFits m (length (now state))
+        × Ready p m n listed (length (now z)) (length (now zs)) (length (now t))
         (length (now c)) (length (now d)) (length (now a1)) (length (now y))
         (flatIn (now kinds) (now «f_star») (now «f_inf») (now «m_star») (now «m_inf»))
         × Rooms p m n (length (now «pred_mean»)) (length (now «filt_mean»)) (length (now v)) ⌝ }
     ensures { λ r. ⌜ Passed p m n (meanRun (frameFrom p m (now (z .entry)) (now (zs .entry)) (now (t .entry)))
-        (record { c = now (c .entry); d = now (d .entry) }) 0 (record { a = now (a1 .entry); loglik = answer .loglik })
+        (record { c = now (c .entry); d = now (d .entry) }) 0
+        (record { a = meanFrom m (now (state .entry)) (now (a1 .entry)); loglik = answer .loglik })
         (entries n p m (flatIn (now (kinds .entry)) (now («f_star» .entry)) (now («f_inf» .entry))
         (now («m_star» .entry)) (now («m_inf» .entry))) (now (y .entry))))
-        answer r (now («pred_mean» .entry)) (now («pred_mean» .exit))
+        answer r (now (state .entry)) (now (state .exit)) (now («pred_mean» .entry)) (now («pred_mean» .exit))
         (now («filt_mean» .entry)) (now («filt_mean» .exit)) (now (v .entry)) (now (v .exit)) ⌝ }
 {
     let tr = dense::load64(t);
     let shift = dense::load8(c);
-    let mut a = dense::load8(a1);
+    let mut a = carried::mean_from(state, a1, m);
     let answer = mean_loop(
         &mut a,
         pred_mean,
@@ -384,5 +389,6 @@ pub fn mean_pass<'a>(
     let from = n * m;
     let to = from + m;
     dense::save8(&mut pred_mean[from..to], &a);
+    carried::keep_mean(state, &a, m);
     answer
 }

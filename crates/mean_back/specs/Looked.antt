@@ -15,7 +15,8 @@ use Rattle.definition.specs.Outcome.{decisionsOf, covOf, meanOf, meanWritten}
 use Rattle.laws.specs.Flat.{meanLookOf, meanLooks}
 use Rattle.laws.specs.Lists.{Each, length-tab, length-scan, length-chunks, chunks-each}
 use Rattle.laws.specs.Passes.{Laid}
-use Rattle.laws.specs.ReadBack.{AllOf, Whole}
+use Rattle.laws.specs.All.{AllOf}
+use Rattle.laws.specs.ReadBack.{Whole}
 use Rattle.laws.specs.Shapes.{run-whole, run-length}
 use Rattle.laws.specs.Backward.{LongP, mean-looks-back}
 use Rattle.mean.proofs.Laws.{length-pairs}
@@ -45,11 +46,11 @@ module _ (y : Frame) (x : Shift) (p : ℕ) where
 module _ (x : Model) (o : Offsets) (ks : List Class) (y : List Float) (gaps : length ks ≡ x .n * x .p) (readings : length y ≡ x .n * x .p) where
   cov-whole : AllOf (λ c. Whole (x .p) (x .m) (c .decisions)) (covOf x ks .0)
   unfolding covOf systemOf systemFrom
-  cov-whole = run-whole (systemOf x) (startOf x) ks (x .n) (x .p) gaps
+  cov-whole = run-whole (systemOf x) 0 (startOf x) ks (x .n) (x .p) gaps
 
   cov-long : length (covOf x ks .0) ≡ x .n
   unfolding covOf
-  cov-long = run-length (systemOf x) (startOf x) ks (x .n) (x .p)
+  cov-long = run-length (systemOf x) 0 (startOf x) ks (x .n) (x .p)
 
   pub mean-long : length (meanOf x o (covOf x ks .0) y .0) ≡ x .n
   unfolding meanOf meanRun

@@ -3,6 +3,7 @@ ghost use mathlib.Core.Path.{_≡_};
 ghost use mathlib.Core.Bool.{false};
 ghost use Prim.Native.Nat.{_<_};
 ghost use Rattle.definition.specs.Refusals.{beyond, outside, designFits};
+ghost use Rattle.definition.specs.Stretch.{outsideStretch};
 ghost use Rattle.laws.specs.Accepted.{InRange};
 ghost use Rattle.model.specs.Lengths.{lengthsFit, rooms, roomsSmoothed};
 
@@ -18,6 +19,13 @@ pub fn outside(p: usize, m: usize, r: usize, n: usize) -> bool
     ensures { λ b. ⌜ b ≡ outside p m r n ⌝ }
 {
     beyond(8, p) | beyond(8, m) | beyond(8, r) | beyond(4096, n)
+}
+
+// The same of a stretch, which may hold no period.
+pub fn outside_stretch(p: usize, m: usize, r: usize, n: usize) -> bool
+    ensures { λ b. ⌜ b ≡ outsideStretch p m r n ⌝ }
+{
+    beyond(8, p) | beyond(8, m) | beyond(8, r) | (4096 < n)
 }
 
 // The constant design of pm numbers, or 1 to 4096 listed ones.
@@ -66,7 +74,7 @@ pub fn lengths_fit(
 }
 
 // Each of the filter's outputs is as long as needed, for sizes in range.
-fn rooms(
+pub fn rooms(
     p: usize,
     m: usize,
     r: usize,

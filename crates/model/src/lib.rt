@@ -2,10 +2,11 @@
 ghost use mathlib.Core.Path.{_≡_};
 ghost use mathlib.Core.List.{map};
 ghost use Prim.Native.Nat.{_<_, _≤_, _-_, _*_, _/_, min};
-ghost use lib.ListN.{length};
+ghost use lib.ListN.{length, drop};
 ghost use Rattle.definition.specs.Run.{anyOf};
 ghost use Rattle.definition.specs.Inputs.{designFrom, noiseOf, startFrom, isInfinity, classOf};
-ghost use Rattle.definition.specs.Refusals.{refusal};
+ghost use Rattle.definition.specs.Refusals.{firstOf, ofInputs, refusal};
+ghost use Rattle.laws.specs.Accepted.{InRange};
 ghost use Rattle.dense.specs.Views.{mat};
 ghost use Rattle.promise.specs.Lent.{modelOf, offsetsOf};
 ghost use Rattle.model.specs.Design.{DesignFits};
@@ -19,9 +20,9 @@ pub mod refusals; // the refusals by segments
 
 // ---- the checks
 
-// The number of the first refusal that applies, by document 01's table; 0 for none. The order is the filter's and the
-// smoother's; `room` is what lengths::room, or lengths::room_smoothed, says of the outputs.
-pub fn refusal(
+// Of sizes in range, the number of the first of refusals 2 to 11 that applies, by document 01's table; 0 for none. The
+// order is every call's; `room` says whether each output is as long as the call needs it.
+pub fn refusal_of_inputs(
     p: usize,
     m: usize,
     r: usize,
@@ -40,16 +41,13 @@ pub fn refusal(
     y: &[f64],
     room: bool,
 ) -> u8
-    ensures { λ k. ⌜ k ≡ refusal
+    requires { ⌜ InRange p m r n ⌝ }
+    ensures { λ k. ⌜ k ≡ firstOf (ofInputs
         (modelOf p m r n (now (z .entry)) (now (zs .entry)) (now (h .entry)) (now (t .entry)) (now (rr .entry))
         (now (q .entry)) (now («p_star» .entry)) (now (flags .entry)))
         (offsetsOf (now (c .entry)) (now (d .entry)) (now (a1 .entry)))
-        (length (now (y .entry))) (anyOf isInfinity (map classOf (now (y .entry)))) room ⌝ }
+        (length (now (y .entry))) (anyOf isInfinity (map classOf (now (y .entry)))) room) ⌝ }
 {
-    let sizes = refusals::of_sizes(p, m, r, n);
-    if sizes != 0 {
-        return sizes;
-    }
     let lengths = refusals::of_lengths(
         p,
         m,
@@ -91,6 +89,58 @@ pub fn refusal(
     refusals::of_step(m, r, t, rr, q, flags)
 }
 
+// The same with refusal 1 before it: the filter's call and the smoother's. `room` is what lengths::room, or
+// lengths::room_smoothed, says of the outputs.
+pub fn refusal(
+    p: usize,
+    m: usize,
+    r: usize,
+    n: usize,
+    z: &[f64],
+    zs: &[f64],
+    h: &[f64],
+    t: &[f64],
+    rr: &[f64],
+    q: &[f64],
+    c: &[f64],
+    d: &[f64],
+    a1: &[f64],
+    p_star: &[f64],
+    flags: &[u8],
+    y: &[f64],
+    room: bool,
+) -> u8
+    ensures { λ k. ⌜ k ≡ refusal
+        (modelOf p m r n (now (z .entry)) (now (zs .entry)) (now (h .entry)) (now (t .entry)) (now (rr .entry))
+        (now (q .entry)) (now («p_star» .entry)) (now (flags .entry)))
+        (offsetsOf (now (c .entry)) (now (d .entry)) (now (a1 .entry)))
+        (length (now (y .entry))) (anyOf isInfinity (map classOf (now (y .entry)))) room ⌝ }
+{
+    let sizes = refusals::of_sizes(p, m, r, n);
+    if sizes != 0 {
+        return sizes;
+    }
+    refusal_of_inputs(
+        p,
+        m,
+        r,
+        n,
+        z,
+        zs,
+        h,
+        t,
+        rr,
+        q,
+        c,
+        d,
+        a1,
+        p_star,
+        flags,
+        y,
+        room,
+    )
+}
+
 // ---- the period's design
 
 // How many designs the list has: the only division, and no period makes it.
@@ -110,6 +160,20 @@ fn entry_of(listed: usize, t: usize) -> usize
         return t;
     }
     listed - 1
+}
+
+// The list without the entries that the first `done` periods have used up: what is left begins with the one that the next
+// period takes. Of an empty list nothing is left.
+pub fn later<'a>(zs: &'a [f64], p: usize, m: usize, done: usize) -> &'a [f64]
+    requires { ⌜ (0 < p) × (p ≤ 8) × (0 < m) × (m ≤ 8) ⌝ }
+    ensures { λ r. ⌜ now r ≡ drop (min done (length (now (zs .entry)) / (p * m) - 1) * (p * m)) (now (zs .entry)) ⌝ }
+{
+    let listed = listed(zs, p, m);
+    if listed == 0 {
+        return zs;
+    }
+    let from = entry_of(listed, done) * (p * m);
+    &zs[from..]
 }
 
 // The design of period t, handed out as a part of whichever was given.

@@ -18,6 +18,7 @@ ghost use Rattle.definition.specs.Refusals.{
   notFinite,
   firstOf,
 };
+ghost use Rattle.definition.specs.Stretch.{outsideStretch};
 ghost use Rattle.laws.specs.Accepted.{InRange};
 ghost use Rattle.promise.specs.Lent.{modelOf, offsetsOf};
 ghost use Rattle.model.specs.Places.{Square, NoiseFits, SystemFits, StartGiven, StepFits};
@@ -29,6 +30,17 @@ pub fn of_sizes(p: usize, m: usize, r: usize, n: usize) -> u8
     ensures { λ k. ⌜ k ≡ firstOf ((1, outside p m r n) ∷ []) ⌝ }
 {
     if lengths::outside(p, m, r, n) { 1 } else { 0 }
+}
+
+// 1 Dimension, of a stretch.
+pub fn of_stretch_sizes(p: usize, m: usize, r: usize, n: usize) -> u8
+    ensures { λ k. ⌜ k ≡ firstOf ((1, outsideStretch p m r n) ∷ []) ⌝ }
+{
+    if lengths::outside_stretch(p, m, r, n) {
+        1
+    } else {
+        0
+    }
 }
 
 // 2 Length. `room` is what lengths::room says of the outputs.

@@ -52,8 +52,8 @@ module _ (x : Model) (o : Offsets) (y : List Float) where
   ds-long : length ks ≡ x .n * x .p → length ds ≡ x .n * x .p
   unfolding covOf systemOf systemFrom
   ds-long fit =
-      length-join (x .p) (decisionsOf cs) (each-many (x .p) (x .m) cs (run-whole (systemOf x) (startOf x) ks (x .n) (x .p) fit))
-      ∙ ap (λ (k : ℕ). k * x .p) (length-map cs (λ c. c .decisions) ∙ run-length (systemOf x) (startOf x) ks (x .n) (x .p))
+      length-join (x .p) (decisionsOf cs) (each-many (x .p) (x .m) cs (run-whole (systemOf x) 0 (startOf x) ks (x .n) (x .p) fit))
+      ∙ ap (λ (k : ℕ). k * x .p) (length-map cs (λ c. c .decisions) ∙ run-length (systemOf x) 0 (startOf x) ks (x .n) (x .p))
 
   vs-long : length ks ≡ x .n * x .p → length (o .a1) ≡ x .m → length vs ≡ x .n * x .p
   unfolding meanWritten

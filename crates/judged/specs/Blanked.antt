@@ -9,32 +9,30 @@ use Rattle.definition.specs.Run.{lay}
 use Rattle.definition.specs.Parts.{CovPart, predCov, predInf, filtCov, fStar, fInf, mStar, mInf, MeanPart, predMean, filtMean, innovations}
 use Rattle.definition.specs.Inputs.{Model, Offsets}
 use Rattle.definition.specs.Outcome.{CovParts, MeanParts, kindsNeed, covNeed, meanNeed}
-use Rattle.laws.specs.Accepted.{Roomy, room-of, as-long}
+use Rattle.laws.specs.Accepted.{as-long}
 use Rattle.blank.specs.Stretches.{Sizes, MeanRoom, CovRoom, RecordRoom, MeanBlank, CovBlank, RecordBlank}
+use Rattle.promise.specs.declared.Answer.{Answer}
 use Rattle.promise.specs.Lent.{covParts, meanParts}
-use Rattle.forward.specs.View.{Fit}
+use Rattle.forward.specs.View.{FitOn}
 
 -- ---- past refusal 2 the stretches are there, in parts that are as long as they were lent
 
-module _ {x : Model} {o : Offsets} {y : ℕ} {w : CovParts} {w′ : MeanParts} (f : Fit x o y w w′) where
-  room : Roomy x w w′
-  room = room-of x w w′ (f .accepted .roomy)
-
+module _ {x : Model} {o : Offsets} {y : ℕ} {w : CovParts} {w′ : MeanParts} {size : ℕ} {before : Answer} (f : FitOn x o y w w′ size before) where
   sizes : Sizes (x .p) (x .m) (x .n)
-  sizes = record { p8 = f .accepted .sizes .p8; m8 = f .accepted .sizes .m8; n4096 = f .accepted .sizes .n4096 }
+  sizes = record { p8 = f .sizes .p8; m8 = f .sizes .m8; n4096 = f .sizes .n4096 }
 
   mean-room : {pm fm vs : ℕ} → pm ≡ length (w′ predMean) → fm ≡ length (w′ filtMean) → vs ≡ length (w′ innovations) → MeanRoom (x .p) (x .m) (x .n) pm fm vs
   unfolding meanNeed
-  mean-room e1 e2 e3 = record { sizes = sizes; pred = as-long (room .mean predMean) e1; filt = as-long (room .mean filtMean) e2; v = as-long (room .mean innovations) e3 }
+  mean-room e1 e2 e3 = record { sizes = sizes; pred = as-long (f .room .mean predMean) e1; filt = as-long (f .room .mean filtMean) e2; v = as-long (f .room .mean innovations) e3 }
 
   cov-room : {pc pi fc : ℕ} → pc ≡ length (w .part predCov) → pi ≡ length (w .part predInf) → fc ≡ length (w .part filtCov) → CovRoom (x .p) (x .m) (x .n) pc pi fc
   unfolding covNeed
-  cov-room e1 e2 e3 = record { sizes = sizes; pred = as-long (room .cov predCov) e1; pred-inf = as-long (room .cov predInf) e2; filt = as-long (room .cov filtCov) e3 }
+  cov-room e1 e2 e3 = record { sizes = sizes; pred = as-long (f .room .cov predCov) e1; pred-inf = as-long (f .room .cov predInf) e2; filt = as-long (f .room .cov filtCov) e3 }
 
   record-room : {ks fs fi ms mi : ℕ} → ks ≡ length (w .kinds) → fs ≡ length (w .part fStar) → fi ≡ length (w .part fInf) → ms ≡ length (w .part mStar) → mi ≡ length (w .part mInf) → RecordRoom (x .p) (x .m) (x .n) ks fs fi ms mi
   unfolding kindsNeed covNeed
   record-room e1 e2 e3 e4 e5 =
-      record { sizes = sizes; kinds = as-long (room .kinds) e1; f-star = as-long (room .cov fStar) e2; f-inf = as-long (room .cov fInf) e3; m-star = as-long (room .cov mStar) e4; m-inf = as-long (room .cov mInf) e5 }
+      record { sizes = sizes; kinds = as-long (f .room .kinds) e1; f-star = as-long (f .room .cov fStar) e2; f-inf = as-long (f .room .cov fInf) e3; m-star = as-long (f .room .cov mStar) e4; m-inf = as-long (f .room .cov mInf) e5 }
 
   pub rooms : {pm fm vs pc pi fc ks fs fi ms mi : ℕ} → pm ≡ length (w′ predMean) → pc ≡ length (w .part predCov) → pi ≡ length (w .part predInf) → fm ≡ length (w′ filtMean) → fc ≡ length (w .part filtCov) → ks ≡ length (w .kinds) → vs ≡ length (w′ innovations) → fs ≡ length (w .part fStar) → fi ≡ length (w .part fInf) → ms ≡ length (w .part mStar) → mi ≡ length (w .part mInf)
       → MeanRoom (x .p) (x .m) (x .n) pm fm vs × CovRoom (x .p) (x .m) (x .n) pc pi fc × RecordRoom (x .p) (x .m) (x .n) ks fs fi ms mi

@@ -1,10 +1,11 @@
 use borrow.Author.Needs.{needs}
 use Rattle.definition.specs.Outcome.{noInformation}
-use Rattle.filter.proofs.is_silent.Statement.{statement}
-use Rattle.filter.proofs.is_silent.Tie as tie
+use Rattle.judged.specs.Went.{isSilent}
+use Rattle.judged.proofs.is_silent.Statement.{statement}
+use Rattle.judged.proofs.is_silent.Tie as tie
 
 returns : tie.Need-returns
-unfolding noInformation
+unfolding isSilent noInformation
 returns c = search needs
 
 pub is-silent-spec : {M : Type 1} → statement M

@@ -1,0 +1,2 @@
+pub mod Blanked
+pub mod Went
