@@ -1,6 +1,6 @@
 // Doubles and their bit patterns, all NaNs as one.
 ghost use mathlib.Core.Path.{_≡_};
-ghost use lib.Ieee.{binary64, ofBits};
+ghost use lib.Ieee.{binary64, ofBits, toBits};
 
 // The double of a bit pattern, a NaN of every NaN's.
 pub fn double(w: u64) -> f64
@@ -13,7 +13,9 @@ pub fn double(w: u64) -> f64
 }
 
 // The bit pattern of a double, 7FF8000000000000 for every NaN.
-pub fn pattern(x: f64) -> u64 {
+pub fn pattern(x: f64) -> u64
+    ensures { λ r. ⌜ r ≡ toBits binary64 x ⌝ }
+{
     if float::is_nan(x) {
         return 0x7FF8_0000_0000_0000;
     }

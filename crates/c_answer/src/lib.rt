@@ -1,4 +1,4 @@
-// How an exported call tells its outcome, by the C calling convention: 0 says that the answer stands in its four places; 1 to 12 is the refusal's number,
+// How an exported call tells its outcome, by the C calling convention: 0 says that the answer stands in its four places; any other is the refusal's number,
 // and these stay as they were.
 ghost use Rattle.promise.specs.Exported.{places, Told};
 

@@ -1,12 +1,12 @@
 -- The exported calls leave no room: two results that a promise allows coincide, the number, the answer's places and every lent part, tails included.
--- That every call keeps the promise is the contract of `c_filter::goxundar_filter` and `c_smooth::goxundar_smooth`.
+-- That every call keeps the promise is the contract of `c_filter::goxundar_filter`, `c_smooth::goxundar_smooth` and `c_stretch::goxundar_stretch`.
 use mathlib.Core.Path.{_≡_, sym, ap, _∙_}
 use Prim.Native.Nat.{ℕ}
 use Rattle.definition.specs.Outcome.{CovParts, MeanParts, CovOutcome, MeanOutcome}
-use Rattle.promise.specs.Lent.{Given, Lent, LentSmooth}
+use Rattle.promise.specs.Lent.{Given, Lent, LentSmooth, GivenStretch, LentStretch}
 use Rattle.promise.specs.Calls.{refusalOf, Promise}
 use Rattle.promise.specs.declared.Outcome.{Outcome}
-use Rattle.promise.specs.Exported.{Places, placesOf, Told, FilteredC, SmoothedC}
+use Rattle.promise.specs.Exported.{Places, placesOf, Told, FilteredC, SmoothedC, StretchedC}
 use Rattle.calls.specs.Seen.{SameParts}
 
 pub record Same (k j : ℕ) (new also : Places) (b c : Lent) : Type 0 where
@@ -33,3 +33,7 @@ determined-smooth h g = (
   h .promise .mean ∙ sym (g .promise .mean),
   h .promise .cov ∙ sym (g .promise .cov),
 )
+
+pub determined-stretch : {x : GivenStretch} {w : LentStretch} {k j : ℕ} {old new also : Places} {b c : LentStretch} → StretchedC x w old k b new → StretchedC x w old j c also
+    → Same k j new also (b .filter) (c .filter) × (b .save ≡ c .save)
+determined-stretch h g = (same-of (h .promise .filter) (g .promise .filter) (h .told) (g .told), h .promise .save ∙ sym (g .promise .save))

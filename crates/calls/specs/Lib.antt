@@ -4,4 +4,5 @@ pub mod Smooth
 pub mod Lists
 pub mod FilterList
 pub mod SmoothList
+pub mod Stretch
 pub mod ForC

@@ -1,5 +1,5 @@
 -- What a caller sees of a call, and what a promise of the filter's parts says of two calls. Filter and Smooth have the theorems on the two calls,
--- FilterList and SmoothList on those with a list of records.
+-- FilterList and SmoothList on those with a list of records, Stretch on a stretch's.
 use mathlib.Core.Path.{_≡_, refl, sym, ap, ap₂, _∙_, subst}
 use Prim.Native.Nat.{ℕ, zero, suc, _<_}
 use native.Mathlib.Omega.{arith}
@@ -172,6 +172,14 @@ module _ {u v : CovOutcome × MeanOutcome} {r s : Outcome} {b c : CovParts} {b�
             };
       }
 
+  -- of one number, with the same counts and log-likelihood
+  pub results-are : u .0 .refused ≡ v .0 .refused → u .0 .counts ≡ v .0 .counts → u .1 .loglik ≡ v .1 .loglik → r ≡ s
+  results-are e f g =
+      p .answer
+      ∙ ap (λ (n : ℕ). answerBy n (answerIn (u .0 .counts) (u .1 .loglik))) e
+      ∙ ap₂ (λ (k : Counts) (l : Float). answerBy (v .0 .refused) (answerIn k l)) f g
+      ∙ sym (q .answer)
+
   -- of one covariance half
   pub blind : u .0 ≡ v .0 → Blind r s b c
   blind e =
@@ -186,9 +194,8 @@ module _ {u v : CovOutcome × MeanOutcome} {r s : Outcome} {b c : CovParts} {b�
       }
 
   -- of outcomes that differ in the count heard alone, the first answered
-  pub one-less : {y : List Float} {k : ℕ} → NoNews y r b k → values.OneLess (u .0) (v .0) → v .1 ≡ u .1 → OneLess r s × SameParts b c b′ c′
-  one-less h d e =
-      let ur : u .0 .refused ≡ 0 = answered p h in
+  pub one-less-of : u .0 .refused ≡ 0 → values.OneLess (u .0) (v .0) → v .1 ≡ u .1 → OneLess r s × SameParts b c b′ c′
+  one-less-of ur d e =
       let vr : v .0 .refused ≡ 0 = d .refusals ∙ ur in
       let cr : countsOf r ≡ u .0 .counts = counts-are p ∙ ap (λ (n : ℕ). countsBy n (u .0 .counts)) ur in
       let cs : countsOf s ≡ v .0 .counts = counts-are q ∙ ap (λ (n : ℕ). countsBy n (v .0 .counts)) vr in (
@@ -208,3 +215,6 @@ module _ {u v : CovOutcome × MeanOutcome} {r s : Outcome} {b c : CovParts} {b�
           means = λ k. p .mean k ∙ ap (λ (z : MeanOutcome). z .parts k) (sym e) ∙ sym (q .mean k);
         },
       )
+
+  pub one-less : {y : List Float} {k : ℕ} → NoNews y r b k → values.OneLess (u .0) (v .0) → v .1 ≡ u .1 → OneLess r s × SameParts b c b′ c′
+  one-less h = one-less-of (answered p h)

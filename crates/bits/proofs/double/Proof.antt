@@ -1,20 +1,14 @@
 -- `bits::double` meets its contract. Assumes nothing.
 use Rattle.bits.proofs.double.Statement.{statement}
 use Rattle.bits.proofs.double.Tie as tie
-use mathlib.Core.Path.{_≡_, refl, sym, _∙_, subst}
-use mathlib.Core.Bool.{Bool, true, false≢true, not}
+use mathlib.Core.Path.{sym, _∙_, subst}
+use mathlib.Core.Bool.{Bool, not}
 use lib.Dec.{T}
-use lib.Ieee.{Float, nan, inf, fin, binary64, isNan, ofBits, div}
+use lib.Ieee.{binary64, ofBits, div}
 use lib.Ieee.Bits.{nanBits-is, nanBits-above}
 use borrow.Author.Needs.{needs}
 use borrow.Author.Tests.{lt-ltb, le-ltb}
-
--- the only double that is a NaN
-only : (x : Float) → isNan x ≡ true → nan ≡ x
-unfolding isNan
-only nan e = refl
-only (inf s) e = absurd (false≢true e)
-only (fin s m z) e = absurd (false≢true e)
+use Rattle.bits.proofs.Nans.{only}
 
 returns : tie.Need-returns
 unfolding div ofBits

@@ -1,0 +1,102 @@
+// A stretch's call by the C calling convention: numbers as themselves, a slice as pointer and length, yes as any byte but 0. It asks nothing of its
+// caller. A crate of its own, and so an object of its own in libgoxundar.a (DECISIONS 74).
+ghost use Rattle.promise.specs.Lent.{given, lent, givenStretch, lentStretch};
+ghost use Rattle.promise.specs.Exported.{isYes, places, StretchedC};
+
+#[no_mangle]
+pub extern "C" fn goxundar_stretch<'a>(
+    p: usize,
+    m: usize,
+    r: usize,
+    n: usize,
+    z: &'a [f64],
+    zs: &'a [f64],
+    h: &[f64],
+    t: &[f64],
+    rr: &[f64],
+    q: &[f64],
+    c: &[f64],
+    d: &[f64],
+    a1: &[f64],
+    p_star: &[f64],
+    flags: &[u8],
+    y: &[f64],
+    begins: u8,
+    saved: &[u8],
+    last: u8,
+    pred_mean: &mut [f64],
+    pred_cov: &mut [f64],
+    pred_inf: &mut [f64],
+    filt_mean: &mut [f64],
+    filt_cov: &mut [f64],
+    kinds: &mut [u8],
+    v: &mut [f64],
+    f_star: &mut [f64],
+    f_inf: &mut [f64],
+    m_star: &mut [f64],
+    m_inf: &mut [f64],
+    save: &mut [u8],
+    loglik: &mut f64,
+    d_diffuse: &mut usize,
+    heard: &mut usize,
+    news: &mut usize,
+) -> u32
+    ensures { λ k. ⌜ StretchedC
+        (givenStretch
+        (given p m r n
+        (now (z .entry)) (now (zs .entry)) (now (h .entry)) (now (t .entry)) (now (rr .entry)) (now (q .entry))
+        (now (c .entry)) (now (d .entry)) (now (a1 .entry)) (now («p_star» .entry)) (now (flags .entry)) (now (y .entry)))
+        (isYes begins) (now (saved .entry)) (isYes last))
+        (lentStretch
+        (lent
+        (now («pred_mean» .entry)) (now («pred_cov» .entry)) (now («pred_inf» .entry))
+        (now («filt_mean» .entry)) (now («filt_cov» .entry))
+        (now (kinds .entry)) (now (v .entry)) (now («f_star» .entry)) (now («f_inf» .entry))
+        (now («m_star» .entry)) (now («m_inf» .entry)))
+        (now (save .entry)))
+        (places (now (loglik .entry)) (now («d_diffuse» .entry)) (now (heard .entry)) (now (news .entry)))
+        k
+        (lentStretch
+        (lent
+        (now («pred_mean» .exit)) (now («pred_cov» .exit)) (now («pred_inf» .exit))
+        (now («filt_mean» .exit)) (now («filt_cov» .exit))
+        (now (kinds .exit)) (now (v .exit)) (now («f_star» .exit)) (now («f_inf» .exit))
+        (now («m_star» .exit)) (now («m_inf» .exit)))
+        (now (save .exit)))
+        (places (now (loglik .exit)) (now («d_diffuse» .exit)) (now (heard .exit)) (now (news .exit))) ⌝ }
+{
+    let o = stretch::stretch(
+        p,
+        m,
+        r,
+        n,
+        z,
+        zs,
+        h,
+        t,
+        rr,
+        q,
+        c,
+        d,
+        a1,
+        p_star,
+        flags,
+        y,
+        begins != 0,
+        saved,
+        last != 0,
+        pred_mean,
+        pred_cov,
+        pred_inf,
+        filt_mean,
+        filt_cov,
+        kinds,
+        v,
+        f_star,
+        f_inf,
+        m_star,
+        m_inf,
+        save,
+    );
+    c_answer::tell(o, loglik, d_diffuse, heard, news)
+}

@@ -1,0 +1,117 @@
+-- Lists put one after the other are put as one.
+use mathlib.Core.Path.{_≡_, refl, sym, ap, ap₂, _∙_}
+use Prim.Native.Nat.{ℕ, _+_, _*_, _/_, _%_, _^_, _≤_, _<_}
+use native.Mathlib.Nat.{zero-add}
+use native.Mathlib.Omega.{arith}
+use native.Mathlib.Numerals.{add-one}
+use mathlib.Core.List.{List, [], _∷_, _++_, map, append-assoc, append-nil}
+use lib.ListN.{length, getD, take, drop, set, length-append, length-map, length-drop}
+use lib.Seq.{take-at, drop-at, drop-drop, take-all, take-suc, getD-drop, length-take-le, paste, paste-zero, paste-suc}
+use lib.Ieee.{Float, nan}
+use Rattle.definition.specs.Run.{join, lay}
+use Rattle.definition.specs.Saved.{bytesOf, bits, section}
+use Rattle.laws.specs.Bytes.{bytes-length, join-length}
+use Rattle.laws.specs.Passes.{map-append, join-append}
+use Rattle.saved.specs.Places.{putAt}
+use Rattle.saved.proofs.Digits.{bytes-split}
+
+-- w, of k places, put at a place
+pub record Put {A : Type 0} (at k : ℕ) (w old new : List A) : Type 0 where
+  pub long : length w ≡ k
+  pub is : new ≡ putAt at w old
+
+module _ {A : Type 0} where
+  put-after : (at k : ℕ) (w v old : List A) → length w ≡ k → at + k ≤ length old → putAt (at + k) v (putAt at w old) ≡ putAt at (w ++ v) old
+  put-after at k w v old e h =
+      let head = take at old ++ w in
+      let rest = drop (at + length w) old in
+      let hl : length head ≡ at + k = length-append (take at old) w ∙ ap₂ _+_ (length-take-le at old (omega arith)) e in
+      let n : at + length w + length v ≡ at + length (w ++ v) = omega (arith, length-append w v) in
+      let t : take (at + k) (head ++ rest) ≡ head = take-at head rest (at + k) hl in
+      let d : drop (at + k + length v) (head ++ rest) ≡ drop (at + length (w ++ v)) old =
+      sym (drop-drop (length v) (at + k) (head ++ rest)) ∙ ap (drop (length v)) (drop-at head rest (at + k) hl) ∙ drop-drop (length v) (at + length w) old ∙ ap (λ (i : ℕ). drop i old) n in
+      ap₂ (λ (x : List A) (y : List A). (x ++ v) ++ y) t d ∙ ap (λ (x : List A). x ++ drop (at + length (w ++ v)) old) (append-assoc (take at old) w v)
+
+  pub put-first : (at : ℕ) (v old : List A) {new : List A} (k : ℕ) → length v ≡ k → new ≡ putAt at v old → Put at k v old new
+  put-first at v old k l e = record { long = l; is = e }
+
+  pub put-next : {at k : ℕ} {w old new new′ : List A} (v : List A) (k′ at′ : ℕ) → Put at k w old new → at + k ≤ length old → at′ ≡ at + k → new′ ≡ putAt at′ v new → k + length v ≡ k′ → Put at k′ (w ++ v) old new′
+  put-next {at} {k} {w} {old} v k′ at′ u h e q l =
+      record {
+        long = length-append w v ∙ ap (λ (i : ℕ). i + length v) (u .long) ∙ l;
+        is = q ∙ ap₂ (λ (i : ℕ) (z : List A). putAt i v z) e (u .is) ∙ put-after at k w v old (u .long) h;
+      }
+
+  pub put-is : {at k : ℕ} {w old new : List A} (w′ : List A) → Put at k w old new → w ≡ w′ → new ≡ putAt at w′ old
+  put-is {at} {k} {w} {old} w′ u e = u .is ∙ ap (λ (z : List A). putAt at z old) e
+
+  pub put-all : {k : ℕ} {w old new : List A} (w′ : List A) → Put 0 k w old new → w ≡ w′ → new ≡ lay w′ old
+  put-all {k} {w} {old} w′ u e = put-is w′ u e ∙ ap (λ (i : ℕ). w′ ++ drop i old) (zero-add (length w′))
+
+  -- ---- a loop that copies s, of k places
+
+  pub copied : (old s : List A) (at k i : ℕ) → length s ≡ k → i ≡ k → paste old at s i ≡ putAt at s old
+  copied old s at k i e q = ap₂ (λ (l : List A) (j : ℕ). take at old ++ l ++ drop (at + j) old) (take-all i s (omega arith)) (q ∙ sym e)
+
+  pub copy-next : (old new s : List A) (at i : ℕ) (v z : A) → at + i < length old → i < length s → new ≡ paste old at s i → v ≡ getD s i z → set new (at + i) v ≡ paste old at s (i + 1)
+  copy-next old new s at i v z h g e q = rw add-one (ap₂ (λ (l : List A) (a : A). set l (at + i) a) e q ∙ paste-suc old at s i z h g)
+
+-- ---- floats, one after the other
+
+abbrev pub written : List Float → List ℕ
+written l = join (map (bytesOf 8) (map bits l))
+
+pub written-length : (l : List Float) → length (written l) ≡ length l * 8
+written-length l = join-length (map bits l) ∙ ap (λ (i : ℕ). i * 8) (length-map l bits)
+
+written-next : (l : List Float) (v : Float) → written (l ++ (v ∷ [])) ≡ written l ++ bytesOf 8 (bits v)
+unfolding join
+written-next l v =
+    ap (λ (z : List ℕ). join (map (bytesOf 8) z)) (map-append bits l (v ∷ [])) ∙ ap join (map-append (bytesOf 8) (map bits l) (bits v ∷ [])) ∙ join-append (map (bytesOf 8) (map bits l)) (bytesOf 8 (bits v) ∷ []) ∙ ap (λ (z : List ℕ). written l ++ z) (append-nil (bytesOf 8 (bits v)))
+
+floats-next : (x : List Float) (from i : ℕ) → from + i < length x → written (take (i + 1) (drop from x)) ≡ written (take i (drop from x)) ++ bytesOf 8 (bits (getD x (from + i) nan))
+floats-next x from i h =
+    let l : i < length (drop from x) = simp length-drop (omega arith) in
+    ap (λ (j : ℕ). written (take j (drop from x))) (add-one i) ∙ ap written (take-suc (drop from x) i nan l) ∙ written-next (take i (drop from x)) (getD (drop from x) i nan) ∙ ap (λ (v : Float). written (take i (drop from x)) ++ bytesOf 8 (bits v)) (getD-drop from x i nan)
+
+pub floats-none : (at from : ℕ) (x : List Float) {old : List ℕ} → Put at (0 * 8) (written (take 0 (drop from x))) old old
+unfolding join
+floats-none at from x {old} = record { long = refl; is = paste-zero old at [] }
+
+pub floats-more : (at from i : ℕ) (x : List Float) (old out new : List ℕ) (k : ℕ) → Put at (i * 8) (written (take i (drop from x))) old out → from + i < length x → at + i * 8 ≤ length old → k ≡ bits (getD x (from + i) nan) → new ≡ putAt (at + i * 8) (bytesOf 8 k) out → Put at ((i + 1) * 8) (written (take (i + 1) (drop from x))) old new
+floats-more at from i x old out new k u h room e q =
+    let n : i * 8 + length (bytesOf 8 k) ≡ (i + 1) * 8 = omega (arith, bytes-length 8 k) in
+    let w : written (take i (drop from x)) ++ bytesOf 8 k ≡ written (take (i + 1) (drop from x)) = ap (λ (j : ℕ). written (take i (drop from x)) ++ bytesOf 8 j) e ∙ sym (floats-next x from i h) in
+    let v = put-next (bytesOf 8 k) ((i + 1) * 8) (at + i * 8) u room refl q n in
+    record { long = ap length (sym w) ∙ v .long; is = put-is (written (take (i + 1) (drop from x))) v w }
+
+pub floats-all : (at from i k : ℕ) (x : List Float) (old out : List ℕ) → i ≡ k → Put at (i * 8) (written (take i (drop from x))) old out → out ≡ putAt at (written (take k (drop from x))) old
+floats-all at from i k x old out e u = put-is (written (take k (drop from x))) u (ap (λ (j : ℕ). written (take j (drop from x))) e)
+
+-- ---- what each function puts
+
+pub eight-put : (at v : ℕ) (old mid new : List ℕ) → v < 256 ^ 8 → at + 8 ≤ length old → mid ≡ putAt at (bytesOf 4 (v / 0x100000000)) old → new ≡ putAt (at + 4) (bytesOf 4 (v % 0x100000000)) mid → new ≡ putAt at (bytesOf 8 v) old
+eight-put at v old mid new h room e q =
+    put-is (bytesOf 8 v) (put-next (bytesOf 4 (v % 0x100000000)) 8 (at + 4) (put-first at (bytesOf 4 (v / 0x100000000)) old 4 (bytes-length 4 (v / 0x100000000)) e) (omega arith) refl q (ap (λ (i : ℕ). 4 + i) (bytes-length 4 (v % 0x100000000)))) (sym (bytes-split 4 4 v h))
+
+pub section-put : (at from k : ℕ) (x : List Float) (old mid new : List ℕ) → at + (4 + k * 8) ≤ length old → from + k ≤ length x → mid ≡ putAt at (bytesOf 4 k) old → new ≡ putAt (at + 4) (written (take k (drop from x))) mid → new ≡ putAt at (section (map bits (take k (drop from x)))) old
+unfolding section
+section-put at from k x old mid new room h e q =
+    let l = take k (drop from x) in
+    let n : length (map bits l) ≡ k = length-map l bits ∙ length-take-le k (drop from x) (simp length-drop (omega arith)) in
+    put-is (section (map bits l)) (put-next (written l) (4 + length (written l)) (at + 4) (put-first at (bytesOf 4 k) old 4 (bytes-length 4 k) e) (omega arith) refl q refl) (ap (λ (i : ℕ). bytesOf 4 i ++ written l) (sym n))
+
+pub single-put : (at : ℕ) (v : Float) (k : ℕ) (old mid new : List ℕ) → at + 12 ≤ length old → mid ≡ putAt at (bytesOf 4 1) old → k ≡ bits v → new ≡ putAt (at + 4) (bytesOf 8 k) mid → new ≡ putAt at (section (bits v ∷ [])) old
+unfolding section join
+single-put at v k old mid new room e f q =
+    put-is (section (bits v ∷ [])) (put-next (bytesOf 8 k) 12 (at + 4) (put-first at (bytesOf 4 1) old 4 (bytes-length 4 1) e) (omega arith) refl q (ap (λ (i : ℕ). 4 + i) (bytes-length 8 k))) (ap (λ (i : ℕ). bytesOf 4 1 ++ bytesOf 8 i) f ∙ ap (λ (l : List ℕ). bytesOf 4 1 ++ l) (sym (append-nil (bytesOf 8 (bits v)))))
+
+pub numbers-put : (at a b c d : ℕ) (old o1 o2 o3 o4 o5 : List ℕ) → at + 36 ≤ length old → o1 ≡ putAt at (bytesOf 4 4) old → o2 ≡ putAt (at + 4) (bytesOf 8 a) o1 → o3 ≡ putAt (at + 12) (bytesOf 8 b) o2 → o4 ≡ putAt (at + 20) (bytesOf 8 c) o3 → o5 ≡ putAt (at + 28) (bytesOf 8 d) o4 → o5 ≡ putAt at (section (a ∷ b ∷ c ∷ d ∷ [])) old
+unfolding section join
+numbers-put at a b c d old o1 o2 o3 o4 o5 room e1 e2 e3 e4 e5 =
+    let u1 = put-first at (bytesOf 4 4) old 4 (bytes-length 4 4) e1 in
+    let u2 = put-next (bytesOf 8 a) 12 (at + 4) u1 (omega arith) refl e2 (ap (λ (i : ℕ). 4 + i) (bytes-length 8 a)) in
+    let u3 = put-next (bytesOf 8 b) 20 (at + 12) u2 (omega arith) refl e3 (ap (λ (i : ℕ). 12 + i) (bytes-length 8 b)) in
+    let u4 = put-next (bytesOf 8 c) 28 (at + 20) u3 (omega arith) refl e4 (ap (λ (i : ℕ). 20 + i) (bytes-length 8 c)) in
+    let u5 = put-next (bytesOf 8 d) 36 (at + 28) u4 (omega arith) refl e5 (ap (λ (i : ℕ). 28 + i) (bytes-length 8 d)) in
+    put-is (section (a ∷ b ∷ c ∷ d ∷ [])) u5 (simp (append-assoc, append-nil))

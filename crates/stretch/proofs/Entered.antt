@@ -1,0 +1,82 @@
+-- Where the run stands: at its start, or where it was saved.
+use mathlib.Core.Path.{_≡_, refl, sym, ap, _∙_}
+use Prim.Native.Nat.{ℕ, _+_, _*_, _≤_, _<_}
+use native.Mathlib.Nat.{mul-le-mul}
+use native.Mathlib.Omega.{arith}
+use mathlib.Core.Bool.{Bool, true, false, not, cond}
+use mathlib.Core.List.{List, []}
+use lib.ListN.{length, take, drop}
+use lib.Dec.{eqb}
+use lib.Ieee.{Float}
+use borrow.Author.Tests.{ne-eqb}
+use Rattle.definition.specs.Num.{0ᶠ}
+use Rattle.definition.specs.Cov.{Cov}
+use Rattle.definition.specs.Inputs.{Model, Offsets, startFrom, startInf, startRoot, startOf}
+use Rattle.definition.specs.Carried.{Past, begunPast, begunMean}
+use Rattle.definition.specs.Saved.{savedNeed, badSaved, loadedPast}
+use Rattle.definition.specs.Stretch.{From, pastIn, meanIn, carriedIn, badFrom}
+use Rattle.laws.specs.Lists.{length-tab}
+use Rattle.laws.specs.Accepted.{InRange}
+use Rattle.laws.specs.SavedBack.{loaded, not-bad}
+use Rattle.carried.specs.State.{StateFits, covIn, covFrom, meanFrom, covKept, meanKept}
+use Rattle.carried.specs.Next.{Whole, some-next, cov-next, mean-next}
+use Rattle.saved.specs.Loaded.{carriedOf}
+use Rattle.stretch.specs.Begun.{Starts, begunOf}
+
+module _ (m : ℕ) (a1 pStar : List Float) (flags : List ℕ) (s : List Float) (h : Starts m (length a1) (length pStar) (length flags) (length s)) where
+  abbrev start : Cov
+  start = startFrom m pStar flags
+
+  fits : StateFits m (length s)
+  fits = record { m8 = h .m8; whole = λ some. h .room }
+
+  some : length s ≡ 0 → ⊥
+  some e = omega (arith, h .room, h .m0, e)
+
+  whole : Whole m start a1
+  unfolding startFrom startInf startRoot
+  whole = record { mean = h .mean; star = h .star; pinf = length-tab (m * m) 0 _; root = length-tab (m * m) 0 _; unres = length-tab (m * m) 0 _ }
+
+  pub begun : (c : Cov) (a s1 s2 : List Float) → c ≡ start → s1 ≡ covKept m s c → a ≡ a1 → s2 ≡ meanKept m s1 a
+      → carriedOf m s2 (record { done = 0; live = c .live; answer = record { loglik = 0ᶠ; «d_diffuse» = 0; heard = 0; news = 0 } }) ≡ begunOf m a1 pStar flags
+  unfolding covFrom meanFrom
+  begun c a s1 s2 e0 e1 e2 e3 =
+      let next : s2 ≡ meanKept m (covKept m s start) a1 = rw (e1, e0, e2) at e3 in
+      let n = some-next m s start a1 fits some whole in
+      let mean : take m s2 ≡ a1 = ap (take m) next ∙ rw (ne-eqb _ _ n) at (mean-next m s start a1 fits some whole []) in
+      let cov : covIn m s2 (c .live) ≡ start = rw (next, e0) (rw (ne-eqb _ _ n) at (cov-next m s start a1 fits some whole [] [])) in
+      made mean cov
+    where
+      made : {u : Cov} → take m s2 ≡ a1 → covIn m s2 (c .live) ≡ u
+          → carriedOf m s2 (record { done = 0; live = c .live; answer = record { loglik = 0ᶠ; «d_diffuse» = 0; heard = 0; news = 0 } })
+          ≡ record { past = record { done = 0; cov = u; counts = record { dDiffuse = 0; heard = 0; news = 0 } }; mean = record { a = a1; loglik = 0ᶠ } }
+      made p q = rw (p, q) refl
+
+-- ---- at the start or from the bytes, by the marker
+
+pub stands : (x : Model) (o : Offsets) (begins : Bool) (saved : List ℕ)
+    → cond begins (begunOf (x .m) (o .a1) (x .pStar) (x .flags)) (loaded (x .m) saved) ≡ carriedIn x o (record { begins = begins; saved = saved })
+unfolding pastIn meanIn begunPast begunMean startOf
+stands x o true saved = refl
+stands x o false saved = refl
+
+-- past refusal 15: the bytes have their length, and the tallies are small
+pub long-enough : (x : Model) (begins : Bool) (saved : List ℕ) → badFrom x (record { begins = begins; saved = saved }) ≡ false → begins ≡ false → length saved ≡ savedNeed (x .m)
+unfolding badFrom
+long-enough x begins saved e h = not-bad (x .p) (x .m) (x .r) (x .n) saved (sym (ap (λ (b : Bool). cond b (not (eqb (length saved) 0)) (badSaved (x .p) (x .m) (x .r) (x .n) saved)) h) ∙ e) .long
+
+pub record Few (s : Past) (n : ℕ) : Type 0 where
+  pub early : s .done + n ≤ 4096
+  pub diffuse : s .counts .dDiffuse ≤ 4096
+  pub heard : s .counts .heard ≤ 65536
+  pub news : s .counts .news ≤ 65536
+
+pub few : (x : Model) (begins : Bool) (saved : List ℕ) → InRange (x .p) (x .m) (x .r) (x .n) → badFrom x (record { begins = begins; saved = saved }) ≡ false → Few (pastIn x (record { begins = begins; saved = saved })) (x .n)
+unfolding badFrom pastIn begunPast loadedPast
+few x true saved i e = record { early = omega (arith, i .n4096); diffuse = omega arith; heard = omega arith; news = omega arith }
+few x false saved i e =
+    let g = not-bad (x .p) (x .m) (x .r) (x .n) saved e in
+    let l = loaded (x .m) saved .past in
+    let d : l .done ≤ 4096 = omega (arith, g .sizes .early) in
+    let h : l .done * x .p ≤ 4096 * 8 = mul-le-mul d (i .p8) in
+    record { early = g .sizes .early; diffuse = omega (arith, g .tallies .dDiffuse); heard = omega (arith, g .tallies .heard); news = omega (arith, g .tallies .heard, g .tallies .news) }

@@ -1,0 +1,4 @@
+pub mod Entered
+pub mod Stands
+pub mod Passed
+pub mod Called

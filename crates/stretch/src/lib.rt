@@ -1,0 +1,343 @@
+// A stretch's call: the checks, where the run stands, the periods with refusal 12 (crates/judged), and the run saved (crates/saved).
+ghost use mathlib.Core.Path.{_≡_};
+ghost use mathlib.Core.Bool.{false, _&&_, _||_, cond, not};
+ghost use mathlib.Core.List.{[], _∷_, map};
+ghost use Prim.Native.Nat.{_+_, _*_, _≤_};
+ghost use lib.ListN.{length};
+ghost use lib.Dec.{eqb, leb};
+ghost use Rattle.definition.specs.Run.{anyOf, lay};
+ghost use Rattle.definition.specs.Inputs.{isInfinity, classOf};
+ghost use Rattle.definition.specs.Refusals.{firstOf};
+ghost use Rattle.definition.specs.Saved.{savedNeed, badSaved, savedOf};
+ghost use Rattle.definition.specs.Stretch.{stretchRefusal};
+ghost use Rattle.laws.specs.Accepted.{InRange};
+ghost use Rattle.laws.specs.SavedBack.{loaded};
+ghost use Rattle.model.specs.Lengths.{rooms};
+ghost use Rattle.saved.specs.Loaded.{carriedOf};
+ghost use Rattle.promise.specs.Lent.{modelOf, offsetsOf, given, lent, givenStretch, lentStretch};
+ghost use Rattle.promise.specs.Calls.{Stretched};
+ghost use Rattle.stretch.specs.Begun.{Starts, begunOf};
+
+// ---- the checks
+
+// 15 BadSaved, of sizes in range. A run that begins has no saved bytes.
+fn of_saved(begins: bool, saved: &[u8], p: usize, m: usize, r: usize, n: usize) -> u8
+    requires { ⌜ InRange p m r n ⌝ }
+    ensures { λ k. ⌜ k ≡ firstOf ((15, cond begins (not (eqb (length (now (saved .entry))) 0)) (badSaved p m r n (now (saved .entry)))) ∷ []) ⌝ }
+{
+    if begins {
+        return if saved.len() == 0 { 0 } else { 15 };
+    }
+    if saved::bad(saved, p, m, r, n) { 15 } else { 0 }
+}
+
+// Whether there is room to save in; the last stretch needs none.
+fn room_to_save(last: bool, save: usize, m: usize) -> bool
+    requires { ⌜ m ≤ 8 ⌝ }
+    ensures { λ b. ⌜ b ≡ (last || leb (savedNeed m) save) ⌝ }
+{
+    last | (104 + m * 8 + m * m * 32 <= save)
+}
+
+// Refusals 1 to 11 and 15, of the inputs and of the outputs' lengths; 0: none.
+fn refusal(
+    p: usize,
+    m: usize,
+    r: usize,
+    n: usize,
+    z: &[f64],
+    zs: &[f64],
+    h: &[f64],
+    t: &[f64],
+    rr: &[f64],
+    q: &[f64],
+    c: &[f64],
+    d: &[f64],
+    a1: &[f64],
+    p_star: &[f64],
+    flags: &[u8],
+    y: &[f64],
+    begins: bool,
+    saved: &[u8],
+    last: bool,
+    pred_mean: usize,
+    pred_cov: usize,
+    pred_inf: usize,
+    filt_mean: usize,
+    filt_cov: usize,
+    kinds: usize,
+    v: usize,
+    f_star: usize,
+    f_inf: usize,
+    m_star: usize,
+    m_inf: usize,
+    save: usize,
+) -> u8
+    ensures { λ k. ⌜ k ≡ stretchRefusal
+        (modelOf p m r n (now (z .entry)) (now (zs .entry)) (now (h .entry)) (now (t .entry)) (now (rr .entry)) (now (q .entry)) (now («p_star» .entry)) (now (flags .entry)))
+        (offsetsOf (now (c .entry)) (now (d .entry)) (now (a1 .entry)))
+        (length (now (y .entry))) (anyOf isInfinity (map classOf (now (y .entry))))
+        (rooms p m n «pred_mean» «pred_cov» «pred_inf» «filt_mean» «filt_cov» kinds v «f_star» «f_inf» «m_star» «m_inf» && (last || leb (savedNeed m) save))
+        (cond begins (not (eqb (length (now (saved .entry))) 0)) (badSaved p m r n (now (saved .entry)))) ⌝ }
+{
+    let sizes = model::refusals::of_stretch_sizes(p, m, r, n);
+    if sizes != 0 {
+        return sizes;
+    }
+    let parts = model::lengths::rooms(
+        p,
+        m,
+        r,
+        n,
+        pred_mean,
+        pred_cov,
+        pred_inf,
+        filt_mean,
+        filt_cov,
+        kinds,
+        v,
+        f_star,
+        f_inf,
+        m_star,
+        m_inf,
+    );
+    let room = parts & room_to_save(last, save, m);
+    let inputs = model::refusal_of_inputs(
+        p,
+        m,
+        r,
+        n,
+        z,
+        zs,
+        h,
+        t,
+        rr,
+        q,
+        c,
+        d,
+        a1,
+        p_star,
+        flags,
+        y,
+        room,
+    );
+    if inputs != 0 {
+        return inputs;
+    }
+    of_saved(begins, saved, p, m, r, n)
+}
+
+// ---- where the run stands
+
+// At its start. Into the state: the mean, P*, P∞, its root, the unresolved matrix.
+fn begin(a1: &[f64], p_star: &[f64], flags: &[u8], m: usize, state: &mut [f64]) -> saved::Tallies
+    requires { ⌜ Starts m (length (now a1)) (length (now «p_star»)) (length (now flags)) (length (now state)) ⌝ }
+    ensures { λ t. ⌜ carriedOf m (now (state .exit)) t ≡ begunOf m (now (a1 .entry)) (now («p_star» .entry)) (now (flags .entry)) ⌝ }
+{
+    let mut star = [0.0; 64];
+    let mut p_inf = [0.0; 64];
+    let mut root = [0.0; 64];
+    let mut unres = [0.0; 64];
+    let live = model::start(
+        p_star,
+        flags,
+        m,
+        &mut star,
+        &mut p_inf,
+        &mut root,
+        &mut unres,
+    );
+    carried::keep_cov(state, &star, &p_inf, &root, &unres, m);
+    let a = dense::load8(a1);
+    carried::keep_mean(state, &a, m);
+    let answer = promise::Answer {
+        loglik: 0.0,
+        d_diffuse: 0,
+        heard: 0,
+        news: 0,
+    };
+    saved::Tallies {
+        done: 0,
+        live,
+        answer,
+    }
+}
+
+// At its start, or where it was saved.
+fn enter(
+    begins: bool,
+    saved: &[u8],
+    a1: &[f64],
+    p_star: &[f64],
+    flags: &[u8],
+    m: usize,
+    state: &mut [f64],
+) -> saved::Tallies
+    requires { ⌜ Starts m (length (now a1)) (length (now «p_star»)) (length (now flags)) (length (now state))
+        × (begins ≡ false → length (now saved) ≡ savedNeed m) ⌝ }
+    ensures { λ t. ⌜ carriedOf m (now (state .exit)) t
+        ≡ cond begins (begunOf m (now (a1 .entry)) (now («p_star» .entry)) (now (flags .entry))) (loaded m (now (saved .entry))) ⌝ }
+{
+    if begins {
+        return begin(a1, p_star, flags, m, state);
+    }
+    saved::load(saved, m, state)
+}
+
+// The run saved; the last stretch saves nothing.
+fn keep(save: &mut [u8], last: bool, p: usize, m: usize, r: usize, state: &[f64], t: saved::Tallies)
+    requires { ⌜ (m ≤ 8) × (last ≡ false → savedNeed m ≤ length (now save)) × (m + m * m + m * m + m * m + m * m ≤ length (now state)) ⌝ }
+    ensures { λ _. ⌜ now (save .exit) ≡ cond last (now (save .entry))
+        (lay (savedOf p m r (carriedOf m (now (state .entry)) t)) (now (save .entry))) ⌝ }
+{
+    if last {
+        return;
+    }
+    saved::save(save, p, m, r, state, t);
+}
+
+// A stretch's call. It ends with an answer whatever it is handed: refused with its number, or answered.
+pub fn stretch<'a>(
+    p: usize,
+    m: usize,
+    r: usize,
+    n: usize,
+    z: &'a [f64],
+    zs: &'a [f64],
+    h: &[f64],
+    t: &[f64],
+    rr: &[f64],
+    q: &[f64],
+    c: &[f64],
+    d: &[f64],
+    a1: &[f64],
+    p_star: &[f64],
+    flags: &[u8],
+    y: &[f64],
+    begins: bool,
+    saved: &[u8],
+    last: bool,
+    pred_mean: &mut [f64],
+    pred_cov: &mut [f64],
+    pred_inf: &mut [f64],
+    filt_mean: &mut [f64],
+    filt_cov: &mut [f64],
+    kinds: &mut [u8],
+    v: &mut [f64],
+    f_star: &mut [f64],
+    f_inf: &mut [f64],
+    m_star: &mut [f64],
+    m_inf: &mut [f64],
+    save: &mut [u8],
+) -> promise::Outcome
+    ensures { λ o. ⌜ Stretched
+        (givenStretch
+        (given p m r n
+        (now (z .entry)) (now (zs .entry)) (now (h .entry)) (now (t .entry)) (now (rr .entry)) (now (q .entry))
+        (now (c .entry)) (now (d .entry)) (now (a1 .entry)) (now («p_star» .entry)) (now (flags .entry)) (now (y .entry)))
+        begins (now (saved .entry)) last)
+        (lentStretch
+        (lent
+        (now («pred_mean» .entry)) (now («pred_cov» .entry)) (now («pred_inf» .entry))
+        (now («filt_mean» .entry)) (now («filt_cov» .entry))
+        (now (kinds .entry)) (now (v .entry)) (now («f_star» .entry)) (now («f_inf» .entry))
+        (now («m_star» .entry)) (now («m_inf» .entry)))
+        (now (save .entry)))
+        o
+        (lentStretch
+        (lent
+        (now («pred_mean» .exit)) (now («pred_cov» .exit)) (now («pred_inf» .exit))
+        (now («filt_mean» .exit)) (now («filt_cov» .exit))
+        (now (kinds .exit)) (now (v .exit)) (now («f_star» .exit)) (now («f_inf» .exit))
+        (now («m_star» .exit)) (now («m_inf» .exit)))
+        (now (save .exit))) ⌝ }
+{
+    let k = refusal(
+        p,
+        m,
+        r,
+        n,
+        z,
+        zs,
+        h,
+        t,
+        rr,
+        q,
+        c,
+        d,
+        a1,
+        p_star,
+        flags,
+        y,
+        begins,
+        saved,
+        last,
+        pred_mean.len(),
+        pred_cov.len(),
+        pred_inf.len(),
+        filt_mean.len(),
+        filt_cov.len(),
+        kinds.len(),
+        v.len(),
+        f_star.len(),
+        f_inf.len(),
+        m_star.len(),
+        m_inf.len(),
+        save.len(),
+    );
+    if 0 < k {
+        return promise::Outcome::Refused(k);
+    }
+    let mut state = [0.0; 264];
+    let stands = enter(begins, saved, a1, p_star, flags, m, &mut state);
+    let before = stands.answer;
+    let left = model::later(zs, p, m, stands.done);
+    let e = judged::run(
+        p,
+        m,
+        r,
+        n,
+        z,
+        left,
+        h,
+        t,
+        rr,
+        q,
+        c,
+        d,
+        a1,
+        p_star,
+        flags,
+        y,
+        pred_mean,
+        pred_cov,
+        pred_inf,
+        filt_mean,
+        filt_cov,
+        kinds,
+        v,
+        f_star,
+        f_inf,
+        m_star,
+        m_inf,
+        &mut state,
+        stands.live,
+        before,
+        last,
+    );
+    let answer = e.answer;
+    keep(
+        save,
+        last,
+        p,
+        m,
+        r,
+        &state,
+        saved::Tallies {
+            done: stands.done + n,
+            live: e.live,
+            answer,
+        },
+    );
+    judged::told(e)
+}
