@@ -1,8 +1,8 @@
 //! The oracle: the Rust filter and smoother behind document 01's whole call,
 //! and the tools that make and check cases with it.
 //!
-//! A test harness calls [`filter_call`] and [`smooth_call`] on lent parts,
-//! or [`case::run`] on a [`case::Case`].
+//! A test harness calls [`filter_call`], [`smooth_call`] and [`stretch_call`]
+//! on lent parts, or [`case::run`] on a [`case::Case`].
 
 pub mod case;
 pub mod demand3;
@@ -17,7 +17,10 @@ pub mod refuse;
 pub mod replay;
 pub mod rng;
 pub mod small;
+pub mod stretches;
 pub mod time;
+pub mod uncut;
 
-pub use parts::{needed, Answer, Inputs, Outcome, Outputs, Smoothed};
-pub use tsecon_ssm::{filter_call, smooth_call};
+pub use parts::{decode, encode, needed, saved_len, section_counts, Carried};
+pub use parts::{Answer, Inputs, Outcome, Outputs, Smoothed, Stretch};
+pub use tsecon_ssm::{filter_call, smooth_call, stretch_call};

@@ -7,6 +7,7 @@ const USAGE: &str = "usage:
   oracle list FILE             make the fixed list of cases
   oracle replay FILE           run a file's cases and compare
   oracle small SEED COUNT      print small cases as text
+  oracle stretches SEED        print small stretches as text
   oracle demand3 SEED COUNT    try demand 3
   oracle time                  ns per period";
 
@@ -24,6 +25,10 @@ fn act(args: &[&str]) -> Result<(), String> {
         ["replay", file] => oracle::replay::command(file),
         ["small", seed, count] => {
             oracle::small::command(number(seed)?, number(count)? as usize);
+            Ok(())
+        }
+        ["stretches", seed] => {
+            oracle::stretches::command(number(seed)?);
             Ok(())
         }
         ["demand3", seed, count] => oracle::demand3::command(number(seed)?, number(count)?),

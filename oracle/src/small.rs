@@ -119,11 +119,11 @@ pub fn choose(seed: u64, count: usize) -> Vec<(Case, Expected)> {
         .collect()
 }
 
-fn hex(words: &[u64]) -> String {
+pub(crate) fn hex(words: &[u64]) -> String {
     words.iter().map(|w| format!(" {w:016x}")).collect()
 }
 
-fn plain(words: impl Iterator<Item = u64>) -> String {
+pub(crate) fn plain(words: impl Iterator<Item = u64>) -> String {
     words.map(|w| format!(" {w}")).collect()
 }
 
@@ -163,7 +163,7 @@ pub fn text(number: usize, case: &Case, e: &Expected) -> String {
     s + "end\n"
 }
 
-fn outcome(o: &Outcome) -> Result<String, u32> {
+pub(crate) fn outcome(o: &Outcome) -> Result<String, u32> {
     o.map(|a| {
         let loglik = one_nan(a.loglik.to_bits());
         format!("{loglik:016x} {} {} {}", a.d_diffuse, a.heard, a.news)

@@ -1,15 +1,16 @@
 //! The comparison at scale: fresh cases of the oracle's generator through both calls of the library and of the oracle, demand 3 by pairs of calls,
-//! wild calls. Case k of a seed is the same in every run, whatever the count and the threads.
+//! wild calls; and each case's run in stretches. Case k of a seed is the same in every run, whatever the count and the threads.
 
 use oracle::case::Case;
 use oracle::gen::Cases;
 use oracle::rng::Rng;
 use oracle::time;
 
+use crate::cuts::Run;
 use crate::lent::Lent;
 use crate::library::{Call, CALLS};
 use crate::tally::Tally;
-use crate::{values, watch, wild};
+use crate::{altered, cuts, values, watch, wild};
 
 /// The generator's cases have 20 periods at most. After one in so many comes a long run.
 const LONG_EVERY: u64 = 997;
@@ -45,6 +46,21 @@ fn long_case(rng: &mut Rng) -> Case {
     case
 }
 
+/// A case's run in stretches; and where the case is refused, as a stretch.
+fn stretches(rng: &mut Rng, case: &Case, k: u64, name: &str, tally: &mut Tally) {
+    // As the filter's call sees it, with the lengths that the case lends.
+    let refusal = Lent::of(case, 0).oracle(Call::Filter);
+    match Run::of(case) {
+        Ok(run) if matches!(refusal, 0 | 12) => {
+            cuts::try_short(rng, &run, name, tally);
+            altered::try_run(rng, &run, name, tally);
+            altered::try_bits(rng, &run, k, name, tally);
+            values::try_stretch(rng, &run, name, tally);
+        }
+        _ => altered::try_refused(rng, case, refusal, name, tally),
+    }
+}
+
 fn one_case(cases: &Cases, seed: u64, k: u64, tally: &mut Tally) {
     tally.start(k);
     let (_, case) = cases.at(k);
@@ -52,6 +68,8 @@ fn one_case(cases: &Cases, seed: u64, k: u64, tally: &mut Tally) {
     let mut rng = Rng::new(seed.wrapping_mul(0x9E37_79B9).wrapping_add(k));
     // Of its own, so that the wild call does not go by what demand 3 found in the library's answers.
     let mut wild_rng = Rng::new(rng.word());
+    // Of their own too, so that the cases before them are as they were before there were stretches.
+    let mut stretch_rng = Rng::new(wild_rng.clone().word() ^ rng.clone().word());
     let fill = rng.word();
     for which in CALLS {
         let (outcome, difference) = against_oracle(which, &case, fill);
@@ -60,13 +78,16 @@ fn one_case(cases: &Cases, seed: u64, k: u64, tally: &mut Tally) {
         line.count(&format!("{name}, {}", which.name()), difference);
     }
     values::try_case(&mut rng, &case, &name, tally);
-    wild::try_case(&mut wild_rng, case, &name, tally);
+    stretches(&mut stretch_rng, &case, k, &name, tally);
+    wild::try_case(&mut wild_rng, &mut stretch_rng, case, &name, tally);
     if k % LONG_EVERY == 0 {
         let case = long_case(&mut wild_rng);
         for which in CALLS {
             let difference = against_oracle(which, &case, fill).1;
             tally.long.count(&format!("long run after {name}, {}", which.name()), difference);
         }
+        let run = Run::of(&case).expect("a long run starts");
+        cuts::try_long(&mut stretch_rng, &run, &format!("long run after {name}"), tally);
     }
 }
 
@@ -98,6 +119,7 @@ pub fn compare(seed: u64, count: u64, threads: usize) -> bool {
     });
     let cases = tally.cases;
     let (compared, differ) = tally.print();
-    println!("seed {seed}: {cases} cases, {compared} comparisons, {differ} differ");
+    let (stretches, altered) = tally.stretches();
+    println!("seed {seed}: {cases} cases, {compared} comparisons, of these {stretches} stretches, {altered} from altered bytes; {differ} differ");
     differ == 0
 }

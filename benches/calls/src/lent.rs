@@ -2,7 +2,7 @@
 //! stretches after two calls are compared word by word, so that nothing can change unseen: no tail, no guard, no input, no place of a refused answer.
 
 use oracle::case::{one_nan, Case, INPUT_NAMES, OUTPUT_NAMES};
-use oracle::{filter_call, smooth_call, Inputs, Outputs, Smoothed};
+use oracle::{filter_call, saved_len, smooth_call, stretch_call, Inputs, Outputs, Smoothed, Stretch};
 
 use crate::library::{self, Call};
 
@@ -10,10 +10,11 @@ use crate::library::{self, Call};
 const GUARD: usize = 4;
 const INPUTS: usize = 12;
 const OUTPUTS: usize = 13;
-const PARTS: usize = INPUTS + OUTPUTS + 4;
+/// Past the inputs, the outputs and the answer: the bytes that a stretch goes on from, and those that it saves.
+const PARTS: usize = INPUTS + OUTPUTS + 4 + 2;
 const ANSWER_NAMES: [&str; 4] = ["the log-likelihood", "d_diffuse", "heard", "news"];
 
-/// Numbers of parts, the inputs first, then the outputs, then the answer's places.
+/// Numbers of parts, the inputs first, then the outputs, then the answer's places, then a stretch's bytes.
 pub const FLAGS: usize = 10;
 pub const Y: usize = 11;
 pub const PRED_MEAN: usize = 12;
@@ -22,14 +23,27 @@ pub const KINDS: usize = 17;
 pub const V: usize = 18;
 pub const SM_MEAN: usize = 23;
 pub const LOGLIK: usize = 25;
+pub const D_DIFFUSE: usize = 26;
 pub const HEARD: usize = 27;
 pub const NEWS: usize = 28;
+pub const SAVED: usize = 29;
+pub const SAVE: usize = 30;
 
-/// Where a part starts, in words, and how many places it has.
+/// Where a part starts, in words and bytes more, and how many places it has.
 #[derive(Debug, Clone, Copy, Default)]
 struct Part {
     at: usize,
+    shift: usize,
     len: usize,
+}
+
+/// What a stretch is handed and lent besides: the markers, the saved bytes, and how many bytes there are to save in.
+#[derive(Debug, Clone, Copy, Default)]
+pub struct Ask<'a> {
+    pub begins: u8,
+    pub saved: &'a [u8],
+    pub last: u8,
+    pub room: usize,
 }
 
 /// What a call is handed: each part as pointer and length.
@@ -39,22 +53,32 @@ pub struct Args {
     pub inputs: [(*mut u64, usize); INPUTS],
     pub outputs: [(*mut u64, usize); OUTPUTS],
     pub answer: [*mut u64; 4],
+    pub begins: u8,
+    pub saved: (*mut u8, usize),
+    pub last: u8,
+    pub save: (*mut u8, usize),
 }
 
 #[derive(Debug, Clone)]
 pub struct Lent {
     sizes: [usize; 4],
+    begins: u8,
+    last: u8,
     parts: [Part; PARTS],
     words: Vec<u64>,
 }
 
 fn is_bytes(part: usize) -> bool {
-    part == FLAGS || part == KINDS
+    matches!(part, FLAGS | KINDS | SAVED | SAVE)
 }
 
-fn words_of(part: usize, len: usize) -> usize {
+fn is_input(part: usize) -> bool {
+    part < INPUTS || part == SAVED
+}
+
+fn words_of(part: usize, shift: usize, len: usize) -> usize {
     if is_bytes(part) {
-        len.div_ceil(8)
+        (shift + len).div_ceil(8)
     } else {
         len
     }
@@ -70,20 +94,30 @@ fn filling(fill: u64, k: usize) -> u64 {
 impl Lent {
     /// A case's inputs, and outputs of the lengths that it lends.
     pub fn of(case: &Case, fill: u64) -> Self {
-        let floats: [&[f64]; INPUTS] = [
-            &case.z, &case.zs, &case.h, &case.t, &case.rr, &case.q, &case.c, &case.d, &case.a1, &case.p_star, &[], &case.y,
-        ];
+        Self::new(&case.inputs(), &case.lent, &Ask::default(), fill)
+    }
+
+    /// These inputs, outputs of the lengths `lent`, and what a stretch has besides. Its bytes start anywhere in a word.
+    pub fn new(i: &Inputs<'_>, lent: &[usize; OUTPUTS], ask: &Ask<'_>, fill: u64) -> Self {
+        #[rustfmt::skip]
+        let floats: [&[f64]; INPUTS] = [i.z, i.zs, i.h, i.t, i.rr, i.q, i.c, i.d, i.a1, i.p_star, &[], i.y];
         let mut parts = [Part::default(); PARTS];
         let mut at = GUARD;
         for (k, part) in parts.iter_mut().enumerate() {
             let len = match k {
-                FLAGS => case.flags.len(),
+                FLAGS => i.flags.len(),
+                SAVED => ask.saved.len(),
+                SAVE => ask.room,
                 _ if k < INPUTS => floats[k].len(),
-                _ if k < INPUTS + OUTPUTS => case.lent[k - INPUTS],
+                _ if k < INPUTS + OUTPUTS => lent[k - INPUTS],
                 _ => 1,
             };
-            *part = Part { at, len };
-            at += words_of(k, len) + GUARD;
+            let shift = match k {
+                SAVED | SAVE if len > 0 => (fill >> (8 * (k - SAVED))) as usize % 8,
+                _ => 0,
+            };
+            *part = Part { at, shift, len };
+            at += words_of(k, shift, len) + GUARD;
         }
         let mut words: Vec<u64> = (0..at).map(|k| filling(fill, k)).collect();
         for (k, x) in floats.iter().enumerate() {
@@ -91,8 +125,9 @@ impl Lent {
                 words[parts[k].at + place] = v.to_bits();
             }
         }
-        let mut lent = Lent { sizes: [case.p, case.m, case.r, case.n], parts, words };
-        lent.bytes_mut(FLAGS).copy_from_slice(&case.flags);
+        let mut lent = Lent { sizes: [i.p, i.m, i.r, i.n], begins: ask.begins, last: ask.last, parts, words };
+        lent.bytes_mut(FLAGS).copy_from_slice(i.flags);
+        lent.bytes_mut(SAVED).copy_from_slice(ask.saved);
         lent
     }
 
@@ -100,9 +135,25 @@ impl Lent {
         unsafe { self.words.as_mut_ptr().add(self.parts[part].at) }
     }
 
-    fn bytes_mut(&mut self, part: usize) -> &mut [u8] {
+    fn byte_pointer(&mut self, part: usize) -> *mut u8 {
+        unsafe { self.pointer(part).cast::<u8>().add(self.parts[part].shift) }
+    }
+
+    pub fn bytes_mut(&mut self, part: usize) -> &mut [u8] {
         let len = self.parts[part].len;
-        unsafe { std::slice::from_raw_parts_mut(self.pointer(part).cast(), len) }
+        unsafe { std::slice::from_raw_parts_mut(self.byte_pointer(part), len) }
+    }
+
+    /// Writes words to a part, from a place on: one a place.
+    pub fn put(&mut self, part: usize, place: usize, words: &[u64]) {
+        assert!(place + words.len() <= self.parts[part].len);
+        if is_bytes(part) {
+            let bytes = &mut self.bytes_mut(part)[place..];
+            bytes.iter_mut().zip(words).for_each(|(byte, &word)| *byte = word as u8);
+        } else {
+            let at = self.parts[part].at + place;
+            self.words[at..at + words.len()].copy_from_slice(words);
+        }
     }
 
     pub fn args(&mut self) -> Args {
@@ -111,6 +162,10 @@ impl Lent {
             inputs: std::array::from_fn(|k| (self.pointer(k), self.parts[k].len)),
             outputs: std::array::from_fn(|k| (self.pointer(INPUTS + k), self.parts[INPUTS + k].len)),
             answer: std::array::from_fn(|k| self.pointer(INPUTS + OUTPUTS + k)),
+            begins: self.begins,
+            saved: (self.byte_pointer(SAVED), self.parts[SAVED].len),
+            last: self.last,
+            save: (self.byte_pointer(SAVE), self.parts[SAVE].len),
         }
     }
 
@@ -122,6 +177,11 @@ impl Lent {
 
     /// The oracle's call on the same parts, its answer in the same places.
     pub fn oracle(&mut self, which: Call) -> u32 {
+        self.oracle_from(which, None)
+    }
+
+    /// The same; where `other` is given, a stretch goes on from these bytes instead.
+    pub fn oracle_from(&mut self, which: Call, other: Option<&[u8]>) -> u32 {
         let [p, m, r, n] = self.sizes;
         let a = self.args();
         // The parts do not overlap, and nothing else looks at them meanwhile.
@@ -141,6 +201,12 @@ impl Lent {
         let outcome = match which {
             Call::Filter => filter_call(&i, &mut outputs),
             Call::Smooth => smooth_call(&i, &mut outputs, &mut Smoothed { sm_mean: o(11), sm_cov: o(12) }),
+            Call::Stretch => {
+                let lent = unsafe { std::slice::from_raw_parts(a.saved.0, a.saved.1) };
+                let stretch = Stretch { begins: a.begins, saved: other.unwrap_or(lent), last: a.last };
+                let save = unsafe { std::slice::from_raw_parts_mut(a.save.0, a.save.1) };
+                stretch_call(&i, &stretch, &mut outputs, save)
+            }
         };
         match outcome {
             Ok(answer) => {
@@ -156,8 +222,9 @@ impl Lent {
 
     /// Place `k` of a part.
     pub fn word(&self, part: usize, k: usize) -> u64 {
-        let at = self.parts[part].at;
+        let Part { at, shift, .. } = self.parts[part];
         if is_bytes(part) {
+            let k = shift + k;
             u64::from(self.words[at + k / 8].to_ne_bytes()[k % 8])
         } else {
             self.words[at + k]
@@ -168,7 +235,9 @@ impl Lent {
     fn written(&self, which: Call, refusal: u32, part: usize) -> usize {
         let answer = INPUTS + OUTPUTS;
         match part {
-            _ if part < INPUTS => 0,
+            _ if is_input(part) => 0,
+            SAVE if which == Call::Stretch && refusal == 0 && self.last == 0 => saved_len(self.sizes[1]),
+            SAVE => 0,
             _ if part >= answer => usize::from(refusal == 0),
             _ if part - INPUTS >= which.outputs() || (refusal != 0 && refusal != 12) => 0,
             _ => oracle::needed(self.sizes[0], self.sizes[1], self.sizes[3])[part - INPUTS],
@@ -179,7 +248,7 @@ impl Lent {
     fn find(&self, k: usize) -> Result<(usize, usize), usize> {
         let part = self.parts.iter().rposition(|p| p.at <= k).ok_or(0usize)?;
         let place = k - self.parts[part].at;
-        if place < words_of(part, self.parts[part].len) {
+        if place < words_of(part, self.parts[part].shift, self.parts[part].len) {
             Ok((part, place))
         } else {
             Err(part)
@@ -188,6 +257,8 @@ impl Lent {
 
     fn name(part: usize) -> &'static str {
         match part {
+            SAVED => "saved",
+            SAVE => "save",
             _ if part < INPUTS => INPUT_NAMES[part],
             _ if part < INPUTS + OUTPUTS => OUTPUT_NAMES[part - INPUTS],
             _ => ANSWER_NAMES[part - INPUTS - OUTPUTS],
@@ -204,9 +275,10 @@ impl Lent {
                 Err(part) => return Some(format!("the guard zone beside {} was written to", Self::name(part))),
             };
             let name = Self::name(part);
-            let len = self.parts[part].len;
+            let Part { shift, len, .. } = self.parts[part];
             let written = self.written(which, refusal, part);
-            let places = if is_bytes(part) { word * 8..len.min(word * 8 + 8) } else { word..word + 1 };
+            let byte = |k: usize| k.saturating_sub(shift).min(len);
+            let places = if is_bytes(part) { byte(word * 8)..byte(word * 8 + 8) } else { word..word + 1 };
             let mut seen = 0;
             for place in places {
                 let (found, want) = (self.word(part, place), wanted.word(part, place));
@@ -215,13 +287,13 @@ impl Lent {
                 }
                 seen += 1;
                 let passes = if free.contains(&part) {
-                    part < INPUTS || place < written
+                    is_input(part) || place < written
                 } else {
                     place < written && (part <= LOGLIK && !is_bytes(part)) && one_nan(found) == one_nan(want)
                 };
                 if !passes {
                     let where_ = match () {
-                        _ if part < INPUTS => "input ",
+                        _ if is_input(part) => "input ",
                         _ if place >= written => "untouched place ",
                         _ => "",
                     };

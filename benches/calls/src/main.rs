@@ -1,8 +1,10 @@
-//! The library's two calls beside the oracle's: compared, timed, and the stack that they take.
+//! The library's calls beside the oracle's: compared, timed, and the stack that they take.
 //!
 //! usage: calls-bench [time | stack | check SEED COUNT]
+mod altered;
 mod clock;
 mod compare;
+mod cuts;
 mod lent;
 mod library;
 mod stack;

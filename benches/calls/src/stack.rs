@@ -4,7 +4,8 @@ use oracle::case::Case;
 use oracle::gen::Cases;
 use oracle::time;
 
-use crate::lent::{Args, Lent};
+use crate::cuts::{self, Run};
+use crate::lent::{Args, Ask, Lent};
 use crate::library::{self, Call, CALLS};
 
 const SIZE: usize = 1 << 20;
@@ -51,11 +52,10 @@ unsafe fn call_on(top: *mut u8, which: &Call, args: &Args) {
     );
 }
 
-/// Bytes of stack that the call on a case takes, with its parameters and the frames that hand them over, here 700 to 800 bytes.
+/// Bytes of stack that a call takes, with its parameters and the frames that hand them over, here 700 to 800 bytes.
 #[cfg(any(target_arch = "x86_64", target_arch = "aarch64"))]
-fn depth(which: Call, case: &Case, room: &mut [u128]) -> usize {
+fn depth(which: Call, lent: &mut Lent, room: &mut [u128]) -> usize {
     let bytes = room.as_mut_ptr().cast::<u8>();
-    let mut lent = Lent::of(case, 0);
     let args = lent.args();
     unsafe {
         bytes.write_bytes(PAINT, SIZE);
@@ -65,15 +65,36 @@ fn depth(which: Call, case: &Case, room: &mut [u128]) -> usize {
     }
 }
 
+/// The deepest of a case's calls. As a stretch it is begun; and where its run starts, it goes on from the middle, as the last and not.
+#[cfg(any(target_arch = "x86_64", target_arch = "aarch64"))]
+fn deepest(which: Call, case: &Case, room: &mut [u128]) -> usize {
+    if which != Call::Stretch {
+        return depth(which, &mut Lent::of(case, 0), room);
+    }
+    let save = if case.m <= 8 { oracle::saved_len(case.m) } else { 0 };
+    let begun = Ask { begins: 1, room: save, ..Ask::default() };
+    let mut most = depth(which, &mut Lent::new(&case.inputs(), &case.lent, &begun, 0), room);
+    if let Ok(run) = Run::of(case) {
+        let half = case.n / 2;
+        let bytes = run.bytes(half);
+        for last in [0, 1] {
+            let ask = Ask { begins: 0, saved: &bytes, last, room: save };
+            let mut lent = Lent::new(&cuts::periods(case, half, case.n), &oracle::needed(case.p, case.m, case.n - half), &ask, 0);
+            most = most.max(depth(which, &mut lent, room));
+        }
+    }
+    most
+}
+
 /// The timed case of m = p = 8, and the deepest over fresh cases.
 #[cfg(any(target_arch = "x86_64", target_arch = "aarch64"))]
 pub fn print() {
     let mut room = vec![0u128; SIZE / 16];
     println!("Deepest stack of a call of the library, in bytes, with its parameters and the frame that hands them over");
     println!("{:>10} {:>12} {:>28}", "", "m = p = 8", "1,000 calls, every branch");
-    for which in CALLS {
-        let largest = depth(which, &time::case(8, 8, 16), &mut room);
-        let all = Cases::new(1).take(CASES).map(|(_, case)| depth(which, &case, &mut room)).max();
+    for which in CALLS.into_iter().chain([Call::Stretch]) {
+        let largest = deepest(which, &time::case(8, 8, 16), &mut room);
+        let all = Cases::new(1).take(CASES).map(|(_, case)| deepest(which, &case, &mut room)).max();
         println!("{:>10} {largest:>12} {:>28}", which.name(), all.unwrap_or(0));
     }
 }

@@ -49,10 +49,20 @@ pub struct Tally {
     pub wild_claims: Line,
     pub wild_bits: Line,
     pub wild_numbers: Line,
+    /// How the compared calls of stretches ended that are not of a cut run.
+    pub stretch_ended: [u64; 16],
+    pub cut_once: Line,
+    pub cut_each: Line,
+    pub cut_anywhere: Line,
+    pub altered: Line,
+    pub each_bit: Line,
+    pub stretch_refused: Line,
+    pub stretch_values: Line,
+    pub stretch_wild: Line,
 }
 
 impl Tally {
-    fn lines(&mut self) -> [(&'static str, &mut Line); 11] {
+    fn lines(&mut self) -> [(&'static str, &mut Line); 19] {
         [
             ("filter against the oracle", &mut self.filter),
             ("smoother against the oracle", &mut self.smooth),
@@ -65,6 +75,14 @@ impl Tally {
             ("wild calls: lengths claimed that nothing has", &mut self.wild_claims),
             ("wild calls: random bits in the inputs", &mut self.wild_bits),
             ("wild calls: random bits that are not refused at once", &mut self.wild_numbers),
+            ("stretches of runs cut once, at each period", &mut self.cut_once),
+            ("stretches of runs cut after every period", &mut self.cut_each),
+            ("stretches of runs cut anywhere, up to 4096 periods", &mut self.cut_anywhere),
+            ("stretches from saved bytes that were altered", &mut self.altered),
+            ("stretches from saved bytes, each bit flipped in turn", &mut self.each_bit),
+            ("stretches that refusals 1 to 11 are for, and 15 too", &mut self.stretch_refused),
+            ("demand 3 in a stretch", &mut self.stretch_values),
+            ("wild calls of a stretch", &mut self.stretch_wild),
         ]
     }
 
@@ -83,19 +101,30 @@ impl Tally {
             self.ended[k] += other.ended[k];
             self.wild_ended[k] += other.wild_ended[k];
         }
+        for (a, b) in self.stretch_ended.iter_mut().zip(other.stretch_ended) {
+            *a += b;
+        }
         for ((_, a), (_, b)) in self.lines().into_iter().zip(other.lines()) {
             a.add(std::mem::take(b));
         }
     }
 
+    /// How many stretches were compared, and how many of them from saved bytes that were altered.
+    pub fn stretches(&self) -> (u64, u64) {
+        let altered = self.altered.compared + self.each_bit.compared;
+        let cut = self.cut_once.compared + self.cut_each.compared + self.cut_anywhere.compared;
+        (cut + altered + self.stretch_refused.compared + self.stretch_values.compared + self.stretch_wild.compared, altered)
+    }
+
     /// Prints the table. How many comparisons were made, and how many differ.
     pub fn print(&mut self) -> (u64, u64) {
-        let ended = |e: &[u64; 13]| {
-            let refused: Vec<String> = (1..13).map(|k| format!("{k}: {}", e[k])).collect();
+        let ended = |e: &[u64]| {
+            let refused: Vec<String> = (1..e.len()).filter(|k| !matches!(k, 13 | 14)).map(|k| format!("{k}: {}", e[k])).collect();
             format!("{} answered; refused {}", e[0], refused.join(", "))
         };
         println!("calls on made cases: {}", ended(&self.ended));
         println!("wild calls: {}; empty parts null in {}", ended(&self.wild_ended), self.wild_nulls);
+        println!("stretches but those of cut runs: {}", ended(&self.stretch_ended));
         println!("{:<56} {:>10} {:>8}", "", "compared", "differ");
         let (mut compared, mut differ) = (0, 0);
         let mut first: Option<(u64, String)> = None;

@@ -1,14 +1,18 @@
-//! The time of both calls, the library's against the oracle's: the same inputs, in turns, the least of many counts.
+//! The time of both calls, the library's against the oracle's: the same inputs, in turns, the least of many counts. And of a run in stretches against
+//! the library's own filter.
 
 use std::hint::black_box;
 use std::time::Instant;
 
+use oracle::rng::Rng;
 use oracle::time;
 
 use crate::clock;
 use crate::compare;
-use crate::lent::Lent;
-use crate::library::{Call, CALLS};
+use crate::cuts::{self, Run};
+use crate::lent::{Ask, Lent, D_DIFFUSE, HEARD, LOGLIK, NEWS, Y};
+use crate::library::{self, Call, CALLS};
+use crate::tally::Line;
 
 /// The periods over which the growth is shown.
 const GROWTH: [usize; 4] = [64, 256, 1024, 4096];
@@ -38,6 +42,82 @@ fn periods(which: Call, m: usize, p: usize, n: usize) -> (f64, f64) {
     (library / n as f64, oracle / n as f64)
 }
 
+/// A run of one stretch after the other, each of `each` periods, from the bytes that the one before saved.
+struct Chain {
+    lent: Lent,
+    y: Vec<f64>,
+    /// Of exactly their length: one is read, the other written, in turns.
+    saved: [Vec<u8>; 2],
+    stretches: usize,
+    width: usize,
+}
+
+impl Chain {
+    fn of(m: usize, p: usize, n: usize, each: usize) -> Self {
+        let case = time::case(m, p, n);
+        let need = oracle::saved_len(m);
+        let lent = Lent::new(&cuts::periods(&case, 0, each), &oracle::needed(p, m, each), &Ask::default(), 0);
+        Chain { lent, y: case.y, saved: [vec![0; need], vec![0; need]], stretches: n / each, width: each * p }
+    }
+
+    /// All stretches: 0, or the first refusal.
+    fn run(&mut self) -> u32 {
+        let mut args = self.lent.args();
+        for k in 0..self.stretches {
+            // The call reads them.
+            args.inputs[Y].0 = self.y[k * self.width..].as_ptr().cast_mut().cast();
+            (args.begins, args.last) = (u8::from(k == 0), u8::from(k + 1 == self.stretches));
+            let [a, b] = &mut self.saved;
+            let (from, to) = if k % 2 == 0 { (a, b) } else { (b, a) };
+            args.saved = if k == 0 { (std::ptr::null_mut(), 0) } else { (from.as_mut_ptr(), from.len()) };
+            args.save = (to.as_mut_ptr(), to.len());
+            let refusal = unsafe { library::call(Call::Stretch, &args) };
+            if refusal != 0 {
+                return refusal;
+            }
+        }
+        0
+    }
+}
+
+/// Nanoseconds a period: the filter's call, one stretch of all periods, and as many stretches as periods.
+fn cut_up(m: usize, p: usize, n: usize) -> [f64; 3] {
+    let mut lent = Lent::of(&time::case(m, p, n), 0);
+    let (mut one, mut many) = (Chain::of(m, p, n, n), Chain::of(m, p, n, 1));
+    let mut least = [f64::MAX; 3];
+    let whole = Instant::now();
+    let mut turns = 0;
+    while turns < LEAST_TURNS || whole.elapsed().as_millis() < LEAST_MILLISECONDS {
+        let took = [once(|| black_box(&mut lent).library(Call::Filter)), once(|| black_box(&mut one).run()), once(|| black_box(&mut many).run())];
+        least = std::array::from_fn(|k| least[k].min(took[k]));
+        turns += 1;
+    }
+    least.map(|x| x / n as f64)
+}
+
+/// Compares the stretches that are timed with the oracle's run that is not cut. How many, and how many differ.
+fn check_stretches() -> (u64, u64) {
+    let mut line = Line::default();
+    for (m, p) in time::SIZES {
+        let case = time::case(m, p, time::PERIODS);
+        let run = Run::of(&case).expect("a timed run starts");
+        let every: Vec<usize> = (1..time::PERIODS).collect();
+        for cuts in [&[][..], &every] {
+            run.chain(&mut Rng::new(0), cuts, &format!("stretches, m = {m}, p = {p}"), &mut line);
+        }
+        for each in [time::PERIODS, 1] {
+            let mut chain = Chain::of(m, p, time::PERIODS, each);
+            let refusal = chain.run();
+            let told = [LOGLIK, D_DIFFUSE, HEARD, NEWS].map(|part| chain.lent.word(part, 0));
+            let end = &run.states[time::PERIODS];
+            let wanted = [end.loglik.to_bits(), end.d_diffuse as u64, end.heard as u64, end.news as u64];
+            let difference = (refusal != 0 || told != wanted).then(|| format!("refusal {refusal}, answer {told:x?}, wanted 0, {wanted:x?}"));
+            line.count(&format!("stretches of {each}, m = {m}, p = {p}"), difference);
+        }
+    }
+    (line.compared, line.differ)
+}
+
 /// Compares the timed calls with the oracle's, at every size and length that is timed. Whether all agree.
 pub fn check() -> bool {
     let (mut calls, mut differ) = (0, 0);
@@ -52,6 +132,8 @@ pub fn check() -> bool {
             }
         }
     }
+    let (stretches, other) = check_stretches();
+    (calls, differ) = (calls + stretches, differ + other);
     println!("The timed calls answer and write what the oracle's do, bit for bit: {calls} calls, {differ} differ");
     differ == 0
 }
@@ -73,6 +155,15 @@ pub fn print() {
             })
             .collect();
         println!("{m:>2} {p:>2}  {}", row.join("   "));
+    }
+    println!();
+    println!("A run of n = {} in stretches, the library's nanoseconds a period; ratio: to the filter's call", time::PERIODS);
+    println!("       {:^9}   {:^19}   {:^19}", "filter", "one stretch", "a stretch a period");
+    let head = format!("{:>9} {:>9}", "library", "ratio");
+    println!("{:>2} {:>2}  {:>9}   {head}   {head}", "m", "p", "library");
+    for (m, p) in time::SIZES {
+        let [filter, one, many] = cut_up(m, p, time::PERIODS);
+        println!("{m:>2} {p:>2}  {filter:>9.0}   {one:>9.0} {:>9.2}   {many:>9.0} {:>9.2}", one / filter, many / filter);
     }
     for which in CALLS {
         println!();

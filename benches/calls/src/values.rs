@@ -4,7 +4,9 @@
 use oracle::case::Case;
 use oracle::rng::Rng;
 
-use crate::lent::{Lent, FILT_MEAN, HEARD, KINDS, LOGLIK, NEWS, PRED_MEAN, SM_MEAN, V, Y};
+use crate::altered::{float, number, some_periods, LIKELIHOOD, MEAN, TALLIES};
+use crate::cuts::{self, set};
+use crate::lent::{Ask, Lent, FILT_MEAN, HEARD, KINDS, LOGLIK, NEWS, PRED_MEAN, SAVE, SAVED, SM_MEAN, V, Y};
 use crate::library::{Call, CALLS};
 use crate::tally::Tally;
 
@@ -98,4 +100,65 @@ pub fn try_case(rng: &mut Rng, case: &Case, name: &str, tally: &mut Tally) {
             no_news(rng, &before, case, k, fill, tally, &name);
         }
     }
+}
+
+/// The same in a stretch that goes on from saved bytes. Their mean and likelihood may differ too; then those that are saved may.
+pub fn try_stretch(rng: &mut Rng, run: &cuts::Run<'_>, name: &str, tally: &mut Tally) {
+    let Case { p, m, n, .. } = *run.case;
+    let (from, to) = some_periods(rng, n);
+    let bytes = run.bytes(rng.within(0, n));
+    let last = if rng.chance(1, 4) { set(rng) } else { 0 };
+    let saves = last == 0;
+    let (lent, fill) = (cuts::room(rng, p, m, to - from), rng.word());
+    let call = |y: &[f64], saved: &[u8]| {
+        let mut i = cuts::periods(run.case, from, to);
+        i.y = y;
+        let mut lent = Lent::new(&i, &lent, &Ask { begins: 0, saved, last, room: oracle::saved_len(m) }, fill);
+        let refusal = lent.library(Call::Stretch);
+        Run { which: Call::Stretch, refusal, lent }
+    };
+    let y = &run.case.y[from * p..to * p];
+    let mut before = call(y, &bytes);
+    let written = saves && before.refusal == 0;
+
+    let mut changed = y.to_vec();
+    changed.iter_mut().filter(|y| y.is_finite()).for_each(|y| *y = other(rng, *y));
+    let mut saved = bytes.clone();
+    let means: Vec<_> = (0..m).map(|k| number(m, MEAN, k)).chain([number(m, LIKELIHOOD, 0)]).collect();
+    for place in &means {
+        saved[place.clone()].copy_from_slice(&float(rng).to_bits().to_be_bytes());
+    }
+    let mut after = call(&changed, &saved);
+    for place in means.iter().filter(|_| written && after.refusal == 0) {
+        let own = before.lent.bytes_mut(SAVE)[place.clone()].to_vec();
+        after.lent.bytes_mut(SAVE)[place.clone()].copy_from_slice(&own);
+    }
+    let free: &[usize] = if before.refusal == 0 { &[Y, SAVED, PRED_MEAN, FILT_MEAN, V, LOGLIK] } else { &[Y, SAVED] };
+    let name = format!("demand 3, {name}, a stretch of periods {from} to {to}");
+    tally.stretch_values.count(&format!("{name}, other values"), moved(&before, &after, free));
+
+    let silent: Vec<usize> = (0..y.len()).filter(|&k| y[k].is_finite() && before.lent.word(KINDS, k) == 0).collect();
+    if before.refusal != 0 || silent.is_empty() {
+        return;
+    }
+    let k = rng.pick(&silent);
+    let mut changed = y.to_vec();
+    changed[k] = other(rng, y[k]);
+    let after = call(&changed, &bytes);
+    tally.stretch_values.count(&format!("{name}, another number for reading {k}"), moved(&before, &after, &[Y]));
+
+    changed[k] = rng.gap();
+    let mut after = call(&changed, &bytes);
+    let heard = |run: &Run| run.lent.word(HEARD, 0);
+    let less = (heard(&after).wrapping_add(1) != heard(&before)).then(|| format!("heard is {}, before the gap {}", heard(&after), heard(&before)));
+    if written && after.refusal == 0 {
+        // What is saved tells as many heard as the answer.
+        let told = heard(&before).to_be_bytes();
+        let place = number(m, TALLIES, 1);
+        let own = u64::from_be_bytes(after.lent.bytes_mut(SAVE)[place.clone()].try_into().expect("eight bytes"));
+        if own == heard(&after) {
+            after.lent.bytes_mut(SAVE)[place].copy_from_slice(&told);
+        }
+    }
+    tally.stretch_values.count(&format!("{name}, a gap for reading {k}"), moved(&before, &after, &[Y, HEARD]).or(less));
 }

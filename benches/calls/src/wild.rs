@@ -4,18 +4,21 @@
 use oracle::case::Case;
 use oracle::rng::Rng;
 
-use crate::lent::{Args, Lent};
+use crate::altered::made_up;
+use crate::cuts::set;
+use crate::lent::{Args, Ask, Lent, SAVE, SAVED};
 use crate::library::{self, Call, CALLS};
 use crate::tally::Tally;
 
 /// Sizes and lengths outside every range. Eight times some of them is 0, or a small number, in 64 bits.
 const HUGE: [usize; 7] = [usize::MAX, usize::MAX - 1, usize::MAX / 8, 1 << 63, 1 << 61, (1 << 61) + 1, 1 << 32];
 
-/// Refusals 1 and 2, reckoned anew from document 01's table, in numbers that can't overflow. No part of the oracle.
+/// Refusals 1 and 2, reckoned anew from the documents, in numbers that can't overflow. No part of the oracle.
 fn first_two(which: Call, a: &Args) -> Option<u32> {
     let [p, m, r, n] = a.sizes.map(|x| x as u128);
     let small = |x: u128| (1..=8).contains(&x);
-    if !(small(p) && small(m) && small(r) && (1..=4096).contains(&n)) {
+    let least_n = u128::from(which != Call::Stretch);
+    if !(small(p) && small(m) && small(r) && (least_n..=4096).contains(&n)) {
         return Some(1);
     }
     let input = |k: usize| a.inputs[k].1 as u128;
@@ -32,29 +35,37 @@ fn first_two(which: Call, a: &Args) -> Option<u32> {
         n * m, n * m * m,
     ];
     let outputs = (0..which.outputs()).all(|k| output(k) >= least[k]);
-    if (constant || listed) && inputs && outputs {
+    let saves = which != Call::Stretch || a.last != 0 || a.save.1 as u128 >= 104 + 8 * m + 32 * m * m;
+    if (constant || listed) && inputs && outputs && saves {
         None
     } else {
         Some(2)
     }
 }
 
-/// What is claimed of a part's length besides: the part, inputs first, and the claim.
+/// What is claimed of a part's length besides: the part, by its number in `lent`, and the claim.
 type Claims = Vec<(usize, usize)>;
 
 /// One wild call. How it must end, and the first difference.
-fn one_call(which: Call, case: &Case, claims: &Claims, nulls: bool, fill: u64) -> (u32, Option<String>) {
-    let mut found = Lent::of(case, fill);
+fn one_call(which: Call, case: &Case, ask: &Ask<'_>, claims: &Claims, nulls: bool, fill: u64) -> (u32, Option<String>) {
+    let mut found = Lent::new(&case.inputs(), &case.lent, ask, fill);
     let mut wanted = found.clone();
     let mut args = found.args();
     for &(part, claim) in claims {
         match part {
             0..12 => args.inputs[part].1 = claim,
+            SAVED => args.saved.1 = claim,
+            SAVE => args.save.1 = claim,
             _ => args.outputs[part - 12].1 = claim,
         }
     }
     if nulls {
         for (pointer, len) in args.inputs.iter_mut().chain(&mut args.outputs) {
+            if *len == 0 {
+                *pointer = std::ptr::null_mut();
+            }
+        }
+        for (pointer, len) in [&mut args.saved, &mut args.save] {
             if *len == 0 {
                 *pointer = std::ptr::null_mut();
             }
@@ -65,11 +76,14 @@ fn one_call(which: Call, case: &Case, claims: &Claims, nulls: bool, fill: u64) -
     // No slice has such a length, so the oracle can't be asked.
     let want = if claims_inputs {
         reckoned.expect("no input can have a length that is claimed here")
+    } else if claims.iter().any(|(part, _)| *part == SAVED) {
+        // Of a wrong length too, whichever way the run starts.
+        wanted.oracle_from(which, Some(&[0]))
     } else {
         wanted.oracle(which)
     };
     if matches!((reckoned, want), (Some(k), w) if k != w) || (reckoned.is_none() && matches!(want, 1 | 2)) {
-        return (want, Some(format!("THE ORACLE gives {want}, and document 01's table {reckoned:?}")));
+        return (want, Some(format!("THE ORACLE gives {want}, and the documents' table {reckoned:?}")));
     }
     let outcome = unsafe { library::call(which, &args) };
     if outcome != want {
@@ -189,10 +203,10 @@ fn lengths(rng: &mut Rng, case: &mut Case) {
 
 /// Lengths claimed that nothing has. An input is refused by its length, unread. An output may be longer than needed; so no place past the needed
 /// stretch is touched, and what is there in truth is enough.
-fn claims(rng: &mut Rng, case: &Case) -> Claims {
+fn claims(rng: &mut Rng, case: &Case, least_n: usize) -> Claims {
     let lent = Lent::of(case, 0).args();
     let enough = |k: usize| {
-        let sized = matches!((case.p, case.m, case.n), (1..=8, 1..=8, 1..=4096));
+        let sized = matches!((case.p, case.m), (1..=8, 1..=8)) && (least_n..=4096).contains(&case.n);
         !sized || lent.outputs[k].1 >= oracle::needed(case.p, case.m, case.n)[k]
     };
     let outputs_alone = rng.chance(1, 2);
@@ -276,10 +290,40 @@ fn random_numbers(rng: &mut Rng) -> Case {
     case
 }
 
-/// One wild case after the made case `case`, through both calls.
-pub fn try_case(rng: &mut Rng, mut case: Case, name: &str, tally: &mut Tally) {
+/// The wild case as a stretch: begun or going on, from bytes that are sound or not, with room to save in or not.
+fn try_stretch(rng: &mut Rng, case: &Case, claimed: bool, name: &str, tally: &mut Tally) {
+    let sized = [case.p, case.m, case.r].iter().all(|k| (1..=8).contains(k)) && case.n <= 4096;
+    let need = if sized { oracle::saved_len(case.m) } else { rng.below(300) };
+    let mut bytes = if sized { made_up(rng, case.p, case.m, case.r, case.n) } else { vec![7; need] };
+    match rng.below(12) {
+        0 => bytes.truncate(rng.below(bytes.len() + 1)),
+        1 => bytes.iter_mut().for_each(|b| *b = rng.word() as u8),
+        2..=5 => bytes.clear(),
+        _ => {}
+    }
+    let ask = Ask {
+        begins: if bytes.is_empty() != rng.chance(1, 16) { set(rng) } else { 0 },
+        saved: &bytes,
+        last: if rng.chance(1, 3) { set(rng) } else { 0 },
+        room: if rng.chance(1, 8) { rng.below(need + 1) } else { need + rng.below(9) },
+    };
+    let mut claims = if claimed { claims(rng, case, 0) } else { Claims::new() };
+    if claimed && rng.chance(1, 2) {
+        claims.push((SAVED, rng.pick(&HUGE)));
+    }
+    if claimed && rng.chance(1, 2) && (!sized || ask.last != 0 || ask.room >= need) {
+        claims.push((SAVE, rng.pick(&HUGE)));
+    }
+    let (outcome, difference) = one_call(Call::Stretch, case, &ask, &claims, rng.chance(1, 2), rng.word());
+    tally.stretch_ended[outcome as usize] += 1;
+    tally.stretch_wild.count(name, difference);
+}
+
+/// One wild case after the made case `case`, through both calls, and as a stretch.
+pub fn try_case(rng: &mut Rng, stretch_rng: &mut Rng, mut case: Case, name: &str, tally: &mut Tally) {
     let mut claimed = Claims::new();
-    let (kind, line) = match rng.below(5) {
+    let scene = rng.below(5);
+    let (kind, line) = match scene {
         0 => {
             sizes(rng, &mut case);
             ("sizes", &mut tally.wild_sizes)
@@ -289,7 +333,7 @@ pub fn try_case(rng: &mut Rng, mut case: Case, name: &str, tally: &mut Tally) {
             ("lengths", &mut tally.wild_lengths)
         }
         2 => {
-            claimed = claims(rng, &case);
+            claimed = claims(rng, &case, 1);
             ("claimed lengths", &mut tally.wild_claims)
         }
         3 => {
@@ -304,9 +348,10 @@ pub fn try_case(rng: &mut Rng, mut case: Case, name: &str, tally: &mut Tally) {
     let nulls = rng.chance(1, 2);
     let fill = rng.word();
     for which in CALLS {
-        let (outcome, difference) = one_call(which, &case, &claimed, nulls, fill);
+        let (outcome, difference) = one_call(which, &case, &Ask::default(), &claimed, nulls, fill);
         tally.wild_ended[outcome as usize] += 1;
         tally.wild_nulls += u64::from(nulls);
         line.count(&format!("wild call ({kind}) after {name}, {}", which.name()), difference);
     }
+    try_stretch(stretch_rng, &case, scene == 2, &format!("wild call ({kind}) after {name}, stretch"), tally);
 }

@@ -1,12 +1,14 @@
 //! The parts of a call: what is lent, what is answered, the sizes and
-//! lengths, and refusals 1 to 10 of document 01.
+//! lengths, refusals 1 to 10 of document 01, and a saved run's bytes.
 
 mod refusals;
+mod saved;
 
 pub use refusals::{
     bad_dimension, bad_length, bad_start_shape, first_refusal, infinite_reading, mixed_driven,
-    non_diagonal_h, non_finite_start, non_finite_system, not_psd, q_not_diagonal,
+    non_diagonal_h, non_finite_start, non_finite_system, not_psd, q_not_diagonal, stretch_refusal,
 };
+pub use saved::{decode, encode, saved_len, section_counts, Carried, SAVED_NAN};
 
 /// Largest p, m and r.
 pub const MAX_SIZE: usize = 8;
@@ -60,6 +62,17 @@ pub struct Smoothed<'a> {
     pub sm_cov: &'a mut [f64],
 }
 
+/// What a stretch's caller hands in besides (document 02, request e).
+#[derive(Debug, Clone, Copy)]
+pub struct Stretch<'a> {
+    /// Whether the run begins here: any byte but 0. Then nothing is saved.
+    pub begins: u8,
+    /// The bytes that the stretch before saved.
+    pub saved: &'a [u8],
+    /// Whether this is the last stretch: any byte but 0.
+    pub last: u8,
+}
+
 /// The answer of a call that is not refused.
 #[derive(Debug, Clone, Copy)]
 pub struct Answer {
@@ -71,7 +84,7 @@ pub struct Answer {
     pub news: usize,
 }
 
-/// An answer, or the number of a refusal, 1 to 12.
+/// An answer, or the number of a refusal: 1 to 12, and 15 of a stretch.
 pub type Outcome = Result<Answer, u32>;
 
 /// Count of a filter's output parts.

@@ -2,15 +2,16 @@
 //! that applies. Refusal 11 needs R·Q·R' and stands with the call; 12 is
 //! judged after the run.
 
-use crate::{needed, Inputs, MAX_PERIODS, MAX_SIZE};
+use crate::{needed, saved_len, Inputs, MAX_PERIODS, MAX_SIZE};
+
+fn some_size_outside(i: &Inputs<'_>) -> bool {
+    let size = 1..=MAX_SIZE;
+    !(size.contains(&i.p) && size.contains(&i.m) && size.contains(&i.r))
+}
 
 /// 1: p, m, r or n outside its range.
 pub fn bad_dimension(i: &Inputs<'_>) -> bool {
-    let size = 1..=MAX_SIZE;
-    !(size.contains(&i.p)
-        && size.contains(&i.m)
-        && size.contains(&i.r)
-        && (1..=MAX_PERIODS).contains(&i.n))
+    some_size_outside(i) || !(1..=MAX_PERIODS).contains(&i.n)
 }
 
 /// 2: a lent part has the wrong length, or the Z rule is broken. `lent` are
@@ -108,6 +109,23 @@ pub fn first_refusal(i: &Inputs<'_>, lent: &[usize]) -> Option<u32> {
     if bad_length(i, lent) {
         return Some(2);
     }
+    after_lengths(i)
+}
+
+/// The first of refusals 1 to 10 that applies to a stretch: it may hold no
+/// period, and unless it is the last it needs room to save in.
+pub fn stretch_refusal(i: &Inputs<'_>, lent: &[usize], last: bool, save: usize) -> Option<u32> {
+    if some_size_outside(i) || i.n > MAX_PERIODS {
+        return Some(1);
+    }
+    if bad_length(i, lent) || (!last && save < saved_len(i.m)) {
+        return Some(2);
+    }
+    after_lengths(i)
+}
+
+/// The first of refusals 3 to 10 that applies.
+fn after_lengths(i: &Inputs<'_>) -> Option<u32> {
     let rest: [fn(&Inputs<'_>) -> bool; 8] = [
         non_finite_system,
         not_psd,

@@ -1,11 +1,16 @@
 //! The whole call of document 01: refusals in order, the run, the outputs
-//! row by row into their lent parts, the answer.
+//! row by row into their lent parts, the answer. And a stretch's, document
+//! 02's request e.
 
-use parts::{first_refusal, Answer, Inputs, Outcome, Outputs, Smoothed};
+use parts::{
+    decode, encode, first_refusal, stretch_refusal, Answer, Carried, Inputs, Outcome, Outputs,
+    Smoothed, Stretch,
+};
 use tsecon_linalg::faer::Mat;
 
+use crate::between::Between;
 use crate::error::SsmError;
-use crate::filter::{filter_univariate, FilterOutput};
+use crate::filter::{filter_stretch, filter_univariate, FilterOutput};
 use crate::model::{Initialization, LinearGaussianSSM};
 use crate::smoother::{smooth_univariate, SmootherOutput};
 
@@ -52,9 +57,9 @@ pub fn readings_of(i: &Inputs<'_>) -> Mat<f64> {
     from_rows(i.n, i.p, i.y)
 }
 
-/// Refusals 1 to 11 in order, then the model.
-fn checked(i: &Inputs<'_>, lent: &[usize]) -> Result<LinearGaussianSSM, u32> {
-    if let Some(k) = first_refusal(i, lent) {
+/// Refusals 1 to 11 in order, the first ten judged already, then the model.
+fn checked(i: &Inputs<'_>, refusal: Option<u32>) -> Result<LinearGaussianSSM, u32> {
+    if let Some(k) = refusal {
         return Err(k);
     }
     let model = model_of(i).expect("refusals 1 to 10 leave nothing for `build` to refuse");
@@ -121,7 +126,7 @@ fn answer(i: &Inputs<'_>, fo: &FilterOutput) -> Answer {
 
 /// The filter's call.
 pub fn filter_call(i: &Inputs<'_>, o: &mut Outputs<'_>) -> Outcome {
-    let model = checked(i, &o.lengths())?;
+    let model = checked(i, first_refusal(i, &o.lengths()))?;
     match filter_univariate(&model, readings_of(i).as_ref()) {
         Ok(fo) => {
             put_filter(i, &fo, o);
@@ -140,7 +145,7 @@ pub fn smooth_call(i: &Inputs<'_>, o: &mut Outputs<'_>, s: &mut Smoothed<'_>) ->
     let mut lent = [0; parts::SMOOTH_PARTS];
     lent[..parts::FILTER_PARTS].copy_from_slice(&o.lengths());
     lent[parts::FILTER_PARTS..].copy_from_slice(&s.lengths());
-    let model = checked(i, &lent)?;
+    let model = checked(i, first_refusal(i, &lent))?;
     match smooth_univariate(&model, readings_of(i).as_ref()) {
         Ok(so) => {
             put_filter(i, &so.filter, o);
@@ -153,5 +158,51 @@ pub fn smooth_call(i: &Inputs<'_>, o: &mut Outputs<'_>, s: &mut Smoothed<'_>) ->
             Err(12)
         }
         Err(e) => panic!("refusals 1 to 11 leave only 12 to a run: {e:?}"),
+    }
+}
+
+/// Refusal 15, or the run to go on with: none where it begins here.
+fn loaded(i: &Inputs<'_>, s: &Stretch<'_>) -> Result<Option<Carried>, u32> {
+    if s.begins == 0 {
+        return decode(i.p, i.m, i.r, i.n, s.saved).map(Some).ok_or(15);
+    }
+    if s.saved.is_empty() {
+        Ok(None)
+    } else {
+        Err(15)
+    }
+}
+
+/// The call of a stretch. The answer counts since the run began.
+pub fn stretch_call(
+    i: &Inputs<'_>,
+    s: &Stretch<'_>,
+    o: &mut Outputs<'_>,
+    save: &mut [u8],
+) -> Outcome {
+    let last = s.last != 0;
+    let model = checked(i, stretch_refusal(i, &o.lengths(), last, save.len()))?;
+    let from = loaded(i, s)?;
+    let done = from.as_ref().map_or(0, |c| c.done);
+    let from = from.as_ref().map(Between::loaded);
+    match filter_stretch(&model, readings_of(i).as_ref(), done, from, last) {
+        Ok((fo, left)) => {
+            put_filter(i, &fo, o);
+            if !last {
+                let bytes = encode(i.p, i.m, i.r, &left.carried(done + i.n));
+                save[..bytes.len()].copy_from_slice(&bytes);
+            }
+            Ok(Answer {
+                loglik: left.loglik,
+                d_diffuse: left.d_diffuse,
+                heard: left.n_observed,
+                news: left.n_informative,
+            })
+        }
+        Err(SsmError::NoInformation) => {
+            o.blank(i.p, i.m, i.n);
+            Err(12)
+        }
+        Err(e) => panic!("refusals 1 to 15 leave only 12 to a stretch: {e:?}"),
     }
 }

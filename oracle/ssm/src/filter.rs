@@ -87,6 +87,7 @@
 use tsecon_linalg::faer::{Mat, MatRef};
 use tsecon_linalg::{ln, max0};
 
+use crate::between::Between;
 use crate::dense::{
     abs_quad_form, axpy, dot, frob_sq, mat_t_vec, mat_vec, outer_sub, row_to_vec, sandwich,
     symmetrize_in_place,
@@ -402,7 +403,7 @@ pub struct FilterOutput {
     pub(crate) steps: Vec<ObsStep>,
 }
 
-/// Validates the observation matrix: `n x p` shape with `n >= 1`, entries
+/// Validates the observation matrix: `n x p` shape, entries
 /// finite or NaN (NaN encodes "missing"; infinities are rejected).
 fn validate_observations(model: &LinearGaussianSSM, y: MatRef<'_, f64>) -> Result<(), SsmError> {
     if y.ncols() != model.obs_dim() {
@@ -410,11 +411,6 @@ fn validate_observations(model: &LinearGaussianSSM, y: MatRef<'_, f64>) -> Resul
             what: "observations y must be n x p (one column per observation element)",
             expected: model.obs_dim(),
             got: y.ncols(),
-        });
-    }
-    if y.nrows() == 0 {
-        return Err(SsmError::InvalidArgument {
-            what: "observations y must contain at least one time period",
         });
     }
     for j in 0..y.ncols() {
@@ -595,6 +591,19 @@ pub fn filter_univariate(
     model: &LinearGaussianSSM,
     y: MatRef<'_, f64>,
 ) -> Result<FilterOutput, SsmError> {
+    filter_stretch(model, y, 0, None, true).map(|(out, _)| out)
+}
+
+/// [`filter_univariate`] over some periods of a run, the first of them
+/// `first`: from the start, or from what the periods before left. Also what
+/// these leave. An empty sample is an error only in the last stretch.
+pub fn filter_stretch(
+    model: &LinearGaussianSSM,
+    y: MatRef<'_, f64>,
+    first: usize,
+    from: Option<Between>,
+    last: bool,
+) -> Result<(FilterOutput, Between), SsmError> {
     if !model.h_is_diagonal() {
         return Err(SsmError::NonDiagonalH);
     }
@@ -636,10 +645,35 @@ pub fn filter_univariate(
     let mut n_observed = 0usize;
     let mut n_informative = 0usize;
 
+    if let Some(s) = from {
+        (a, p_star, p_inf) = (s.a, s.p_star, s.p_inf);
+        (p_inf_root, p_inf_unres) = (s.p_inf_root, s.p_inf_unres);
+        in_diffuse = s.in_diffuse;
+        (out.loglik, out.d_diffuse) = (s.loglik, s.d_diffuse);
+        (n_observed, n_informative) = (s.n_observed, s.n_informative);
+        // Zeros for good: a period that is not diffuse has no P_inf. No run
+        // leaves another one, but saved bytes can hold it.
+        if !in_diffuse && n > 0 {
+            p_inf = Mat::zeros(p_inf.nrows(), p_inf.ncols());
+        }
+    }
+
     for t in 0..n {
-        let z = model.z().at(t);
-        let h = model.h().at(t);
-        let tr = model.t().at(t);
+        probe::between(|| Between {
+            a: a.clone(),
+            p_star: p_star.clone(),
+            p_inf: p_inf.clone(),
+            p_inf_root: p_inf_root.clone(),
+            p_inf_unres: p_inf_unres.clone(),
+            in_diffuse,
+            loglik: out.loglik,
+            d_diffuse: out.d_diffuse,
+            n_observed,
+            n_informative,
+        });
+        let z = model.z().at(first + t);
+        let h = model.h().at(first + t);
+        let tr = model.t().at(first + t);
 
         // Absolute, on purpose: P_inf is a dimensionless rank indicator,
         // not a variance (see TOLERANCE_RANK).
@@ -893,7 +927,7 @@ pub fn filter_univariate(
         let mut a_next = mat_vec(tr, &a);
         axpy(&mut a_next, 1.0, model.state_intercept());
         a = a_next;
-        let rqr = model.rqr(t)?;
+        let rqr = model.rqr(first + t)?;
         let mut ps_next = sandwich(tr, p_star.as_ref());
         ps_next += &rqr;
         p_star = ps_next;
@@ -914,14 +948,27 @@ pub fn filter_univariate(
     // sum* — and reporting that as a success is a silent wrong answer.
     // (An all-missing `y` is not this case: it is an explicit, documented
     // request to run the recursions with nothing to condition on.)
-    if n_observed > 0 && n_informative == 0 {
+    if last && n_observed > 0 && n_informative == 0 {
         return Err(SsmError::NoInformation);
     }
 
+    let left = Between {
+        a: a.clone(),
+        p_star: p_star.clone(),
+        p_inf: p_inf.clone(),
+        p_inf_root,
+        p_inf_unres,
+        in_diffuse,
+        loglik: out.loglik,
+        d_diffuse: out.d_diffuse,
+        n_observed,
+        n_informative,
+    };
+    probe::between(|| left.clone());
     out.predicted_state.push(a);
     out.predicted_state_cov.push(p_star);
     out.predicted_diffuse_state_cov.push(p_inf);
-    Ok(out)
+    Ok((out, left))
 }
 
 impl LinearGaussianSSM {

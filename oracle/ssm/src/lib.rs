@@ -7,6 +7,7 @@
 
 mod dense;
 
+pub mod between;
 pub mod call;
 pub mod error;
 pub mod filter;
@@ -14,4 +15,4 @@ pub mod model;
 pub mod probe;
 pub mod smoother;
 
-pub use call::{filter_call, smooth_call};
+pub use call::{filter_call, smooth_call, stretch_call};

@@ -1,5 +1,6 @@
-//! Counting of the branches a run takes. With the feature `probe` off, every
-//! call here is nothing, and its closure is never run.
+//! Counting of the branches a run takes, and keeping of what stands between
+//! its periods. With the feature `probe` off, every call here is nothing, and
+//! its closure is never run.
 
 /// A branch inside a run.
 #[derive(Debug, Clone, Copy, PartialEq, Eq)]
@@ -53,10 +54,29 @@ pub const BRANCHES: usize = 20;
 #[cfg(feature = "probe")]
 mod counting {
     use super::{Branch, BRANCHES};
+    use crate::between::Between;
     use std::cell::RefCell;
 
     thread_local! {
         static HITS: RefCell<[u64; BRANCHES]> = const { RefCell::new([0; BRANCHES]) };
+        static KEPT: RefCell<Option<Vec<Between>>> = const { RefCell::new(None) };
+    }
+
+    /// Keeps what stands before a period, if it was asked for.
+    pub fn between(what: impl FnOnce() -> Between) {
+        KEPT.with(|k| {
+            if let Some(list) = k.borrow_mut().as_mut() {
+                list.push(what());
+            }
+        });
+    }
+
+    /// What stood before each period of the runs that `f` makes on this
+    /// thread, and its result.
+    pub fn keeping<R>(f: impl FnOnce() -> R) -> (Vec<Between>, R) {
+        KEPT.with(|k| *k.borrow_mut() = Some(Vec::new()));
+        let result = f();
+        (KEPT.with(|k| k.take()).unwrap_or_default(), result)
     }
 
     /// Counts one.
@@ -80,6 +100,7 @@ mod counting {
 #[cfg(not(feature = "probe"))]
 mod counting {
     use super::{Branch, BRANCHES};
+    use crate::between::Between;
 
     #[inline(always)]
     pub fn hit(_: Branch) {}
@@ -90,9 +111,16 @@ mod counting {
     pub fn take() -> [u64; BRANCHES] {
         [0; BRANCHES]
     }
+
+    #[inline(always)]
+    pub fn between(_: impl FnOnce() -> Between) {}
+
+    pub fn keeping<R>(f: impl FnOnce() -> R) -> (Vec<Between>, R) {
+        (Vec::new(), f())
+    }
 }
 
-pub use counting::{hit, hit_if, take};
+pub use counting::{between, hit, hit_if, keeping, take};
 
 /// Counts one of two, and hands the verdict on.
 #[inline(always)]

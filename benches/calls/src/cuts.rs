@@ -1,0 +1,172 @@
+//! Runs cut into stretches: every stretch of the library, from the bytes that the one before saved, against the oracle's run that is not cut. The
+//! saved bytes are held to the encoder of the oracle, over the state that its own loop had at that period.
+
+use oracle::case::Case;
+use oracle::rng::Rng;
+use oracle::uncut::uncut;
+use oracle::{encode, needed, saved_len, Carried, Inputs};
+
+use crate::lent::{Ask, Lent, D_DIFFUSE, HEARD, LOGLIK, NEWS, PRED_MEAN, SAVE};
+use crate::library::Call;
+use crate::tally::{Line, Tally};
+
+/// How many words the stretches of one long run may be lent in all: a list of designs is lent to each.
+const LONG_WORDS: usize = 4_000_000;
+
+/// A case whose run starts, and the oracle's run.
+pub struct Run<'a> {
+    pub case: &'a Case,
+    /// How the filter's call ends: 0, or 12.
+    pub ended: u32,
+    written: [Vec<u64>; 11],
+    /// After 0 to n periods.
+    pub states: Vec<Carried>,
+}
+
+/// A marker that is set: any byte but 0.
+pub fn set(rng: &mut Rng) -> u8 {
+    if rng.chance(1, 2) {
+        1
+    } else {
+        rng.within(1, 255) as u8
+    }
+}
+
+/// Room for the eleven outputs of a stretch, now and then more than is needed.
+pub fn room(rng: &mut Rng, p: usize, m: usize, n: usize) -> [usize; 13] {
+    let mut lent = needed(p, m, n).map(|len| len + rng.below(3));
+    lent[11..].fill(0);
+    lent
+}
+
+/// The inputs of a case's periods `from` up to `to`.
+pub fn periods(case: &Case, from: usize, to: usize) -> Inputs<'_> {
+    let mut i = case.inputs();
+    i.n = to - from;
+    i.y = &case.y[from * case.p..to * case.p];
+    i
+}
+
+impl<'a> Run<'a> {
+    /// The run, or its refusal, 1 to 11.
+    pub fn of(case: &'a Case) -> Result<Self, u32> {
+        let whole = uncut(&case.inputs())?;
+        let written = std::array::from_fn(|k| whole.written.words(k));
+        Ok(Run { case, ended: whole.outcome.err().unwrap_or(0), written, states: whole.states })
+    }
+
+    /// What is saved after k periods.
+    pub fn bytes(&self, k: usize) -> Vec<u8> {
+        encode(self.case.p, self.case.m, self.case.r, &self.states[k])
+    }
+
+    /// Writes what the stretch over periods `from` up to `to` must leave. How it must end.
+    fn put(&self, lent: &mut Lent, from: usize, to: usize, last: bool) -> u32 {
+        let (p, m) = (self.case.p, self.case.m);
+        if last && self.ended == 12 {
+            for (k, need) in needed(p, m, to - from).into_iter().enumerate().take(11) {
+                lent.put(PRED_MEAN + k, 0, &vec![0; need]);
+            }
+            return 12;
+        }
+        let widths = [m, m * m, m * m, m, m * m, p, p, p, p, p * m, p * m];
+        for (k, width) in widths.into_iter().enumerate() {
+            lent.put(PRED_MEAN + k, 0, &self.written[k][from * width..to * width]);
+        }
+        // The last predicted place is what the run carries on: P∞ is not tested yet.
+        let state = &self.states[to];
+        for (k, x) in [&state.mean, &state.star, &state.p_inf].into_iter().enumerate() {
+            let words: Vec<u64> = x.iter().map(|v| v.to_bits()).collect();
+            lent.put(PRED_MEAN + k, (to - from) * widths[k], &words);
+        }
+        lent.put(LOGLIK, 0, &[state.loglik.to_bits()]);
+        for (part, count) in [(D_DIFFUSE, state.d_diffuse), (HEARD, state.heard), (NEWS, state.news)] {
+            lent.put(part, 0, &[count as u64]);
+        }
+        if !last {
+            let bytes = self.bytes(to);
+            lent.bytes_mut(SAVE)[..bytes.len()].copy_from_slice(&bytes);
+        }
+        0
+    }
+
+    /// One stretch, from the start or from saved bytes, in memory of its own: the bytes that it saved, or what differs.
+    fn stretch(&self, rng: &mut Rng, from: usize, to: usize, saved: Option<&[u8]>, last: bool) -> Result<Vec<u8>, String> {
+        let Case { p, m, .. } = *self.case;
+        let need = saved_len(m);
+        let ask = Ask {
+            begins: if saved.is_none() { set(rng) } else { 0 },
+            saved: saved.unwrap_or(&[]),
+            last: if last { set(rng) } else { 0 },
+            room: if last {
+                rng.pick(&[0, 0, 1, need - 1, need, need + 9])
+            } else {
+                need + rng.pick(&[0, 0, 1, 7, 100])
+            },
+        };
+        let lent = room(rng, p, m, to - from);
+        let mut found = Lent::new(&periods(self.case, from, to), &lent, &ask, rng.word());
+        let mut wanted = found.clone();
+        let want = self.put(&mut wanted, from, to, last);
+        let outcome = found.library(Call::Stretch);
+        let difference = if outcome != want {
+            Some(format!("outcome {outcome}, wanted {want} (0: answered, else the refusal)"))
+        } else {
+            found.difference(&wanted, Call::Stretch, want, &[])
+        };
+        match difference {
+            Some(what) => Err(format!("the stretch of periods {from} to {to}: {what}")),
+            None if last => Ok(Vec::new()),
+            None => Ok(found.bytes_mut(SAVE)[..need].to_vec()),
+        }
+    }
+
+    /// The whole run in stretches that end at `cuts`, ascending, and at its end; up to the first that differs. Now and then the last one is empty.
+    pub fn chain(&self, rng: &mut Rng, cuts: &[usize], name: &str, line: &mut Line) {
+        let n = self.case.n;
+        let mut ends = cuts.to_vec();
+        if rng.chance(1, 4) {
+            ends.push(n);
+        }
+        let (mut from, mut saved) = (0, None);
+        for (k, to) in ends.iter().copied().chain([n]).enumerate() {
+            match self.stretch(rng, from, to, saved.as_deref(), k == ends.len()) {
+                Ok(bytes) => saved = Some(bytes),
+                Err(what) => return line.count(name, Some(what)),
+            }
+            line.count(name, None);
+            from = to;
+        }
+    }
+}
+
+/// Cuts anywhere, some of them at one place.
+fn anywhere(rng: &mut Rng, n: usize, most: usize) -> Vec<usize> {
+    let mut cuts: Vec<usize> = (0..rng.within(1, most)).map(|_| rng.within(0, n)).collect();
+    cuts.sort_unstable();
+    cuts
+}
+
+/// A short run: cut at each period, after every period, anywhere, and not at all.
+pub fn try_short(rng: &mut Rng, run: &Run<'_>, name: &str, tally: &mut Tally) {
+    let n = run.case.n;
+    for cut in 0..=n {
+        run.chain(rng, &[cut], &format!("{name}, cut at {cut}"), &mut tally.cut_once);
+    }
+    let every: Vec<usize> = (1..n).collect();
+    run.chain(rng, &every, &format!("{name}, cut after every period"), &mut tally.cut_each);
+    let some = anywhere(rng, n, 4);
+    run.chain(rng, &some, &format!("{name}, cut at {some:?}"), &mut tally.cut_anywhere);
+    run.chain(rng, &[], &format!("{name}, in one stretch"), &mut tally.cut_anywhere);
+}
+
+/// A long run: cut anywhere; and after every period from some place on, as far as there is time for.
+pub fn try_long(rng: &mut Rng, run: &Run<'_>, name: &str, tally: &mut Tally) {
+    let n = run.case.n;
+    let some = anywhere(rng, n, 8);
+    run.chain(rng, &some, &format!("{name}, cut at {some:?}"), &mut tally.cut_anywhere);
+    let most = LONG_WORDS / (run.case.zs.len() + 1000);
+    let first = rng.within(0, n.saturating_sub(most));
+    let every: Vec<usize> = (first..n.min(first + most)).collect();
+    run.chain(rng, &every, &format!("{name}, cut after every period from {first} on"), &mut tally.cut_each);
+}

@@ -1,0 +1,189 @@
+//! Runs in stretches, on the oracle itself: a cut changes nothing, whatever
+//! is loaded saves as it was, and the refusals stand in their order.
+
+use oracle::case::{one_nan, same_answer, Buffers, Case};
+use oracle::gen::Cases;
+use oracle::stretches::{stretches, text};
+use oracle::uncut::{uncut, Uncut};
+use oracle::{decode, encode, needed, saved_len, stretch_call, Answer, Inputs, Outcome, Stretch};
+
+struct Made {
+    outcome: Outcome,
+    written: Buffers,
+    save: Vec<u8>,
+}
+
+fn make(i: &Inputs<'_>, begins: u8, saved: &[u8], last: u8) -> Made {
+    let mut written = Buffers::patterned(&needed(i.p, i.m, i.n));
+    let room = if last == 0 { saved_len(i.m) } else { 0 };
+    let mut save = vec![0xA5; room];
+    let stretch = Stretch {
+        begins,
+        saved,
+        last,
+    };
+    let outcome = stretch_call(i, &stretch, &mut written.lend().0, &mut save);
+    Made {
+        outcome,
+        written,
+        save,
+    }
+}
+
+/// The inputs of periods `from` to `to`.
+fn periods(case: &Case, from: usize, to: usize) -> Inputs<'_> {
+    let mut i = case.inputs();
+    i.n = to - from;
+    i.y = &case.y[from * case.p..to * case.p];
+    i
+}
+
+fn told(u: &Uncut, k: usize) -> Outcome {
+    let s = &u.states[k];
+    Ok(Answer {
+        loglik: s.loglik,
+        d_diffuse: s.d_diffuse,
+        heard: s.heard,
+        news: s.news,
+    })
+}
+
+/// Each part of periods `from` to `to` is the uncut run's, the last place of
+/// the predicted ones apart, which is what the run carries on.
+fn same_blocks(case: &Case, u: &Uncut, made: &Made, from: usize, to: usize) {
+    let (m, p) = (case.m, case.p);
+    let nan = |w: &[u64]| w.iter().map(|&x| one_nan(x)).collect::<Vec<_>>();
+    let state = &u.states[to];
+    for (k, width) in [m, m * m, m * m, m, m * m, p, p, p, p, p * m, p * m]
+        .into_iter()
+        .enumerate()
+    {
+        let whole = u.written.words(k);
+        let mut want = whole[from * width..to * width].to_vec();
+        let place_n = [&state.mean, &state.star, &state.p_inf];
+        if let Some(x) = place_n.get(k) {
+            want.extend(x.iter().map(|v| v.to_bits()));
+        }
+        assert_eq!(nan(&made.written.words(k)), nan(&want), "part {k}");
+    }
+}
+
+fn encoded(case: &Case, u: &Uncut, k: usize) -> Vec<u8> {
+    encode(case.p, case.m, case.r, &u.states[k])
+}
+
+/// Cut at every period, and after every period: the blocks, the bytes and
+/// the answers of the run that is not cut.
+#[test]
+fn a_cut_changes_nothing() {
+    let (mut cuts, mut silent) = (0, 0);
+    for (_, case) in Cases::new(21).take(3_000) {
+        let Ok(u) = uncut(&case.inputs()) else {
+            continue;
+        };
+        let n = case.n;
+        assert_eq!(u.states.len(), n + 1);
+        silent += usize::from(u.outcome.is_err());
+        for k in 0..=n {
+            let a = make(&periods(&case, 0, k), 1, &[], 0);
+            assert!(same_answer(&a.outcome, &told(&u, k)));
+            same_blocks(&case, &u, &a, 0, k);
+            assert_eq!(a.save, encoded(&case, &u, k));
+            let b = make(&periods(&case, k, n), 0, &a.save, 1);
+            assert!(same_answer(&b.outcome, &u.outcome));
+            if b.outcome.is_ok() {
+                same_blocks(&case, &u, &b, k, n);
+            }
+            cuts += 1;
+        }
+        let mut saved = encoded(&case, &u, 0);
+        for k in 0..n {
+            let one = make(&periods(&case, k, k + 1), 0, &saved, 0);
+            same_blocks(&case, &u, &one, k, k + 1);
+            saved = one.save;
+            assert_eq!(saved, encoded(&case, &u, k + 1));
+        }
+    }
+    assert!(cuts > 3_000 && silent > 50, "{cuts} {silent}");
+}
+
+/// What is loaded saves as it was, P∞ beside an ended diffuse state too; the
+/// first period then clears it.
+#[test]
+fn an_empty_stretch_saves_what_it_loaded() {
+    let mut left_over = 0;
+    for (_, case) in Cases::new(22).take(1_000) {
+        let Ok(u) = uncut(&case.inputs()) else {
+            continue;
+        };
+        let none = periods(&case, 0, 0);
+        for k in 0..=case.n {
+            let mut state = u.states[k].clone();
+            state.live = false;
+            let bytes = encode(case.p, case.m, case.r, &state);
+            assert_eq!(make(&none, 0, &bytes, 0).save, bytes);
+            if k < case.n && state.p_inf.iter().any(|&x| x != 0.0) {
+                left_over += 1;
+                let one = make(&periods(&case, k, k + 1), 0, &bytes, 0);
+                let zero = |x: &u64| *x == 0;
+                assert!(one.written.words(2).iter().all(zero));
+                let after = decode(case.p, case.m, case.r, 0, &one.save).unwrap();
+                assert!(after.p_inf.iter().all(|x| x.to_bits() == 0));
+            }
+        }
+    }
+    assert!(left_over > 100, "{left_over}");
+}
+
+/// Refusals 3 to 11 come before 15, and 15 before 12, which only the last
+/// stretch is given; both markers are any byte but 0.
+#[test]
+fn the_refusals_stand_in_their_order() {
+    let mut seen = [0; 13];
+    for (_, case) in Cases::new(23).take(3_000) {
+        let i = case.inputs();
+        match uncut(&i) {
+            Err(1) => {}
+            Err(2) => {}
+            Err(k) => {
+                assert_eq!(make(&i, 0, &[1, 2, 3], 0).outcome.unwrap_err(), k);
+                assert_eq!(make(&i, 0, &[], 1).outcome.unwrap_err(), k);
+                seen[k as usize] += 1;
+            }
+            Ok(u) => {
+                let n = case.n;
+                let bytes = encoded(&case, &u, n);
+                let none = periods(&case, n, n);
+                assert_eq!(make(&i, 1, &bytes, 0).outcome.unwrap_err(), 15);
+                assert_eq!(make(&none, 0, &[], 1).outcome.unwrap_err(), 15);
+                assert_eq!(make(&none, 0, &bytes[1..], 1).outcome.unwrap_err(), 15);
+                assert!(make(&none, 0, &bytes, 0).outcome.is_ok());
+                let ended = make(&none, 0, &bytes, 128);
+                assert!(same_answer(&ended.outcome, &u.outcome));
+                assert!(same_answer(&make(&i, 255, &[], 2).outcome, &u.outcome));
+                if u.outcome.is_err() {
+                    // Room for one predicted place is blanked.
+                    assert!((0..11).all(|k| ended.written.words(k).iter().all(|&w| w == 0)));
+                    seen[12] += 1;
+                }
+            }
+        }
+    }
+    assert!(seen[3..].iter().all(|&s| s > 10), "{seen:?}");
+}
+
+#[test]
+fn the_small_stretches_show_every_end() {
+    let list = stretches(1);
+    for k in (1..=12).chain([15]) {
+        assert!(list.iter().any(|s| s.outcome.err() == Some(k)), "{k}");
+    }
+    let saves = |s: &&oracle::stretches::Made| s.outcome.is_ok() && s.last == 0;
+    assert!(list.iter().filter(saves).count() > 20);
+    // FORMAT.md names each line.
+    let format = include_str!("../FORMAT.md");
+    for line in text(0, &list[0]).lines() {
+        let word = line.split(' ').next().unwrap();
+        assert!(format.contains(&format!("`{word}")), "{word}");
+    }
+}
