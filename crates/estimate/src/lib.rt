@@ -1,17 +1,6 @@
 // What the library makes of a sheet: its call, and the numbers of its answer that are shown. The outputs of 4096 periods stand on the stack, 2.1 MB.
-mod system;
-
 ghost use Prim.Native.Nat.{_≤_};
 use sheet::answers::Settings;
-
-// The first k places, or all.
-fn first<'a>(s: &'a [f64], k: usize) -> &'a [f64] {
-    if k > s.len() {
-        return s;
-    }
-    let none = 0;
-    &s[none..k]
-}
 
 pub fn estimate(
     s: Settings,
@@ -40,18 +29,18 @@ pub fn estimate(
         3,
         3,
         n,
-        &system::design(),
+        &clock::design(),
         &[],
-        &system::noise(s),
-        &system::transition(s),
-        &system::identity(),
-        &system::disturbances(s),
+        &clock::noise(s),
+        &clock::transition(s),
+        &clock::identity(),
+        &clock::disturbances(s),
         &[0.0; 3],
         &[0.0; 2],
-        &system::start_mean(s),
-        &system::start_cov(s),
-        &system::flags(s),
-        first(y, 2 * n),
+        &clock::start_mean(s),
+        &clock::start_cov(s),
+        &clock::flags(s),
+        clock::first(y, 2 * n),
         &mut pred_mean,
         &mut pred_cov,
         &mut pred_inf,

@@ -1,7 +1,5 @@
 // The panel: reads a text that describes a clock and its checks against radio time, and prints what the library makes of it, as docs/PANEL.md says.
 // What goes wrong is told in one line on standard error, and then nothing else is written.
-mod options;
-
 ghost use Prim.Native.Nat.{_≤_};
 
 // A sheet that fills the buffer may go on past it.
@@ -38,6 +36,7 @@ fn show(s: sheet::answers::Settings, n: usize, y: &[f64], o: options::Options)
                     smooth: o.smooth,
                     table: o.table,
                 },
+                0,
                 n,
                 y,
                 &fates,
@@ -62,7 +61,8 @@ fn main() {
     if o.help {
         return told::usage(1);
     }
-    if o.wrong {
+    // One stretch of a run is for the other program, power_cycle: tools/panel chooses.
+    if o.wrong | options::is_stretch(o) {
         return told::usage(2);
     }
     let fd = options::open(o.file);

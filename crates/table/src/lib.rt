@@ -170,13 +170,15 @@ fn smoothed_cells(
     at
 }
 
-fn row(s: Shown, t: usize, y: &[f64], fates: &[u8], rows: &[f64])
-    requires { ⌜ t < 4096 ⌝ }
+// Period t of the sheet, of a run that had done so many before it: its number and its time are the run's.
+fn row(s: Shown, done: usize, t: usize, y: &[f64], fates: &[u8], rows: &[f64])
+    requires { ⌜ (t < 4096) × (done ≤ 65535) ⌝ }
 {
+    let place = done + t;
     let mut space = blank_line();
     let line: &mut [u8] = &mut space;
-    cells::count(line, 0, PERIOD, t as u64 + 1);
-    cells::number(line, PERIOD, TIME, rows::time(t, s.period), 0);
+    cells::count(line, 0, PERIOD, place as u64 + 1);
+    cells::number(line, PERIOD, TIME, rows::time(place, s.period), 0);
     let first = check_cells(
         line,
         PERIOD + TIME,
@@ -306,14 +308,15 @@ fn units(s: Shown) {
     say(b"\n");
 }
 
-pub fn print(s: Shown, n: usize, y: &[f64], fates: &[u8], rows: &[f64])
-    requires { ⌜ n ≤ 4096 ⌝ }
+// `done`: the periods of the run before the sheet's first.
+pub fn print(s: Shown, done: usize, n: usize, y: &[f64], fates: &[u8], rows: &[f64])
+    requires { ⌜ (n ≤ 4096) × (done ≤ 65535) ⌝ }
 {
     groups(s);
     names(s);
     units(s);
     for t in 0..n {
-        row(s, t, y, fates, rows);
+        row(s, done, t, y, fates, rows);
     }
 }
 

@@ -1,5 +1,5 @@
 // What goes wrong with the panel, told on standard error in one line: a wrong line of the sheet, a refusal of the library's, wrong arguments, a file
-// that can't be opened.
+// that can't be opened or written.
 ghost use mathlib.Core.Path.{_≡_};
 ghost use Prim.Native.Nat.{_≤_};
 ghost use lib.ListN.{length};
@@ -16,12 +16,14 @@ pub fn usage(fd: i32) {
         fd,
         b"usage: panel [--smooth] [--svg PICTURE] [SHEET]   the estimates, and a picture of them
        panel --table [--smooth] [SHEET]           how accurate they will be, before any check is read
+       panel [--from FILE] [--save FILE] [SHEET]  a stretch of a run: it goes on from a saved one, and is saved
 With no SHEET, or with -, it is read from standard input. docs/PANEL.md says what a sheet is.
 ",
     );
 }
 
-// A file that has just failed to open: which one it is, its name, and why. What is written in between leaves the reason as it is.
+// A file that has just failed to open, or to take what is written to it: which one it is, its name, and why. What is written in between leaves the
+// reason as it is.
 pub fn unopened(what: &[u8], name: &[u8]) {
     io::write_all(ERRORS, b"panel: ");
     io::write_all(ERRORS, what);
@@ -132,7 +134,7 @@ pub fn wrong(text: &[u8], w: Wrong) {
     io::write_all(ERRORS, b"\n");
 }
 
-// What a sheet can bring about.
+// What a sheet or a saved run can bring about.
 fn mend(k: u8) {
     match k {
         1 => io::write_all(
@@ -151,6 +153,10 @@ fn mend(k: u8) {
         11 => io::write_all(
             ERRORS,
             b"NonFiniteNoise: make the numbers of radio and wander smaller",
+        ),
+        15 => io::write_all(
+            ERRORS,
+            b"BadSaved: the file is not a saved run of this clock, or the run would be longer than 4096 periods. Give the file that --save wrote, as it was; to begin a new run leave --from out",
         ),
         _ => io::write_all(
             ERRORS,

@@ -115,3 +115,12 @@ pub fn flags(s: Settings) -> [u8; 3] {
     let rate = s.rate;
     [flag(offset), flag(rate), 0]
 }
+
+// The first k places, or all.
+pub fn first<'a>(s: &'a [f64], k: usize) -> &'a [f64] {
+    if k > s.len() {
+        return s;
+    }
+    let none = 0;
+    &s[none..k]
+}

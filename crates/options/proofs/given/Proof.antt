@@ -1,8 +1,8 @@
--- `panel::options::given` meets its contract. Assumes nothing.
+-- `options::given` meets its contract. Assumes nothing.
 use Prim.Native.Nat.{_≤_, _-_}
 use borrow.Author.Needs.{needs}
-use Rattle.panel.proofs.options.given.Statement.{statement}
-use Rattle.panel.proofs.options.given.Tie as tie
+use Rattle.options.proofs.given.Statement.{statement}
+use Rattle.options.proofs.given.Tie as tie
 
 abbrev Inv-loop : tie.InvT-loop
 Inv-loop o₀ n i₀ o i = i ≤ n

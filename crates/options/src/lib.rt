@@ -1,26 +1,38 @@
-// The program's arguments: which there are, and the files that they name.
+// The arguments of the panel's two programs: which there are, and the files that they name.
 
-// `svg` and `file` are places among the arguments; 0: none.
+// `svg`, `save`, `from` and `file` are places among the arguments; 0: none.
 pub struct Options {
     pub smooth: bool,
     pub table: bool,
     pub svg: usize,
+    pub save: usize,
+    pub from: usize,
     pub file: usize,
     pub help: bool,
     pub wrong: bool,
-    // The next argument is the picture's file.
-    pub awaits: bool,
+    // Whose file the next argument is.
+    pub awaits: u8,
 }
+
+const NOBODY: u8 = 0;
+
+const SVG: u8 = 1;
+
+const SAVE: u8 = 2;
+
+const FROM: u8 = 3;
 
 fn none() -> Options {
     Options {
         smooth: false,
         table: false,
         svg: 0,
+        save: 0,
+        from: 0,
         file: 0,
         help: false,
         wrong: false,
-        awaits: false,
+        awaits: NOBODY,
     }
 }
 
@@ -51,16 +63,43 @@ fn name(o: Options, i: usize, word: &[u8]) -> Options {
     o
 }
 
+// An option whose file comes next, once; `given` is the file that it has already.
+fn await_file(o: Options, whose: u8, given: usize) -> Options {
+    let mut o = o;
+    if given > 0 {
+        o.wrong = true;
+    }
+    o.awaits = whose;
+    o
+}
+
+// The file that was awaited.
+fn take_file(o: Options, i: usize) -> Options {
+    let mut o = o;
+    let whose = o.awaits;
+    match whose {
+        SVG => {
+            o.svg = i;
+        }
+        SAVE => {
+            o.save = i;
+        }
+        _ => {
+            o.from = i;
+        }
+    }
+    o.awaits = NOBODY;
+    o
+}
+
 // Argument i; the first is the program's own name.
 fn take(o: Options, i: usize, word: &[u8]) -> Options {
     let mut o = o;
     if i == 0 {
         return o;
     }
-    if o.awaits {
-        o.awaits = false;
-        o.svg = i;
-        return o;
+    if o.awaits != NOBODY {
+        return take_file(o, i);
     }
     if check::same(word, b"--smooth") {
         o.smooth = true;
@@ -75,25 +114,35 @@ fn take(o: Options, i: usize, word: &[u8]) -> Options {
         return o;
     }
     if check::same(word, b"--svg") {
-        if o.svg > 0 {
-            o.wrong = true;
-        }
-        o.awaits = true;
-        return o;
+        return await_file(o, SVG, o.svg);
+    }
+    if check::same(word, b"--save") {
+        return await_file(o, SAVE, o.save);
+    }
+    if check::same(word, b"--from") {
+        return await_file(o, FROM, o.from);
     }
     name(o, i, word)
 }
 
-// A picture shows estimates, and before any reading exists there are none.
+// Whether the sheet is one stretch of a run, which goes on from a saved one, or is to be saved, or both.
+pub fn is_stretch(o: Options) -> bool {
+    (o.save > 0) | (o.from > 0)
+}
+
+// A picture shows estimates, and before any reading exists there are none. A stretch is not smoothed, since what comes after it is not there yet; and
+// the picture shows smoothed estimates too. A table is of checks to come, and a saved run is of checks that came.
 fn fitting(o: Options) -> Options {
     let mut o = o;
-    if o.awaits {
+    let picture = o.svg > 0;
+    if o.awaits != NOBODY {
         o.wrong = true;
     }
-    if o.table {
-        if o.svg > 0 {
-            o.wrong = true;
-        }
+    if o.table & picture {
+        o.wrong = true;
+    }
+    if is_stretch(o) & (o.smooth | o.table | picture) {
+        o.wrong = true;
     }
     o
 }

@@ -1,0 +1,194 @@
+-- Made from Proof.tpl by tools/expand: edit that.
+-- `resumed::estimate` meets its contract. Assumes nothing.
+use borrow.Author.Needs.{needs}
+use Rattle.resumed.proofs.estimate.Statement.{statement}
+use Rattle.resumed.proofs.estimate.Tie as tie
+
+design-requires : tie.Need-design-requires
+design-requires c κs = search needs
+
+slice-aggregate-stretch : tie.Need-slice-aggregate-stretch
+slice-aggregate-stretch c = search needs
+
+slice-aggregate-stretch-2 : tie.Need-slice-aggregate-stretch-2
+slice-aggregate-stretch-2 c = search needs
+
+noise-requires : tie.Need-noise-requires
+noise-requires c κs = search needs
+
+slice-aggregate-stretch-3 : tie.Need-slice-aggregate-stretch-3
+slice-aggregate-stretch-3 c = search needs
+
+transition-requires : tie.Need-transition-requires
+transition-requires c κs = search needs
+
+slice-aggregate-stretch-4 : tie.Need-slice-aggregate-stretch-4
+slice-aggregate-stretch-4 c = search needs
+
+identity-requires : tie.Need-identity-requires
+identity-requires c κs = search needs
+
+slice-aggregate-stretch-5 : tie.Need-slice-aggregate-stretch-5
+slice-aggregate-stretch-5 c = search needs
+
+disturbances-requires : tie.Need-disturbances-requires
+disturbances-requires c κs = search needs
+
+slice-aggregate-stretch-6 : tie.Need-slice-aggregate-stretch-6
+slice-aggregate-stretch-6 c = search needs
+
+slice-aggregate-stretch-7 : tie.Need-slice-aggregate-stretch-7
+slice-aggregate-stretch-7 c = search needs
+
+slice-aggregate-stretch-8 : tie.Need-slice-aggregate-stretch-8
+slice-aggregate-stretch-8 c = search needs
+
+start-mean-requires : tie.Need-start-mean-requires
+start-mean-requires c κs = search needs
+
+slice-aggregate-stretch-9 : tie.Need-slice-aggregate-stretch-9
+slice-aggregate-stretch-9 c = search needs
+
+start-cov-requires : tie.Need-start-cov-requires
+start-cov-requires c κs = search needs
+
+slice-aggregate-stretch-10 : tie.Need-slice-aggregate-stretch-10
+slice-aggregate-stretch-10 c = search needs
+
+flags-requires : tie.Need-flags-requires
+flags-requires c κs = search needs
+
+slice-aggregate-stretch-11 : tie.Need-slice-aggregate-stretch-11
+slice-aggregate-stretch-11 c = search needs
+
+mul-first : tie.Need-mul-first
+mul-first c = search needs
+
+first-requires : tie.Need-first-requires
+first-requires c κs = search needs
+
+slice-aggregate-stretch-12 : tie.Need-slice-aggregate-stretch-12
+slice-aggregate-stretch-12 c = search needs
+
+slice-aggregate-stretch-13 : tie.Need-slice-aggregate-stretch-13
+slice-aggregate-stretch-13 c = search needs
+
+slice-aggregate-stretch-14 : tie.Need-slice-aggregate-stretch-14
+slice-aggregate-stretch-14 c = search needs
+
+slice-aggregate-stretch-15 : tie.Need-slice-aggregate-stretch-15
+slice-aggregate-stretch-15 c = search needs
+
+slice-aggregate-stretch-16 : tie.Need-slice-aggregate-stretch-16
+slice-aggregate-stretch-16 c = search needs
+
+slice-aggregate-stretch-17 : tie.Need-slice-aggregate-stretch-17
+slice-aggregate-stretch-17 c = search needs
+
+slice-aggregate-stretch-18 : tie.Need-slice-aggregate-stretch-18
+slice-aggregate-stretch-18 c = search needs
+
+slice-aggregate-stretch-19 : tie.Need-slice-aggregate-stretch-19
+slice-aggregate-stretch-19 c = search needs
+
+slice-aggregate-stretch-20 : tie.Need-slice-aggregate-stretch-20
+slice-aggregate-stretch-20 c = search needs
+
+slice-aggregate-stretch-21 : tie.Need-slice-aggregate-stretch-21
+slice-aggregate-stretch-21 c = search needs
+
+slice-aggregate-stretch-22 : tie.Need-slice-aggregate-stretch-22
+slice-aggregate-stretch-22 c = search needs
+
+stretch-requires : tie.Need-stretch-requires
+stretch-requires c κs = search needs
+
+slice-aggregate-fill : tie.Need-slice-aggregate-fill
+slice-aggregate-fill c = search needs
+
+slice-aggregate-fill-2 : tie.Need-slice-aggregate-fill-2
+slice-aggregate-fill-2 c = search needs
+
+slice-aggregate-fill-3 : tie.Need-slice-aggregate-fill-3
+slice-aggregate-fill-3 c = search needs
+
+slice-aggregate-fill-4 : tie.Need-slice-aggregate-fill-4
+slice-aggregate-fill-4 c = search needs
+
+slice-aggregate-fill-5 : tie.Need-slice-aggregate-fill-5
+slice-aggregate-fill-5 c = search needs
+
+slice-aggregate-fill-6 : tie.Need-slice-aggregate-fill-6
+slice-aggregate-fill-6 c = search needs
+
+fill-requires : tie.Need-fill-requires
+fill-requires c κs = c .before .before .before .before .before .before .before .before .before .before .before .before .before .before .before .before .before .before .before .before .before .before .before .before .before .before .before .before .before .before .before .before .before .before .before .before .before .before .before .before .before .before .before .before .before .before .before .before .before .before .before .before .before .before .before .before .before .before .pre
+
+slice-aggregate-fill-fates : tie.Need-slice-aggregate-fill-fates
+slice-aggregate-fill-fates c = search needs
+
+fill-fates-requires : tie.Need-fill-fates-requires
+fill-fates-requires c κs = c .before .before .before .before .before .before .before .before .before .before .before .before .before .before .before .before .before .before .before .before .before .before .before .before .before .before .before .before .before .before .before .before .before .before .before .before .before .before .before .before .before .before .before .before .before .before .before .before .before .before .before .before .before .before .before .before .before .before .before .before .before .before .before .pre
+
+same-length : tie.Need-same-length
+same-length c = search needs
+
+same-length-2 : tie.Need-same-length-2
+same-length-2 c = search needs
+
+same-length-3 : tie.Need-same-length-3
+same-length-3 c = search needs
+
+returns : tie.Need-returns
+returns c = search needs
+
+pub estimate-spec : {M : Type 1} → statement M
+estimate-spec =
+    tie.close
+    (tie.spec
+    design-requires
+    slice-aggregate-stretch
+    slice-aggregate-stretch-2
+    noise-requires
+    slice-aggregate-stretch-3
+    transition-requires
+    slice-aggregate-stretch-4
+    identity-requires
+    slice-aggregate-stretch-5
+    disturbances-requires
+    slice-aggregate-stretch-6
+    slice-aggregate-stretch-7
+    slice-aggregate-stretch-8
+    start-mean-requires
+    slice-aggregate-stretch-9
+    start-cov-requires
+    slice-aggregate-stretch-10
+    flags-requires
+    slice-aggregate-stretch-11
+    mul-first
+    first-requires
+    slice-aggregate-stretch-12
+    slice-aggregate-stretch-13
+    slice-aggregate-stretch-14
+    slice-aggregate-stretch-15
+    slice-aggregate-stretch-16
+    slice-aggregate-stretch-17
+    slice-aggregate-stretch-18
+    slice-aggregate-stretch-19
+    slice-aggregate-stretch-20
+    slice-aggregate-stretch-21
+    slice-aggregate-stretch-22
+    stretch-requires
+    slice-aggregate-fill
+    slice-aggregate-fill-2
+    slice-aggregate-fill-3
+    slice-aggregate-fill-4
+    slice-aggregate-fill-5
+    slice-aggregate-fill-6
+    fill-requires
+    slice-aggregate-fill-fates
+    fill-fates-requires
+    same-length
+    same-length-2
+    same-length-3
+    returns)
