@@ -5,9 +5,9 @@
  * Something can't be read directly: a crystal's offset and rate, say. These hidden numbers are the STATES. From time to time there are READINGS
  * that depend on them, noisy, late, missing or doubled. The filter goes through the periods in order. For each it tells the best estimate of the
  * states from the readings so far, and how far off that may be, as a covariance. The smoother then goes back, and tells for each period the best
- * estimate from all readings, earlier and later.
+ * estimate from all readings, earlier and later. A filter's run can also be cut, saved as bytes, and carried on after a power cycle.
  *
- * Every call ends with an answer or with one of twelve numbered refusals, whatever is passed for sizes and numbers. You need not check first.
+ * Every call ends with an answer or with a numbered refusal, whatever is passed for sizes and numbers. You need not check first.
  *
  * THE MODEL
  *
@@ -19,7 +19,7 @@
  *     p   elements: how many readings a period has room for     1 to 8
  *     m   states                                                1 to 8
  *     r   disturbances                                          1 to 8
- *     n   periods                                               1 to 4096
+ *     n   periods                                               1 to 4096; of a stretch of a run 0 to 4096
  *
  * A missing reading is a NaN, any NaN. Each place of y is one or the other: a number, or a gap. An infinite reading is refused.
  *
@@ -78,12 +78,35 @@
  * The values of readings reach no covariance, kind, variance or count. Only which of them are gaps does. So accuracy tables can be drawn up before
  * there is any reading, with 0 for each reading that will come and NaN for each gap.
  *
+ * A RUN IN STRETCHES
+ *
+ * goxundar_stretch runs the next n periods of a run, over the readings of these n periods alone. A run may be cut after any period, any number of
+ * times. Its stretches then write what goxundar_filter writes over all its periods at once, and the last one answers what it answers, bit for bit.
+ *
+ *     begins  not 0: the run begins here, and saved is empty, else refusal 15. 0: it goes on from saved. So a file that was emptied does not
+ *             begin a run anew in silence: it is refused
+ *     saved   the GOXUNDAR_SAVED_LEN(m) bytes that the stretch before has saved. Any fault of them is refusal 15, of their count too
+ *     last    not 0: this is the run's last stretch. Refusal 12 is judged in this one alone, over all readings since the run began, and blanks only
+ *             what this stretch was lent
+ *     save    GOXUNDAR_SAVED_LEN(m) bytes or more, else refusal 2: the run is saved here, where the call returns 0 and the stretch is not the last.
+ *             What is lent beyond that stays as it was. The last stretch saves nothing: its save may have any count, 0 too, and stays as it was
+ *
+ *  - The saved bytes hold the run, and of the model its sizes p, m and r alone. Hand every stretch the same model; nothing can tell if you do.
+ *    a1, p_star and flags are checked in every stretch, and used in the first.
+ *  - A list zs is handed over whole each time: its designs count from the run's first period. All stretches together have 4096 periods at most.
+ *  - The four places of the answer are since the run began, in every stretch.
+ *  - Place n of the predicted parts is written as by the filter. pred_inf there has not been tested yet, so the next stretch's place 0, which has,
+ *    may be 0 where it is not. That one counts.
+ *  - Periods that went by without power are gaps: run them, with NaN for each reading.
+ *
+ * docs/SAVED.md has the bytes one by one, and how to keep them safe. Bytes 28 to 35 are the number of periods done, most significant first.
+ *
  * POINTERS
  *
  *  - Where a part's count is 0, its pointer is not followed, and may be null. Otherwise it points to that many elements, aligned for their type.
  *    No check can tell if that is so: it is the one thing that you must see to.
- *  - No output part, and none of the last four places, overlaps any other part or place. Inputs may overlap inputs: one array of zeros can be c
- *    and a1 at once.
+ *  - No output part, and none of the last four places, overlaps any other part or place: save is another array than saved. Inputs may overlap
+ *    inputs: one array of zeros can be c and a1 at once.
  *  - The last four are not null. On a refusal they stay as they were.
  *  - The library allocates nothing, keeps nothing between calls, and uses only what is lent. Calls on different outputs may run at the same time.
  *
@@ -111,11 +134,14 @@ extern "C" {
 #define GOXUNDAR_RECORD_LEN(p, n) ((size_t)(n) * (size_t)(p))                       /* kinds, v, f_star, f_inf */
 #define GOXUNDAR_GAIN_LEN(p, m, n) ((size_t)(n) * (size_t)(p) * (size_t)(m))        /* m_star, m_inf */
 
-/* What a call returns: 0, or the first refusal that applies, in this order.
- * 1 to 11 write nothing. 12 sets the needed stretch of every output to 0 (+0.0, and kind 0), and leaves what is beyond it. */
+/* The length of a saved run, exactly: 144 bytes for one state, 2216 for eight. */
+#define GOXUNDAR_SAVED_LEN(m) (104 + 8 * (size_t)(m) + 32 * (size_t)(m) * (size_t)(m))
+
+/* What a call returns: 0, or the first refusal that applies, in this order: 15 comes before 12, and is given by goxundar_stretch alone.
+ * 1 to 11 and 15 write nothing. 12 sets the needed count of every output to 0 (+0.0, and kind 0), and leaves what is beyond it. */
 enum goxundar_refusal {
     GOXUNDAR_ANSWERED = 0,
-    GOXUNDAR_DIMENSION = 1,         /* p, m or r is not 1 to 8, or n is not 1 to 4096 */
+    GOXUNDAR_DIMENSION = 1,         /* p, m or r is not 1 to 8, or n is not 1 to 4096 (goxundar_stretch: 0 to 4096) */
     GOXUNDAR_LENGTH = 2,            /* an input has not its exact count, an output is too short, or not exactly one of z and zs is given */
     GOXUNDAR_NON_FINITE_SYSTEM = 3, /* z, zs (each listed design, used or not), h, t, rr or q has a NaN or an infinity */
     GOXUNDAR_NOT_PSD = 4,           /* a diagonal entry of h or q is below 0: a variance can't be */
@@ -127,7 +153,11 @@ enum goxundar_refusal {
     GOXUNDAR_INFINITE_READING = 9,  /* a reading is infinite (a NaN is a gap, and fine) */
     GOXUNDAR_MIXED_DRIVEN = 10,     /* t leads from a flagged state into an unflagged one: its entry (unflagged, flagged) is not 0 */
     GOXUNDAR_NON_FINITE_NOISE = 11, /* R * Q * R', symmetrised, has an entry that is not finite: it overflows */
-    GOXUNDAR_NO_INFORMATION = 12    /* there are readings, and none of them is news */
+    GOXUNDAR_BAD_SAVED = 15,        /* the run goes on, and saved is not a saved run: its length or a section's count is wrong; it has another p, m or
+                                       r than the call; its periods done and n are above 4096 together; its diffuse periods are above its periods
+                                       done, its heard above p times these, its news above its heard, or its diffuse state not 0 or 1; or it has a
+                                       NaN with other bits than 0x7FF8000000000000. Or the run begins, and saved is not empty */
+    GOXUNDAR_NO_INFORMATION = 12    /* there are readings, and none of them is news (goxundar_stretch: judged in the last stretch alone) */
 };
 
 /* What became of a reading. */
@@ -193,6 +223,36 @@ uint32_t goxundar_smooth(
     double *m_inf, size_t m_inf_len,
     double *sm_mean, size_t sm_mean_len,
     double *sm_cov, size_t sm_cov_len,
+    double *loglik, size_t *d_diffuse, size_t *heard, size_t *news);
+
+/* The filter, over a stretch of a run: from its start or from saved bytes, and to its end or to be saved. */
+uint32_t goxundar_stretch(
+    size_t p, size_t m, size_t r, size_t n,
+    const double *z, size_t z_len,
+    const double *zs, size_t zs_len,
+    const double *h, size_t h_len,
+    const double *t, size_t t_len,
+    const double *rr, size_t rr_len,
+    const double *q, size_t q_len,
+    const double *c, size_t c_len,
+    const double *d, size_t d_len,
+    const double *a1, size_t a1_len,
+    const double *p_star, size_t p_star_len,
+    const uint8_t *flags, size_t flags_len,
+    const double *y, size_t y_len,
+    uint8_t begins, const uint8_t *saved, size_t saved_len, uint8_t last,
+    double *pred_mean, size_t pred_mean_len,
+    double *pred_cov, size_t pred_cov_len,
+    double *pred_inf, size_t pred_inf_len,
+    double *filt_mean, size_t filt_mean_len,
+    double *filt_cov, size_t filt_cov_len,
+    uint8_t *kinds, size_t kinds_len,
+    double *v, size_t v_len,
+    double *f_star, size_t f_star_len,
+    double *f_inf, size_t f_inf_len,
+    double *m_star, size_t m_star_len,
+    double *m_inf, size_t m_inf_len,
+    uint8_t *save, size_t save_len,
     double *loglik, size_t *d_diffuse, size_t *heard, size_t *news);
 
 #ifdef __cplusplus

@@ -1,8 +1,10 @@
-/* test.c: the two calls through goxundar.h, against document 01: its bench figures, each part in its place, the refusals, lengths, empty parts.
+/* test.c: the calls through goxundar.h, against document 01: its bench figures, each part in its place, the refusals, lengths, empty parts; and runs
+ * in stretches, against the uncut ones and against document 02's bytes.
  *
- * Every expected value is 01's, or follows from one of its rules as a comment says. None was taken from the program. Doubles are compared by
- * their bits, all NaNs as one. Each call is made twice, by goxundar_filter and by goxundar_smooth: the smoother answers and writes all that the
- * filter does. What lies beyond the needed count of an output must stay as it was, in every call. It is C99, and C++ too.
+ * Every expected value is 01's or 02's, or follows from one of their rules as a comment says. None was taken from the program. Doubles are compared
+ * by their bits, all NaNs as one. Each call is made three times, by goxundar_filter, by goxundar_smooth and by goxundar_stretch over the whole run:
+ * the others answer and write all that the filter does. What lies beyond the needed count of an output must stay as it was, in every call. It is C99,
+ * and C++ too.
  */
 #include <math.h>
 #include <stdio.h>
@@ -167,9 +169,28 @@ static void lend(const struct call *k)
     for (i = 0; i < OUTPUTS; i++) part[i].lent = in_range ? part[i].needed + BEYOND : part[i].bytes / part[i].size;
 }
 
+/* ---- where a stretch goes on from, and what it saves */
+
+static uint8_t save[GOXUNDAR_SAVED_LEN(8) + BEYOND];
+
+static struct stretch {
+    uint8_t begins, last;
+    const uint8_t *saved;
+    size_t saved_len, save_lent;
+} stretch;
+
+/* All of a run in one stretch: it is the filter's call. */
+static void whole(void)
+{
+    stretch.begins = stretch.last = 1;
+    stretch.saved = NULL;
+    stretch.saved_len = 0;
+    stretch.save_lent = BEYOND;
+}
+
 /* ---- the answer's places */
 
-static struct {
+static struct answer {
     double loglik;
     size_t d_diffuse, heard, news;
 } answer;
@@ -188,12 +209,13 @@ static void mark_all(void)
 {
     int i;
     for (i = 0; i < OUTPUTS; i++) memset(part[i].at, MARK, part[i].bytes);
+    memset(save, MARK, sizeof save);
     memset(&answer, MARK, sizeof answer);
 }
 
 /* ---- the call */
 
-enum { FILTER, SMOOTH, CALLS };
+enum { FILTER, SMOOTH, STRETCH, CALLS };
 
 /* How many of the outputs it writes. */
 static int parts_of(int which)
@@ -213,6 +235,15 @@ static uint32_t call(int which, const struct call *k)
             filt_mean, part[FILT_MEAN].lent, filt_cov, part[FILT_COV].lent, kinds, part[KINDS].lent,
             v, part[V].lent, f_star, part[F_STAR].lent, f_inf, part[F_INF].lent, m_star, part[M_STAR].lent, m_inf, part[M_INF].lent,
             &answer.loglik, &answer.d_diffuse, &answer.heard, &answer.news);
+    if (which == STRETCH)
+        return goxundar_stretch(
+            k->p, k->m, k->r, k->n, k->z, k->len[Z], k->zs, k->len[ZS], k->h, k->len[H], k->t, k->len[T], k->rr, k->len[RR], k->q, k->len[Q],
+            k->c, k->len[C], k->d, k->len[D], k->a1, k->len[A1], k->p_star, k->len[P_STAR], k->flags, k->len[FLAGS], k->y, k->len[Y],
+            stretch.begins, stretch.saved, stretch.saved_len, stretch.last,
+            pred_mean, part[PRED_MEAN].lent, pred_cov, part[PRED_COV].lent, pred_inf, part[PRED_INF].lent,
+            filt_mean, part[FILT_MEAN].lent, filt_cov, part[FILT_COV].lent, kinds, part[KINDS].lent,
+            v, part[V].lent, f_star, part[F_STAR].lent, f_inf, part[F_INF].lent, m_star, part[M_STAR].lent, m_inf, part[M_INF].lent,
+            save, stretch.save_lent, &answer.loglik, &answer.d_diffuse, &answer.heard, &answer.news);
     return goxundar_smooth(
         k->p, k->m, k->r, k->n, k->z, k->len[Z], k->zs, k->len[ZS], k->h, k->len[H], k->t, k->len[T], k->rr, k->len[RR], k->q, k->len[Q],
         k->c, k->len[C], k->d, k->len[D], k->a1, k->len[A1], k->p_star, k->len[P_STAR], k->flags, k->len[FLAGS], k->y, k->len[Y],
@@ -223,12 +254,14 @@ static uint32_t call(int which, const struct call *k)
         &answer.loglik, &answer.d_diffuse, &answer.heard, &answer.news);
 }
 
-/* Which bytes a call may have written: none on refusals 1 to 11, the needed stretch otherwise; the answer where there is one; the smoothed parts
- * only by the smoother. */
-static void kept(int which, uint32_t refusal)
+/* Which bytes a call may have written: none on refusals 1 to 11 and 15, the needed count otherwise; the answer where there is one; the smoothed parts
+ * only by the smoother; the saved run only by a stretch that answers and is not the last. */
+static void kept(int which, const struct call *k, uint32_t refusal)
 {
     int writes = refusal == GOXUNDAR_ANSWERED || refusal == GOXUNDAR_NO_INFORMATION;
+    int saves = which == STRETCH && refusal == GOXUNDAR_ANSWERED && !stretch.last;
     int i;
+    check(marked(save, saves ? GOXUNDAR_SAVED_LEN(k->m) : 0, sizeof save), "save");
     for (i = 0; i < OUTPUTS; i++) {
         size_t written = writes && i < parts_of(which) ? part[i].needed * part[i].size : 0;
         check(marked(part[i].at, written, part[i].bytes), part[i].name);
@@ -248,7 +281,7 @@ static void ends(int which, const struct call *k, uint32_t want)
     lend(k);
     refusal = call(which, k);
     count(refusal, want, "the refusal");
-    kept(which, refusal);
+    kept(which, k, refusal);
 }
 
 static void record(size_t at, uint8_t kind, double want_v, double want_f_star, double want_f_inf)
@@ -330,7 +363,7 @@ static void b_and_c(int which)
     same(pred_cov[2], 2.75, "next predicted covariance");
     /* the terms, in the Rust's order: those of (2, 1, 1) and of (4, 4) */
     same(answer.loglik, -(0.5 * ln_2pi()) - 0.5 * ((ln_2pi() + ln(4)) + 4.0 * 4 / 4), "log-likelihood");
-    if (which == FILTER) return;
+    if (which != SMOOTH) return;
     figure = "C";
     same(sm_mean[0], 3, "first smoothed mean");
     same(sm_mean[1], 5, "second smoothed mean");
@@ -508,7 +541,7 @@ static void places(int which)
     count(answer.d_diffuse, 0, "d_diffuse");
     count(answer.heard, 1, "heard");
     count(answer.news, 1, "news");
-    if (which == FILTER) return;
+    if (which != SMOOTH) return;
     all_same(sm_mean, want_mean, 2, "sm_mean");
     all_same(sm_cov, want_cov, 4, "sm_cov");
 }
@@ -565,7 +598,7 @@ static void order(int which)
     count(answer.news, 1, "news");
 }
 
-/* The header's numbers are 01's. */
+/* The header's numbers are 01's and 02's. */
 static void numbers(void)
 {
     static const int in_order[] = {
@@ -575,6 +608,9 @@ static void numbers(void)
     int i;
     figure = "the header's numbers";
     for (i = 0; i < 13; i++) check(in_order[i] == i, "a refusal's number");
+    check(GOXUNDAR_BAD_SAVED == 15, "a refusal's number");
+    count(GOXUNDAR_SAVED_LEN(1), 144, "the length of a saved run, m = 1");
+    count(GOXUNDAR_SAVED_LEN(8), 2216, "the length of a saved run, m = 8");
 }
 
 /* Sizes at and beyond their ends, with counts that are right for nothing. */
@@ -596,7 +632,8 @@ static void dimensions(int which)
         ends(which, &k, GOXUNDAR_DIMENSION);
         k.r = 1;
         k.n = out[i] == 9 ? 4097 : out[i];
-        ends(which, &k, GOXUNDAR_DIMENSION);
+        /* a stretch may have 0 periods, and then a reading is one too many */
+        ends(which, &k, which == STRETCH && k.n == 0 ? GOXUNDAR_LENGTH : GOXUNDAR_DIMENSION);
     }
 }
 
@@ -622,10 +659,10 @@ static void lengths(int which)
         lend(&k);
         part[i].lent = part[i].needed;
         count(call(which, &k), GOXUNDAR_ANSWERED, part[i].name);
-        kept(which, GOXUNDAR_ANSWERED);
+        kept(which, &k, GOXUNDAR_ANSWERED);
         part[i].lent = part[i].needed - 1;
         count(call(which, &k), GOXUNDAR_LENGTH, part[i].name);
-        kept(which, GOXUNDAR_LENGTH);
+        kept(which, &k, GOXUNDAR_LENGTH);
     }
 }
 
@@ -661,6 +698,11 @@ static uint32_t all_null(int which, size_t size)
             size, size, size, size, NULL, 0, NULL, 0, NULL, 0, NULL, 0, NULL, 0, NULL, 0, NULL, 0, NULL, 0, NULL, 0, NULL, 0, NULL, 0, NULL, 0,
             NULL, 0, NULL, 0, NULL, 0, NULL, 0, NULL, 0, NULL, 0, NULL, 0, NULL, 0, NULL, 0, NULL, 0, NULL, 0,
             &answer.loglik, &answer.d_diffuse, &answer.heard, &answer.news);
+    if (which == STRETCH)
+        return goxundar_stretch(
+            size, size, size, size, NULL, 0, NULL, 0, NULL, 0, NULL, 0, NULL, 0, NULL, 0, NULL, 0, NULL, 0, NULL, 0, NULL, 0, NULL, 0, NULL, 0,
+            1, NULL, 0, 1, NULL, 0, NULL, 0, NULL, 0, NULL, 0, NULL, 0, NULL, 0, NULL, 0, NULL, 0, NULL, 0, NULL, 0, NULL, 0, NULL, 0,
+            &answer.loglik, &answer.d_diffuse, &answer.heard, &answer.news);
     return goxundar_smooth(
         size, size, size, size, NULL, 0, NULL, 0, NULL, 0, NULL, 0, NULL, 0, NULL, 0, NULL, 0, NULL, 0, NULL, 0, NULL, 0, NULL, 0, NULL, 0,
         NULL, 0, NULL, 0, NULL, 0, NULL, 0, NULL, 0, NULL, 0, NULL, 0, NULL, 0, NULL, 0, NULL, 0, NULL, 0, NULL, 0, NULL, 0,
@@ -688,22 +730,623 @@ static void nulls(int which)
     figure = "null for every part";
     mark_all();
     count(all_null(which, 0), GOXUNDAR_DIMENSION, "sizes 0");
-    kept(which, GOXUNDAR_DIMENSION);
+    kept(which, NULL, GOXUNDAR_DIMENSION);
     mark_all();
     count(all_null(which, (size_t)-1), GOXUNDAR_DIMENSION, "sizes that nothing can have");
-    kept(which, GOXUNDAR_DIMENSION);
+    kept(which, NULL, GOXUNDAR_DIMENSION);
     mark_all();
     count(all_null(which, 1), GOXUNDAR_LENGTH, "sizes 1");
-    kept(which, GOXUNDAR_LENGTH);
+    kept(which, NULL, GOXUNDAR_LENGTH);
     figure = "null for an empty part";
     null_design(0);
     null_design(1);
+}
+
+/* ---- runs in stretches */
+
+/* The next stretch begins the run, or goes on from these bytes; it is not the last, and lends what it must to save, and some more. */
+static void begins(const struct call *k)
+{
+    stretch.begins = 1;
+    stretch.last = 0;
+    stretch.saved = NULL;
+    stretch.saved_len = 0;
+    stretch.save_lent = GOXUNDAR_SAVED_LEN(k->m) + BEYOND;
+}
+
+static void goes_on(const struct call *k, const uint8_t *saved)
+{
+    begins(k);
+    stretch.begins = 0;
+    stretch.saved = saved;
+    stretch.saved_len = GOXUNDAR_SAVED_LEN(k->m);
+}
+
+/* The periods from..to of a call. */
+static void cut(struct call *to_run, const struct call *k, size_t from, size_t to)
+{
+    *to_run = *k;
+    to_run->n = to - from;
+    to_run->len[Y] = (to - from) * k->p;
+    memmove(to_run->y, k->y + from * k->p, to_run->len[Y] * sizeof *k->y);
+}
+
+/* What a call left: the outputs of the filter and the answer. */
+enum { KEPT = 4096 };
+static struct left {
+    unsigned char at[SM_MEAN][KEPT];
+    size_t needed[SM_MEAN];
+    struct answer answer;
+} uncut, prefix;
+
+static void keep(struct left *to)
+{
+    int i;
+    for (i = 0; i < SM_MEAN; i++) {
+        to->needed[i] = part[i].needed * part[i].size;
+        check(to->needed[i] <= KEPT, "room for what is kept");
+        memcpy(to->at[i], part[i].at, to->needed[i]);
+    }
+    to->answer = answer;
+}
+
+/* The outputs of the last call are those that were kept, from period t of n on. */
+static void as_kept(const struct left *want, size_t t, size_t n)
+{
+    int i;
+    for (i = 0; i < SM_MEAN; i++) {
+        size_t block = want->needed[i] / (i <= PRED_INF ? n + 1 : n);
+        size_t j, from = block * t, needed = part[i].needed * part[i].size;
+        count(from + needed, want->needed[i], part[i].name);
+        for (j = 0; j + part[i].size <= needed && from + needed == want->needed[i]; j += part[i].size) {
+            double got, wanted;
+            if (part[i].size == 1) {
+                count(((unsigned char *)part[i].at)[j], want->at[i][from + j], part[i].name);
+                continue;
+            }
+            memcpy(&got, (unsigned char *)part[i].at + j, sizeof got);
+            memcpy(&wanted, want->at[i] + from + j, sizeof wanted);
+            same(got, wanted, part[i].name);
+        }
+    }
+}
+
+static void answer_is(const struct answer *want)
+{
+    same(answer.loglik, want->loglik, "log-likelihood");
+    count(answer.d_diffuse, want->d_diffuse, "d_diffuse");
+    count(answer.heard, want->heard, "heard");
+    count(answer.news, want->news, "news");
+}
+
+/* Cut after each period: the first stretch is the filter over its periods, the second gives the rest of the uncut run. Cut after every period: what
+ * is saved is what one stretch saves. */
+static void cut_everywhere(const struct call *k)
+{
+    static struct call some;
+    static uint8_t saved[2][GOXUNDAR_SAVED_LEN(8)];
+    size_t length = GOXUNDAR_SAVED_LEN(k->m), t;
+    ends(FILTER, k, GOXUNDAR_ANSWERED);
+    keep(&uncut);
+    for (t = 0; t <= k->n; t++) {
+        /* a period more, from what was saved one period ago */
+        if (t > 0) {
+            cut(&some, k, t - 1, t);
+            goes_on(&some, saved[0]);
+            ends(STRETCH, &some, GOXUNDAR_ANSWERED);
+            memcpy(saved[1], save, length);
+        }
+        cut(&some, k, 0, t);
+        if (t > 0) {
+            ends(FILTER, &some, GOXUNDAR_ANSWERED);
+            keep(&prefix);
+        }
+        begins(&some);
+        ends(STRETCH, &some, GOXUNDAR_ANSWERED);
+        memcpy(saved[0], save, length);
+        if (t > 0) {
+            as_kept(&prefix, 0, t);
+            answer_is(&prefix.answer);
+            check(memcmp(saved[0], saved[1], length) == 0, "one run has one encoding");
+        }
+        cut(&some, k, t, k->n);
+        goes_on(&some, saved[0]);
+        stretch.last = 1;
+        ends(STRETCH, &some, GOXUNDAR_ANSWERED);
+        as_kept(&uncut, t, k->n);
+        answer_is(&uncut.answer);
+    }
+    whole();
+}
+
+/* README.md's level; bindings/c/example.c's crystal, with a second design from period 1 on: both inputs read twice the offset. */
+static void cuts(void)
+{
+    static const double z[] = {1, 0, 1, 1, 0, 1, 2, 0, 1, 2, 0, 1}, t[] = {1, 1, 0, 0, 1, 0, 0, 0, 0}, q[] = {0.04, 0.01, 25};
+    static const double y[] = {NAN, NAN, 212, NAN, NAN, NAN, 236.5, 236.5, NAN, 251, NAN, NAN, NAN, NAN, 288.5, 288.5, NAN, NAN, 313, NAN};
+    static struct call k;
+    size_t i;
+    figure = "the level in stretches";
+    plain(&k);
+    k.n = 3;
+    exact(&k);
+    k.y[0] = 2;
+    k.y[1] = NAN;
+    k.y[2] = 6;
+    cut_everywhere(&k);
+    figure = "the crystal in stretches";
+    memset(&k, 0, sizeof k);
+    k.p = 2;
+    k.m = k.r = 3;
+    k.n = 10;
+    exact(&k);
+    fill(k.zs, z, 12);
+    k.len[Z] = 0;
+    k.len[ZS] = 12;
+    fill(k.t, t, 9);
+    for (i = 0; i < 3; i++) {
+        k.rr[i * 4] = 1;
+        k.q[i * 4] = q[i];
+    }
+    k.p_star[8] = 25;
+    k.flags[0] = k.flags[1] = 1;
+    fill(k.y, y, 20);
+    cut_everywhere(&k);
+}
+
+/* The places of a saved run of one state. */
+enum { AT_P = 4, AT_M = 12, AT_R = 20, AT_DONE = 28, AT_MEAN = 40, AT_COV = 52, AT_INF = 64, AT_ROOT = 76, AT_UNRESOLVED = 88, AT_LOGLIK = 100,
+       AT_DIFFUSE = 112, AT_HEARD = 120, AT_NEWS = 128, AT_STATE = 136, ONE_STATE = 144 };
+static const size_t at_counts[] = {0, 36, 48, 60, 72, 84, 96, 108};
+static const size_t at_floats[] = {AT_MEAN, AT_COV, AT_INF, AT_ROOT, AT_UNRESOLVED, AT_LOGLIK};
+
+static void put(uint8_t *to, uint64_t number)
+{
+    int i;
+    for (i = 7; i >= 0; i--, number >>= 8) to[i] = (uint8_t)(number & 255);
+}
+
+static uint64_t bits_of(double x)
+{
+    uint64_t bits;
+    memcpy(&bits, &x, sizeof bits);
+    return bits;
+}
+
+/* Figure B's level after its first period, by document 02's rules. Mean and covariance are A's next predicted ones. The period's reading has taken
+ * the diffuse part and its root to 0; the matrix with nothing resolved is still 1. The next period's test is to come, so the diffuse state is 1. */
+static void level_after_one(uint8_t *to)
+{
+    static const uint8_t widths[] = {4, 1, 1, 1, 1, 1, 1, 4};
+    size_t i;
+    memset(to, 0, ONE_STATE);
+    for (i = 0; i < 8; i++) to[at_counts[i] + 3] = widths[i];
+    put(to + AT_P, 1);
+    put(to + AT_M, 1);
+    put(to + AT_R, 1);
+    put(to + AT_DONE, 1);
+    put(to + AT_MEAN, bits_of(2));
+    put(to + AT_COV, bits_of(3));
+    put(to + AT_UNRESOLVED, bits_of(1));
+    put(to + AT_LOGLIK, bits_of(-(0.5 * ln_2pi())));
+    put(to + AT_DIFFUSE, 1);
+    put(to + AT_HEARD, 1);
+    put(to + AT_NEWS, 1);
+    put(to + AT_STATE, 1);
+}
+
+static void the_bytes(void)
+{
+    static struct call k;
+    static uint8_t want[ONE_STATE];
+    figure = "the bytes";
+    level_after_one(want);
+    one_reading(&k, 2);
+    begins(&k);
+    ends(STRETCH, &k, GOXUNDAR_ANSWERED);
+    check(memcmp(save, want, ONE_STATE) == 0, "a period done");
+    /* figure B from them, its second reading alone; and a period more, in which nothing is diffuse any longer */
+    k.y[0] = 6;
+    goes_on(&k, want);
+    ends(STRETCH, &k, GOXUNDAR_ANSWERED);
+    record(0, GOXUNDAR_USUAL, 4, 4, 0);
+    same(filt_mean[0], 5, "filtered mean");
+    same(filt_cov[0], 0.75, "filtered covariance");
+    put(want + AT_DONE, 2);
+    put(want + AT_MEAN, bits_of(5));
+    put(want + AT_COV, bits_of(2.75));
+    put(want + AT_LOGLIK, bits_of(-(0.5 * ln_2pi()) - 0.5 * ((ln_2pi() + ln(4)) + 4.0 * 4 / 4)));
+    put(want + AT_HEARD, 2);
+    put(want + AT_NEWS, 2);
+    put(want + AT_STATE, 0);
+    check(memcmp(save, want, ONE_STATE) == 0, "two periods done");
+    whole();
+}
+
+/* No periods: the start is saved as it is; a saved run is saved again byte by byte; the last one answers with what was carried. */
+static void empty_stretches(void)
+{
+    static struct call k;
+    static uint8_t want[ONE_STATE];
+    figure = "a stretch of 0 periods";
+    plain(&k);
+    k.n = 0;
+    exact(&k);
+    begins(&k);
+    ends(STRETCH, &k, GOXUNDAR_ANSWERED);
+    level_after_one(want);
+    put(want + AT_DONE, 0);
+    put(want + AT_MEAN, 0);
+    put(want + AT_COV, 0);
+    put(want + AT_INF, bits_of(1)); /* the start: flagged, so P-infinity and its root are 1 */
+    put(want + AT_ROOT, bits_of(1));
+    put(want + AT_LOGLIK, 0);
+    put(want + AT_DIFFUSE, 0);
+    put(want + AT_HEARD, 0);
+    put(want + AT_NEWS, 0);
+    check(memcmp(save, want, ONE_STATE) == 0, "the start");
+    same(pred_mean[0], 0, "predicted mean");
+    same(pred_cov[0], 0, "predicted covariance");
+    same(pred_inf[0], 1, "predicted diffuse covariance");
+    count(answer.heard, 0, "heard");
+
+    level_after_one(want);
+    put(want + AT_INF, bits_of(-0.0)); /* what no run leaves is carried as it is too */
+    put(want + AT_ROOT, bits_of(-INFINITY));
+    put(want + AT_LOGLIK, 0x7FF8000000000000u);
+    goes_on(&k, want);
+    ends(STRETCH, &k, GOXUNDAR_ANSWERED);
+    check(memcmp(save, want, ONE_STATE) == 0, "loading then saving gives the same bytes");
+
+    level_after_one(want);
+    put(want + AT_INF, bits_of(1)); /* beside a diffuse state that is over: carried, and set to 0 by the next period */
+    put(want + AT_STATE, 0);
+    goes_on(&k, want);
+    ends(STRETCH, &k, GOXUNDAR_ANSWERED);
+    check(memcmp(save, want, ONE_STATE) == 0, "the diffuse state is carried as it is");
+    one_reading(&k, 6);
+    ends(STRETCH, &k, GOXUNDAR_ANSWERED);
+    same(pred_inf[0], 0, "diffuse covariance of this period");
+    record(0, GOXUNDAR_USUAL, 4, 4, 0);
+    count(answer.d_diffuse, 1, "d_diffuse");
+    plain(&k);
+    k.n = 0;
+    exact(&k);
+
+    level_after_one(want);
+    goes_on(&k, want);
+    stretch.last = 1;
+    ends(STRETCH, &k, GOXUNDAR_ANSWERED);
+    same(pred_mean[0], 2, "predicted mean");
+    same(pred_cov[0], 3, "predicted covariance");
+    same(answer.loglik, -(0.5 * ln_2pi()), "log-likelihood");
+    count(answer.d_diffuse, 1, "d_diffuse");
+    count(answer.heard, 1, "heard");
+    count(answer.news, 1, "news");
+
+    /* all of a run, with no period: the filter refuses that with 1 */
+    whole();
+    ends(STRETCH, &k, GOXUNDAR_ANSWERED);
+    same(pred_inf[0], 1, "predicted diffuse covariance");
+    ends(FILTER, &k, GOXUNDAR_DIMENSION);
+}
+
+/* Figure F, cut after its first period. Place 1 holds 2^-18, whose square is below 1e-10: the next stretch tests it, and its place 0 is 0. */
+static void untested_place(void)
+{
+    static struct call k, some;
+    static uint8_t saved[ONE_STATE];
+    figure = "F in stretches";
+    two_readings(&k, NAN, 2);
+    k.h[0] = 2;
+    k.t[0] = ldexp(1, -9);
+    cut(&some, &k, 0, 1);
+    begins(&some);
+    ends(STRETCH, &some, GOXUNDAR_ANSWERED);
+    same(pred_inf[1], ldexp(1, -18), "diffuse covariance of the next period, not tested");
+    memcpy(saved, save, ONE_STATE);
+    cut(&some, &k, 1, 2);
+    goes_on(&some, saved);
+    ends(STRETCH, &some, GOXUNDAR_ANSWERED);
+    same(pred_inf[0], 0, "diffuse covariance of this period");
+    count(answer.d_diffuse, 1, "d_diffuse");
+    same(filt_mean[0], 1, "second filtered mean");
+    same(filt_cov[0], 1, "second filtered covariance");
+    check(save[AT_STATE + 7] == 0, "the diffuse state that is saved");
+    whole();
+}
+
+/* The list of designs counts from the run's first period: the second stretch takes the second design, 0, as in the uncut run. */
+static void listed_from_the_first(void)
+{
+    static struct call k;
+    static uint8_t saved[ONE_STATE];
+    figure = "listed designs in stretches";
+    one_reading(&k, 2);
+    k.zs[0] = 1;
+    k.zs[1] = 0;
+    k.len[Z] = 0;
+    k.len[ZS] = 2;
+    begins(&k);
+    ends(STRETCH, &k, GOXUNDAR_ANSWERED);
+    memcpy(saved, save, ONE_STATE);
+    k.y[0] = 6;
+    goes_on(&k, saved);
+    ends(STRETCH, &k, GOXUNDAR_ANSWERED);
+    record(0, GOXUNDAR_USUAL, 6, 1, 0);
+    whole();
+}
+
+static void room_to_save(void)
+{
+    static struct call k;
+    size_t lent;
+    figure = "room to save";
+    for (lent = 0; lent < ONE_STATE; lent++) {
+        one_reading(&k, 2);
+        begins(&k);
+        stretch.save_lent = lent;
+        ends(STRETCH, &k, GOXUNDAR_LENGTH);
+    }
+    stretch.save_lent = ONE_STATE;
+    ends(STRETCH, &k, GOXUNDAR_ANSWERED);
+    for (lent = 0; lent <= ONE_STATE; lent += ONE_STATE / 4) { /* the last one needs none, and writes none */
+        whole();
+        stretch.save_lent = lent;
+        ends(STRETCH, &k, GOXUNDAR_ANSWERED);
+    }
+    whole();
+}
+
+/* Any byte but 0 is yes. A run that begins is given no bytes, whatever they are. */
+static void markers(void)
+{
+    static const uint8_t yes[] = {1, 2, 0x80, 255};
+    static struct call k;
+    static uint8_t saved[ONE_STATE];
+    size_t i;
+    figure = "the markers";
+    level_after_one(saved);
+    for (i = 0; i < sizeof yes; i++) {
+        one_reading(&k, 2);
+        begins(&k);
+        stretch.begins = yes[i];
+        ends(STRETCH, &k, GOXUNDAR_ANSWERED);
+        check(memcmp(save, saved, ONE_STATE) == 0, "it begins");
+        stretch.last = yes[i];
+        ends(STRETCH, &k, GOXUNDAR_ANSWERED); /* saves nothing */
+        stretch.saved = saved;
+        stretch.saved_len = ONE_STATE;
+        ends(STRETCH, &k, GOXUNDAR_BAD_SAVED);
+        stretch.saved_len = 1;
+        ends(STRETCH, &k, GOXUNDAR_BAD_SAVED);
+    }
+    whole();
+}
+
+/* A run that goes on does not use the start, and refuses a bad one all the same. */
+static void start_not_used(void)
+{
+    static struct call k;
+    static uint8_t saved[ONE_STATE];
+    figure = "the start of a run that goes on";
+    level_after_one(saved);
+    one_reading(&k, 6);
+    goes_on(&k, saved);
+    k.flags[0] = 0;
+    k.a1[0] = 100;
+    k.p_star[0] = 50;
+    ends(STRETCH, &k, GOXUNDAR_ANSWERED);
+    same(pred_mean[0], 2, "predicted mean");
+    same(pred_cov[0], 3, "predicted covariance");
+    same(filt_mean[0], 5, "filtered mean");
+    k.flags[0] = 1;
+    ends(STRETCH, &k, GOXUNDAR_START_SHAPE);
+    k.a1[0] = INFINITY;
+    ends(STRETCH, &k, GOXUNDAR_NON_FINITE_START);
+    whole();
+}
+
+static void number_at(const struct call *k, uint8_t *saved, size_t at, uint64_t number, uint32_t want)
+{
+    uint8_t before[8];
+    memcpy(before, saved + at, 8);
+    put(saved + at, number);
+    ends(STRETCH, k, want);
+    memcpy(saved + at, before, 8);
+}
+
+/* Refusal 15, cause by cause, on two inputs and one state with five periods done: at each bound, beyond it, and in the highest byte. */
+static void bad_saved(void)
+{
+    static struct call k;
+    static uint8_t saved[ONE_STATE + 1];
+    const uint64_t high = (uint64_t)1 << 56;
+    size_t i;
+    two_inputs(&k, 2, 7);
+    level_after_one(saved);
+    put(saved + AT_P, 2);
+    put(saved + AT_DONE, 5);
+    goes_on(&k, saved);
+    figure = "a saved run that is good";
+    ends(STRETCH, &k, GOXUNDAR_ANSWERED);
+
+    figure = "a saved run's length";
+    for (i = 0; i <= ONE_STATE + 1; i++) {
+        stretch.saved_len = i;
+        ends(STRETCH, &k, i == ONE_STATE ? GOXUNDAR_ANSWERED : GOXUNDAR_BAD_SAVED);
+    }
+    goes_on(&k, saved);
+
+    figure = "a section's count";
+    for (i = 0; i < 8; i++) {
+        size_t at;
+        for (at = at_counts[i]; at < at_counts[i] + 4; at++) {
+            saved[at]++;
+            ends(STRETCH, &k, GOXUNDAR_BAD_SAVED);
+            saved[at]--;
+        }
+    }
+
+    figure = "a saved run's sizes";
+    for (i = 0; i < 3; i++) {
+        static const size_t at[] = {AT_P, AT_M, AT_R};
+        uint64_t right = i == 0 ? 2 : 1;
+        number_at(&k, saved, at[i], right - 1, GOXUNDAR_BAD_SAVED);
+        number_at(&k, saved, at[i], right + 1, GOXUNDAR_BAD_SAVED);
+        number_at(&k, saved, at[i], right + high, GOXUNDAR_BAD_SAVED);
+    }
+
+    figure = "periods done and to do";
+    number_at(&k, saved, AT_DONE, 4095, GOXUNDAR_ANSWERED);
+    number_at(&k, saved, AT_DONE, 4096, GOXUNDAR_BAD_SAVED);
+    number_at(&k, saved, AT_DONE, (uint64_t)-1, GOXUNDAR_BAD_SAVED);
+    number_at(&k, saved, AT_DONE, 5 + high, GOXUNDAR_BAD_SAVED);
+    k.n = 0;
+    exact(&k);
+    number_at(&k, saved, AT_DONE, 4096, GOXUNDAR_ANSWERED);
+    number_at(&k, saved, AT_DONE, 4097, GOXUNDAR_BAD_SAVED);
+    k.n = 1;
+    exact(&k);
+
+    figure = "a tally out of range";
+    number_at(&k, saved, AT_DIFFUSE, 5, GOXUNDAR_ANSWERED);
+    number_at(&k, saved, AT_DIFFUSE, 6, GOXUNDAR_BAD_SAVED);
+    number_at(&k, saved, AT_DIFFUSE, high, GOXUNDAR_BAD_SAVED);
+    number_at(&k, saved, AT_HEARD, 10, GOXUNDAR_ANSWERED);
+    number_at(&k, saved, AT_HEARD, 11, GOXUNDAR_BAD_SAVED);
+    number_at(&k, saved, AT_HEARD, high, GOXUNDAR_BAD_SAVED);
+    number_at(&k, saved, AT_HEARD, 0, GOXUNDAR_BAD_SAVED); /* below its news, 1 */
+    number_at(&k, saved, AT_NEWS, 0, GOXUNDAR_ANSWERED);
+    number_at(&k, saved, AT_NEWS, 2, GOXUNDAR_BAD_SAVED);
+    number_at(&k, saved, AT_NEWS, high, GOXUNDAR_BAD_SAVED);
+    number_at(&k, saved, AT_STATE, 0, GOXUNDAR_ANSWERED);
+    number_at(&k, saved, AT_STATE, 2, GOXUNDAR_BAD_SAVED);
+    number_at(&k, saved, AT_STATE, 1 + high, GOXUNDAR_BAD_SAVED);
+
+    figure = "a saved double";
+    for (i = 0; i < 6; i++) {
+        number_at(&k, saved, at_floats[i], 0x7FF8000000000000u, GOXUNDAR_ANSWERED);
+        number_at(&k, saved, at_floats[i], 0x7FF0000000000000u, GOXUNDAR_ANSWERED); /* the infinities */
+        number_at(&k, saved, at_floats[i], 0xFFF0000000000000u, GOXUNDAR_ANSWERED);
+        number_at(&k, saved, at_floats[i], 0x8000000000000000u, GOXUNDAR_ANSWERED);
+        number_at(&k, saved, at_floats[i], 0xFFF8000000000000u, GOXUNDAR_BAD_SAVED);
+        number_at(&k, saved, at_floats[i], 0x7FF8000000000001u, GOXUNDAR_BAD_SAVED);
+        number_at(&k, saved, at_floats[i], 0x7FF0000000000001u, GOXUNDAR_BAD_SAVED);
+        number_at(&k, saved, at_floats[i], (uint64_t)-1, GOXUNDAR_BAD_SAVED);
+    }
+    whole();
+}
+
+/* Refusal 12 is judged in the last stretch, over what was carried, and blanks what that one lent. Figure I's reading is heard, and no news. */
+static void judged_last(void)
+{
+    static struct call k;
+    static uint8_t saved[ONE_STATE];
+    int i;
+    size_t j;
+    figure = "I in stretches";
+    one_reading(&k, 1);
+    k.flags[0] = 0;
+    k.h[0] = 0;
+    begins(&k);
+    ends(STRETCH, &k, GOXUNDAR_ANSWERED); /* not the last */
+    count(answer.heard, 1, "heard");
+    count(answer.news, 0, "news");
+    memcpy(saved, save, ONE_STATE);
+    k.y[0] = NAN;
+    goes_on(&k, saved);
+    ends(STRETCH, &k, GOXUNDAR_ANSWERED);
+    for (k.n = 0; k.n < 2; k.n++) { /* a gap more, and nothing more */
+        exact(&k);
+        goes_on(&k, saved);
+        stretch.last = 1;
+        ends(STRETCH, &k, GOXUNDAR_NO_INFORMATION);
+        for (i = 0; i < SM_MEAN; i++)
+            for (j = 0; j < part[i].needed * part[i].size; j++) check(((unsigned char *)part[i].at)[j] == 0, part[i].name);
+    }
+    k.n = 1;
+    exact(&k);
+    k.y[0] = 5; /* the level has moved by Q since, so this one is news */
+    goes_on(&k, saved);
+    stretch.last = 1;
+    ends(STRETCH, &k, GOXUNDAR_ANSWERED);
+    count(answer.heard, 2, "heard");
+    count(answer.news, 1, "news");
+    /* a stretch without news of its own is answered where an earlier one had some; nothing moves, so the second reading is none */
+    figure = "no news in the last stretch";
+    one_reading(&k, 1);
+    k.h[0] = k.q[0] = 0;
+    begins(&k);
+    ends(STRETCH, &k, GOXUNDAR_ANSWERED);
+    memcpy(saved, save, ONE_STATE);
+    goes_on(&k, saved);
+    stretch.last = 1;
+    ends(STRETCH, &k, GOXUNDAR_ANSWERED);
+    record(0, GOXUNDAR_SKIPPED, 0, 0, 0);
+    count(answer.heard, 2, "heard");
+    count(answer.news, 1, "news");
+    whole();
+}
+
+/* 15 stands after 11 and before 12; a save that is too short is 2. One call breaks all of these, and they are mended one by one. */
+static void late_order(void)
+{
+    static struct call k;
+    static uint8_t saved[ONE_STATE];
+    figure = "the order of the late refusals";
+    one_reading(&k, 1);
+    k.flags[0] = 0;
+    k.h[0] = 0;
+    begins(&k);
+    ends(STRETCH, &k, GOXUNDAR_ANSWERED);
+    memcpy(saved, save, ONE_STATE);
+    k.n = 4097;      /* 1 */
+    k.rr[0] = 1e200; /* 11: its square overflows */
+    k.y[0] = NAN;
+    goes_on(&k, saved);
+    saved[0] = 1;                      /* 15 */
+    stretch.save_lent = ONE_STATE - 1; /* 2 */
+    ends(STRETCH, &k, GOXUNDAR_DIMENSION);
+    k.n = 1;
+    ends(STRETCH, &k, GOXUNDAR_LENGTH);
+    stretch.last = 1; /* it needs none */
+    ends(STRETCH, &k, GOXUNDAR_NON_FINITE_NOISE);
+    k.rr[0] = 1;
+    ends(STRETCH, &k, GOXUNDAR_BAD_SAVED);
+    saved[0] = 0;
+    ends(STRETCH, &k, GOXUNDAR_NO_INFORMATION);
+    stretch.last = 0;
+    stretch.save_lent = ONE_STATE;
+    ends(STRETCH, &k, GOXUNDAR_ANSWERED);
+    whole();
+}
+
+/* A null for saved and for save, where their counts are 0: figure A begins and ends a run; a run that goes on from nothing is refused. */
+static void null_saved(void)
+{
+    static const double one = 1, zero = 0, two = 2;
+    static const uint8_t flag = 1;
+    int goes;
+    figure = "null for saved and save";
+    for (goes = 0; goes < 2; goes++) {
+        uint32_t refusal;
+        mark_all();
+        refusal = goxundar_stretch(
+            1, 1, 1, 1, &one, 1, NULL, 0, &one, 1, &one, 1, &one, 1, &two, 1, &zero, 1, &zero, 1, &zero, 1, &zero, 1, &flag, 1, &two, 1,
+            (uint8_t)!goes, NULL, 0, 1,
+            pred_mean, 2, pred_cov, 2, pred_inf, 2, filt_mean, 1, filt_cov, 1, kinds, 1, v, 1, f_star, 1, f_inf, 1, m_star, 1, m_inf, 1,
+            NULL, 0, &answer.loglik, &answer.d_diffuse, &answer.heard, &answer.news);
+        count(refusal, goes ? GOXUNDAR_BAD_SAVED : GOXUNDAR_ANSWERED, "the refusal");
+        if (!goes) record(0, GOXUNDAR_DIFFUSE, 2, 1, 1);
+    }
 }
 
 int main(void)
 {
     int which;
     numbers();
+    whole();
     for (which = 0; which < CALLS; which++) {
         a_and_k(which);
         b_and_c(which);
@@ -718,6 +1361,18 @@ int main(void)
         designs(which);
         nulls(which);
     }
+    cuts();
+    the_bytes();
+    empty_stretches();
+    untested_place();
+    listed_from_the_first();
+    room_to_save();
+    markers();
+    start_not_used();
+    bad_saved();
+    judged_last();
+    late_order();
+    null_saved();
     printf("%lu checks, %lu failed\n", checks, failed);
     return failed == 0 ? 0 : 1;
 }

@@ -1,4 +1,4 @@
-//! The two calls on lent slices: nothing is allocated, nothing is checked here, and all that is lent reaches the library as it is.
+//! The calls on lent slices: nothing is allocated, nothing is checked here, and all that is lent reaches the library as it is.
 //!
 //! Matrices are row by row. Inputs have exact lengths; outputs are at least as long as [`Lengths`] says, and the rest of them stays as it was.
 
@@ -19,7 +19,7 @@ pub struct Inputs<'a> {
     pub m: usize,
     /// Disturbances. 1 to 8.
     pub r: usize,
-    /// Periods. 1 to 4096.
+    /// Periods. 1 to 4096; of a stretch 0 to 4096.
     pub n: usize,
     /// p·m: the constant design, or empty.
     pub z: &'a [f64],
@@ -96,7 +96,8 @@ pub struct Answer {
     pub news: usize,
 }
 
-/// The needed lengths of the outputs. All are 0 where a size is out of its range: the call is refused, and writes nothing.
+/// The needed lengths of the outputs. All are 0 where a size is out of its range: the call is refused, and writes nothing. 0 periods are in range,
+/// for [`stretch`].
 #[derive(Debug, Clone, Copy, PartialEq, Eq, Default)]
 pub struct Lengths {
     /// Of `pred_mean`: (n+1)·m.
@@ -118,11 +119,38 @@ impl Lengths {
     pub fn needed(p: usize, m: usize, n: usize) -> Lengths {
         let size = 1..=MAX_SIZE;
         // Beyond these ranges a product may overflow.
-        if !(size.contains(&p) && size.contains(&m) && (1..=MAX_PERIODS).contains(&n)) {
+        if !(size.contains(&p) && size.contains(&m) && n <= MAX_PERIODS) {
             return Lengths::default();
         }
         Lengths { pred_mean: (n + 1) * m, pred_cov: (n + 1) * m * m, mean: n * m, cov: n * m * m, record: n * p, gain: n * p * m }
     }
+}
+
+/// How many bytes a saved run of m states has: 144 for one state, 2216 for eight. 0 where m is out of its range: the call is refused, and writes
+/// nothing.
+pub fn saved_len(m: usize) -> usize {
+    match m {
+        1..=MAX_SIZE => 104 + 8 * m + 32 * m * m,
+        _ => 0,
+    }
+}
+
+/// Where a stretch goes on from.
+#[derive(Debug, Clone, Copy)]
+pub enum Origin<'a> {
+    /// The run begins: from the start that the inputs have.
+    Start,
+    /// What an earlier stretch has saved: [`saved_len`] bytes. Any fault of them is [`Refusal::BadSaved`], no bytes at all too.
+    Saved(&'a [u8]),
+}
+
+/// What follows on a stretch.
+#[derive(Debug)]
+pub enum Ending<'a> {
+    /// Another one, later: the run is saved here, in [`saved_len`] bytes. What is lent beyond stays as it was. Fewer are [`Refusal::Length`].
+    Save(&'a mut [u8]),
+    /// Nothing: this is the run's last. It alone is judged for [`Refusal::NoInformation`], over all readings of the run.
+    Last,
 }
 
 /// The filter.
@@ -259,9 +287,89 @@ pub fn smooth(i: &Inputs<'_>, o: &mut Outputs<'_>, s: &mut SmoothedOutputs<'_>) 
     outcome(number, a)
 }
 
+/// The filter, over the next n periods of a run. `i.y` has the readings of these alone. The rest is the run's, the same in every stretch: a list `zs`
+/// counts from the run's first period, and the start is checked each time and used at [`Origin::Start`]. The answer is since the run began.
+pub fn stretch(i: &Inputs<'_>, from: Origin<'_>, o: &mut Outputs<'_>, then: Ending<'_>) -> Result<Answer, Refusal> {
+    let mut a = Answer::default();
+    let (begins, saved): (u8, &[u8]) = match from {
+        Origin::Start => (1, &[]),
+        Origin::Saved(bytes) => (0, bytes),
+    };
+    let (last, save): (u8, &mut [u8]) = match then {
+        Ending::Save(bytes) => (0, bytes),
+        Ending::Last => (1, &mut []),
+    };
+    // Safety: as above.
+    let number = unsafe {
+        raw::goxundar_stretch(
+            i.p,
+            i.m,
+            i.r,
+            i.n,
+            i.z.as_ptr(),
+            i.z.len(),
+            i.zs.as_ptr(),
+            i.zs.len(),
+            i.h.as_ptr(),
+            i.h.len(),
+            i.t.as_ptr(),
+            i.t.len(),
+            i.rr.as_ptr(),
+            i.rr.len(),
+            i.q.as_ptr(),
+            i.q.len(),
+            i.c.as_ptr(),
+            i.c.len(),
+            i.d.as_ptr(),
+            i.d.len(),
+            i.a1.as_ptr(),
+            i.a1.len(),
+            i.p_star.as_ptr(),
+            i.p_star.len(),
+            i.flags.as_ptr(),
+            i.flags.len(),
+            i.y.as_ptr(),
+            i.y.len(),
+            begins,
+            saved.as_ptr(),
+            saved.len(),
+            last,
+            o.pred_mean.as_mut_ptr(),
+            o.pred_mean.len(),
+            o.pred_cov.as_mut_ptr(),
+            o.pred_cov.len(),
+            o.pred_inf.as_mut_ptr(),
+            o.pred_inf.len(),
+            o.filt_mean.as_mut_ptr(),
+            o.filt_mean.len(),
+            o.filt_cov.as_mut_ptr(),
+            o.filt_cov.len(),
+            o.kinds.as_mut_ptr(),
+            o.kinds.len(),
+            o.v.as_mut_ptr(),
+            o.v.len(),
+            o.f_star.as_mut_ptr(),
+            o.f_star.len(),
+            o.f_inf.as_mut_ptr(),
+            o.f_inf.len(),
+            o.m_star.as_mut_ptr(),
+            o.m_star.len(),
+            o.m_inf.as_mut_ptr(),
+            o.m_inf.len(),
+            save.as_mut_ptr(),
+            save.len(),
+            &mut a.loglik,
+            &mut a.d_diffuse,
+            &mut a.heard,
+            &mut a.news,
+        )
+    };
+    outcome(number, a)
+}
+
 fn outcome(number: u32, answer: Answer) -> Result<Answer, Refusal> {
     match number {
         0 => Ok(answer),
-        _ => Err(Refusal::from_number(number).expect("the library returns 0 to 12")),
+        _ => Err(Refusal::from_number(number).expect("the library returns 0, or a refusal's number")),
     }
 }

@@ -4,7 +4,7 @@
 //! noise. [`filter`] goes through the periods in order, and estimates the states from the readings so far. [`smooth`] goes back too, and estimates
 //! them from all readings. Each estimate is a mean with its covariance. A missing reading is a NaN.
 //!
-//! Every call ends with an answer or one of twelve [`Refusal`]s, whatever is passed. No caller checks first.
+//! Every call ends with an answer or a [`Refusal`], whatever is passed. No caller checks first.
 //!
 //! ```
 //! use goxundar::{smooth, Design, Model, Record};
@@ -32,7 +32,9 @@
 //! The values of readings reach no covariance, variance or count, nor which readings are used. So accuracy tables can be drawn up before there is
 //! any reading.
 //!
-//! [`Model`], [`Run`] and [`Smoothed`] own what they hold. [`lent`] has the same two calls on slices, and allocates nothing; [`raw`] has the
+//! A run can be cut after any period, and carried over a power cycle as bytes: [`begin`], then [`Saved::resume`] and [`Saved::finish`].
+//!
+//! [`Model`], [`Run`], [`Smoothed`] and [`Saved`] own what they hold. [`lent`] has the same calls on slices, and allocates nothing; [`raw`] has the
 //! library's functions as C has them.
 //!
 //! To link it, name the library when building: `GOXUNDAR_ARCHIVE`, a file or the folder of libgoxundar.a.
@@ -46,7 +48,9 @@ pub mod raw;
 mod model;
 mod refusal;
 mod run;
+mod saved;
 
 pub use model::{Design, Model};
 pub use refusal::Refusal;
 pub use run::{filter, smooth, Moments, Predicted, Record, Run, Smoothed};
+pub use saved::{begin, Saved};

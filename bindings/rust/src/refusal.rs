@@ -1,9 +1,9 @@
-//! The twelve refusals.
+//! The refusals.
 
 use std::error::Error;
 use std::fmt;
 
-/// Why a call was refused: the first that applies, in this order. The numbers are the library's.
+/// Why a call was refused: the first that applies, in this order, but for 15, which is judged before 12. The numbers are the library's.
 ///
 /// ```
 /// use goxundar::Refusal;
@@ -15,7 +15,7 @@ use std::fmt;
 #[derive(Debug, Clone, Copy, PartialEq, Eq, PartialOrd, Ord, Hash)]
 #[repr(u32)]
 pub enum Refusal {
-    /// p, m or r is not 1 to 8, or n not 1 to 4096.
+    /// p, m or r is not 1 to 8, or n not 1 to 4096 (in a stretch of a run 0 to 4096).
     Dimension = 1,
     /// An input has not its exact length, an output is too short, or not exactly one of the constant design and the list of designs is given.
     Length = 2,
@@ -38,13 +38,16 @@ pub enum Refusal {
     MixedDriven = 10,
     /// R·Q·R', symmetrised, has an entry that is not finite.
     NonFiniteNoise = 11,
-    /// There are readings, and none of them is news.
+    /// There are readings, and none of them is news. Of a run in stretches it is judged in the last one, over all its readings.
     NoInformation = 12,
+    /// The saved bytes are not a run that can go on here: their length or a section's count is wrong; p, m or r is not the call's; the periods done
+    /// and n are above 4096 together; a tally is out of its range; or a NaN has other bits than 0x7FF8000000000000.
+    BadSaved = 15,
 }
 
 impl Refusal {
-    /// All of them, in order.
-    pub const ALL: [Refusal; 12] = [
+    /// All of them, by their numbers.
+    pub const ALL: [Refusal; 13] = [
         Refusal::Dimension,
         Refusal::Length,
         Refusal::NonFiniteSystem,
@@ -57,14 +60,15 @@ impl Refusal {
         Refusal::MixedDriven,
         Refusal::NonFiniteNoise,
         Refusal::NoInformation,
+        Refusal::BadSaved,
     ];
 
-    /// Its number, 1 to 12.
+    /// Its number, 1 to 12 or 15.
     pub fn number(self) -> u32 {
         self as u32
     }
 
-    /// The refusal of that number. None for 0, an answer, and above 12.
+    /// The refusal of that number. None for 0, an answer, and where no refusal has it.
     pub fn from_number(number: u32) -> Option<Refusal> {
         Refusal::ALL.into_iter().find(|k| k.number() == number)
     }
@@ -85,6 +89,7 @@ impl fmt::Display for Refusal {
             Refusal::MixedDriven => "T leads from a flagged state into an unflagged one",
             Refusal::NonFiniteNoise => "R·Q·R' has an entry that is not finite",
             Refusal::NoInformation => "there are readings, and none of them is news",
+            Refusal::BadSaved => "the saved bytes are damaged, of another model's sizes, or of a run with too many periods",
         })
     }
 }

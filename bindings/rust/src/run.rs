@@ -1,6 +1,6 @@
 //! The calls, and what they answer and write: owned, with a view for each period.
 
-use crate::lent::{self, Answer, Lengths, Outputs, SmoothedOutputs};
+use crate::lent::{self, Answer, Ending, Lengths, Origin, Outputs, SmoothedOutputs};
 use crate::{Model, Refusal};
 
 /// A mean and its covariance, of m states.
@@ -107,7 +107,9 @@ fn block(part: &[f64], k: usize, long: usize) -> &[f64] {
     &part[k * long..(k + 1) * long]
 }
 
-/// What a filter's call answered and wrote.
+/// What a filter's call answered and wrote, or a stretch's.
+///
+/// Of a stretch, n is its own count of periods, and period 0 its first; the log-likelihood and the counts are since the run began.
 ///
 /// Its views are by period, from 0, and panic as an index does where there is no such period.
 #[derive(Debug, Clone)]
@@ -156,7 +158,8 @@ impl Run {
         self.answer.news
     }
 
-    /// What is predicted for period t, 0 to n: `predicted(n)` is the forecast after the last one.
+    /// What is predicted for period t, 0 to n: `predicted(n)` is the forecast after the last one. Where the run goes on, its diffuse part has not
+    /// been tested yet, and the next stretch's `predicted(0)`, which has, may have 0 in its place.
     pub fn predicted(&self, t: usize) -> Predicted<'_> {
         Predicted {
             mean: block(&self.parts.pred_mean, t, self.m),
@@ -270,4 +273,13 @@ pub fn smooth(model: &Model, n: usize, readings: &[f64]) -> Result<Smoothed, Ref
     let mut back = SmoothedOutputs { sm_mean: &mut sm_mean, sm_cov: &mut sm_cov };
     let answer = lent::smooth(&model.inputs(n, &model.flags(), readings), &mut parts.lend(), &mut back)?;
     Ok(Smoothed { run: Run { p: model.p, m: model.m, n, answer, parts }, sm_mean, sm_cov })
+}
+
+/// Runs a stretch of n periods. What it saves is handed back where it is not the last.
+pub(crate) fn stretch(model: &Model, from: Origin<'_>, n: usize, readings: &[f64], last: bool) -> Result<(Run, Vec<u8>), Refusal> {
+    let mut parts = Parts::new(Lengths::needed(model.p, model.m, n));
+    let mut save = vec![0; if last { 0 } else { lent::saved_len(model.m) }];
+    let then = if last { Ending::Last } else { Ending::Save(&mut save) };
+    let answer = lent::stretch(&model.inputs(n, &model.flags(), readings), from, &mut parts.lend(), then)?;
+    Ok((Run { p: model.p, m: model.m, n, answer, parts }, save))
 }

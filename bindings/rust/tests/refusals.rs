@@ -168,13 +168,16 @@ fn empty_parts() {
 
 #[test]
 fn numbers_and_words() {
-    for (k, refusal) in Refusal::ALL.into_iter().enumerate() {
-        assert_eq!(refusal.number(), k as u32 + 1);
-        assert_eq!(Refusal::from_number(k as u32 + 1), Some(refusal));
+    let numbers = [1, 2, 3, 4, 5, 6, 7, 8, 9, 10, 11, 12, 15];
+    assert_eq!(Refusal::ALL.map(Refusal::number), numbers);
+    for (number, refusal) in numbers.into_iter().zip(Refusal::ALL) {
+        assert_eq!(Refusal::from_number(number), Some(refusal));
         assert!(!refusal.to_string().is_empty());
     }
-    assert_eq!(Refusal::from_number(0), None);
-    assert_eq!(Refusal::from_number(13), None);
+    assert_eq!(Refusal::BadSaved.number(), 15);
+    for none in [0, 13, 14, 16, u32::MAX] {
+        assert_eq!(Refusal::from_number(none), None);
+    }
     let error: Box<dyn std::error::Error> = Box::new(Refusal::Length);
     assert_eq!(error.to_string(), Refusal::Length.to_string());
 }
