@@ -8,13 +8,13 @@ ghost use Rattle.model.specs.Places.{StartFits};
 ghost use Rattle.model.specs.Start.{covOf};
 ghost use Rattle.carried.specs.State.{StateFits, covFrom, covLaid, meanFrom, meanKept, Written};
 
-// k numbers of the state, from a place on.
-fn part(state: &[f64], from: usize, k: usize) -> [f64; 64]
+// k numbers of the state, from a place on, into the first places of an array.
+fn part(state: &[f64], from: usize, k: usize, out: &mut [f64; 64])
     requires { ⌜ (k ≤ 64) × (from ≤ 512) × (from + k ≤ length (now state)) ⌝ }
-    ensures { λ r. ⌜ vec k r ≡ take k (drop from (now (state .entry))) ⌝ }
+    ensures { λ _. ⌜ vec k (now (out .exit)) ≡ take k (drop from (now (state .entry))) ⌝ }
 {
     let to = from + k;
-    dense::load64(&state[from..to])
+    dense::fill64(out, &state[from..to]);
 }
 
 // The first k numbers of an array, into the state from a place on.
@@ -47,10 +47,10 @@ pub fn cov_from(
         return model::start(p_star, flags, m, star, p_inf, root, unres);
     }
     let mm = m * m;
-    *star = part(state, m, mm);
-    *p_inf = part(state, m + mm, mm);
-    *root = part(state, m + mm + mm, mm);
-    *unres = part(state, m + mm + mm + mm, mm);
+    part(state, m, mm, star);
+    part(state, m + mm, mm, p_inf);
+    part(state, m + mm + mm, mm, root);
+    part(state, m + mm + mm + mm, mm, unres);
     live
 }
 

@@ -199,13 +199,13 @@ module _ (p m n : ℕ) {r : List CovPeriod × Cov} {e : Ended} {p* p∞ b u s s�
       }
 
 -- the pass: the inputs as they were lent
-module _ (p m n : ℕ) (z zs : List Float) (gs : List (List Bool)) (h h′ t t′ r r′ : List Float) (c c′ : Cov) where
-  same-run : h′ ≡ h → t′ ≡ t → r′ ≡ r → c′ ≡ c → covRun (systemFrom p m z zs h′ t′ r′) 0 c′ gs ≡ covRun (systemFrom p m z zs h t r) 0 c gs
-  same-run a b e f = cc
+module _ (p m n : ℕ) (z zs : List Float) (gs : List (List Bool)) (h h′ t t′ r : List Float) (c c′ : Cov) where
+  same-run : h′ ≡ h → t′ ≡ t → c′ ≡ c → covRun (systemFrom p m z zs h′ t′ r) 0 c′ gs ≡ covRun (systemFrom p m z zs h t r) 0 c gs
+  same-run a b e = cc
 
   module _ {o : Ended} {p* p∞ w u s s′ : List Float} {pc₀ pc pi₀ pi fc₀ fc : List Float} {k₀ k : List ℕ} {fs₀ fs fi₀ fi ms₀ ms mi₀ mi : List Float} (pcb pib : List Float) where
-    pub finished : h′ ≡ h → t′ ≡ t → r′ ≡ r → c′ ≡ c → LoopedTo p m n (covRun (systemFrom p m z zs h′ t′ r′) 0 c′ gs) p* p∞ w u o pc₀ pc pi₀ pi fc₀ fc k₀ k fs₀ fs fi₀ fi ms₀ ms mi₀ mi
+    pub finished : h′ ≡ h → t′ ≡ t → c′ ≡ c → LoopedTo p m n (covRun (systemFrom p m z zs h′ t′ r) 0 c′ gs) p* p∞ w u o pc₀ pc pi₀ pi fc₀ fc k₀ k fs₀ fs fi₀ fi ms₀ ms mi₀ mi
         → {a b : ℕ} → a ≡ m * m → Saved a p* pcb → b ≡ m * m → Saved b p∞ pib → s′ ≡ covLaid m s (mat m p*) (mat m p∞) (mat m w) (mat m u)
         → Passed p m n (covRun (systemFrom p m z zs h t r) 0 c gs) o s s′ pc₀ (over n (m * m) pc pcb) pi₀ (over n (m * m) pi pib) fc₀ fc k₀ k fs₀ fs fi₀ fi ms₀ ms mi₀ mi
     unfolding rect
-    finished a b e f l ec wc ei wi q = passed p m n pcb pib (subst (λ (r : List CovPeriod × Cov). LoopedTo p m n r p* p∞ w u o pc₀ pc pi₀ pi fc₀ fc k₀ k fs₀ fs fi₀ fi ms₀ ms mi₀ mi) (same-run a b e f) l) (wc .kept ∙ ec) (saved ec wc) (wi .kept ∙ ei) (saved ei wi) q
+    finished a b e l ec wc ei wi q = passed p m n pcb pib (subst (λ (r : List CovPeriod × Cov). LoopedTo p m n r p* p∞ w u o pc₀ pc pi₀ pi fc₀ fc k₀ k fs₀ fs fi₀ fi ms₀ ms mi₀ mi) (same-run a b e) l) (wc .kept ∙ ec) (saved ec wc) (wi .kept ∙ ei) (saved ei wi) q

@@ -36,7 +36,7 @@ kept w e1 e2 e3 e4 e5 e6 e7 e8 =
     }
 
 -- the pass's inputs and outputs, for the loop
-pub periods : {p m r n listed z zs h t rr q p* flags y : ℕ} → Ready p m r n listed z zs h t rr q p* flags y → Periods p m n listed z zs y
+pub periods : {p m n listed z zs h t p* flags y : ℕ} → Ready p m n listed z zs h t p* flags y → Periods p m n listed z zs y
 periods g = record { n4096 = g .n4096; design = g .design; readings = g .readings }
 
 pub rooms : {p m n pc pi fc ks fs fi ms mi : ℕ} → Rooms p m n pc pi fc ks fs fi ms mi → Room p m n pc pi fc ks fs fi ms mi

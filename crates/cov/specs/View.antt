@@ -13,7 +13,7 @@ use Rattle.definition.specs.Outcome.{covWritten, kindsWritten}
 use Rattle.laws.specs.Passes.{Laid}
 use Rattle.dense.specs.Views.{mat}
 use Rattle.model.specs.Design.{DesignFits}
-use Rattle.model.specs.Places.{NoiseFits, StartFits}
+use Rattle.model.specs.Places.{StartFits}
 use Rattle.period.specs.Views.{stateOf}
 use Rattle.carried.specs.State.{covKept}
 use Rattle.cov.specs.declared.Ended.{Ended}
@@ -114,13 +114,12 @@ pub record LoopedTo (p m n : ℕ) (r : List CovPeriod × Cov) (p* p∞ b u : Lis
 
 -- ---- the pass
 
--- what a call that is past refusals 1 and 2 has for it: the lengths of Z, the listed Z, H, T, R, Q, P*, the flags and y
-pub record Ready (p m r n listed : ℕ) (z zs h t rr q p* flags y : ℕ) : Type 0 where
+-- what a call that is past refusals 1 and 2 has for it: the lengths of Z, the listed Z, H, T, P*, the flags and y
+pub record Ready (p m n listed : ℕ) (z zs h t p* flags y : ℕ) : Type 0 where
   pub n4096 : n ≤ 4096
   pub design : DesignFits p m z zs listed
   pub noise : h ≡ p * p
   pub transition : t ≡ m * m
-  pub disturbance : NoiseFits m r rr q
   pub start : StartFits m p* flags
   pub readings : y ≡ n * p
 

@@ -6,7 +6,7 @@ ghost use mathlib.Core.List.{map};
 ghost use Prim.Native.Nat.{_≤_, _*_, _+_};
 ghost use lib.ListN.{length};
 ghost use Rattle.definition.specs.Cov.{periodOf, covRun};
-ghost use Rattle.definition.specs.Inputs.{classOf, gapRows, systemFrom, noiseOf};
+ghost use Rattle.definition.specs.Inputs.{classOf, gapRows, systemFrom};
 ghost use Rattle.dense.specs.Views.{mat};
 ghost use Rattle.period.specs.Views.{stateOf, gapsOf};
 ghost use Rattle.carried.specs.State.{StateFits, covFrom};
@@ -273,14 +273,13 @@ fn cov_loop<'a>(
 
 // The covariance pass: the predicted, diffuse and filtered covariances and the records of n periods, and place n of the
 // predicted ones, in its own part too. It begins at the state that is lent, and leaves it as it is after the n periods; an
-// empty state: it begins at the start. `listed` is how many designs the list has.
+// empty state: it begins at the start. `rqr` is R Q R', symmetrised; `listed` is how many designs the list has.
 pub fn cov_pass<'a>(
     z: &'a [f64],
     zs: &'a [f64],
     h: &[f64],
     t: &[f64],
-    rr: &[f64],
-    q: &[f64],
+    rqr: &[f64; 64],
     p_star: &[f64],
     flags: &[u8],
     y: &[f64],
@@ -296,19 +295,18 @@ pub fn cov_pass<'a>(
     live: bool,
     p: usize,
     m: usize,
-    r: usize,
     n: usize,
     listed: usize,
 ) -> Ended
     requires { ⌜ StateFits m (length (now state))
-        × Ready p m r n listed (length (now z)) (length (now zs)) (length (now h)) (length (now t))
-        (length (now rr)) (length (now q)) (length (now «p_star»)) (length (now flags)) (length (now y))
+        × Ready p m n listed (length (now z)) (length (now zs)) (length (now h)) (length (now t))
+        (length (now «p_star»)) (length (now flags)) (length (now y))
         × Rooms p m n (length (now «pred_cov»)) (length (now «pred_inf»)) (length (now «filt_cov»))
         (length (now kinds)) (length (now «f_star»)) (length (now «f_inf»))
         (length (now «m_star»)) (length (now «m_inf»)) ⌝ }
     ensures { λ e. ⌜ Passed p m n
         (covRun (systemFrom p m (now (z .entry)) (now (zs .entry)) (now (h .entry)) (now (t .entry))
-        (noiseOf m r (now (rr .entry)) (now (q .entry)))) 0
+        (mat m (now (rqr .entry)))) 0
         (covFrom m (now (state .entry)) live (now («p_star» .entry)) (now (flags .entry)))
         (gapRows n p (map classOf (now (y .entry))))) e (now (state .entry)) (now (state .exit))
         (now («pred_cov» .entry)) (now («pred_cov» .exit)) (now («pred_inf» .entry)) (now («pred_inf» .exit))
@@ -318,7 +316,6 @@ pub fn cov_pass<'a>(
 {
     let hs = dense::load64(h);
     let tr = dense::load64(t);
-    let rqr = model::noise(rr, q, m, r);
     let mut star = [0.0; 64];
     let mut p_inf = [0.0; 64];
     let mut root = [0.0; 64];
@@ -352,7 +349,7 @@ pub fn cov_pass<'a>(
         zs,
         &hs,
         &tr,
-        &rqr,
+        rqr,
         y,
         p,
         m,

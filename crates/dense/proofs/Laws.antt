@@ -418,6 +418,12 @@ pub rect-zeros : (r c n : ℕ) → r * c ≤ n → rect r c (replicate n 0ᶠ) �
 unfolding rect vec
 rect-zeros r c n h = vec-zeros (r * c) n h
 
+-- a table of +0.0
+pub tab-zeros : (n k : ℕ) → tabFrom k n (λ i. 0ᶠ) ≡ zeros n
+unfolding tabFrom
+tab-zeros zero k = refl
+tab-zeros (suc n) k = ap (λ (l : List Float). 0ᶠ ∷ l) (tab-zeros n (suc k))
+
 -- ---- sums that leave terms out, and sums from a first value
 
 pub but-none : (o : ℕ → Bool) (f : ℕ → Float) → 0ᶠ ≡ sumBut 0 o f

@@ -1,4 +1,4 @@
--- The steps of the kernels that go column by column: what one column does, and what stands after the first j.
+-- The steps of the kernels that go column by column: what one column does, and what stands after the first j. And P + a b'.
 use Prim.Native.Nat.{ℕ}
 use mathlib.Core.Bool.{cond}
 use mathlib.Core.List.{List}
@@ -29,3 +29,7 @@ columnKept m p a b j i k = cond (eqb k j) (outerSubAt m p a b i k) (ent m p i k)
 
 unfoldable pub outerSubTo : ℕ → List Float → List Float → List Float → ℕ → ℕ → ℕ → Float
 outerSubTo m p a b j i k = cond (ltb k j) (outerSubAt m p a b i k) (ent m p i k)
+
+-- P + a b', nothing left out
+unfoldable pub outerMoreAt : ℕ → List Float → List Float → List Float → ℕ → ℕ → Float
+outerMoreAt m a b p i j = ent m p i j ⊕ at a i ⊗ at b j

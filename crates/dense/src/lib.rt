@@ -5,11 +5,11 @@ ghost use mathlib.Core.List.{List, _++_};
 ghost use Prim.Native.Nat.{_≤_, _<_, _+_, _*_};
 ghost use lib.Ieee.{Float};
 ghost use lib.ListN.{set, length};
-ghost use Rattle.definition.specs.Num.{_⊕_, _⊗_, isZero, tabulate, matrix, at, ent, sumFrom};
+ghost use Rattle.definition.specs.Num.{_⊕_, _⊗_, isZero, tabulate, matrix, zeros, at, ent, sumFrom};
 ghost use Rattle.definition.specs.Dense.{dot, axpy, over, scaled, row, matVec, matTVec, matTVecAt};
 ghost use Rattle.definition.specs.Dense.{outerSub, outerScaled, plus, minus, symmetrise, sqTerm, frobSq, absTerm, absColumn, absQuadForm};
 ghost use Rattle.dense.specs.Views.{vec, mat, rect};
-ghost use Rattle.dense.specs.Columns.{moreAt, moreKeptAt, columnLess, columnKept};
+ghost use Rattle.dense.specs.Columns.{moreAt, moreKeptAt, columnLess, columnKept, outerMoreAt};
 ghost use Rattle.dense.specs.Pairs.{meanOf, Paired};
 ghost use Rattle.dense.specs.Places.{Within, Cell, Saved};
 
@@ -198,6 +198,20 @@ pub fn outer_sub(p: &mut [f64; 64], a: &[f64; 8], b: &[f64; 8], m: usize)
     }
 }
 
+// P + a b', in place, nothing left out.
+pub fn outer_add(p: &mut [f64; 64], a: &[f64; 8], b: &[f64; 8], m: usize)
+    requires { ⌜ m ≤ 8 ⌝ }
+    ensures { λ _. ⌜ mat m (now (p .exit)) ≡ matrix m m (outerMoreAt m (vec m (now (a .entry))) (vec m (now (b .entry))) (mat m (now (p .entry)))) ⌝ }
+{
+    sized(p);
+    for i in 0..m {
+        for j in 0..m {
+            let v = get(p, m, i, j) + nth(a, m, i) * nth(b, m, j);
+            put(p, m, i, j, v);
+        }
+    }
+}
+
 // s a b', as (s a) b'.
 pub fn outer_scaled(a: &[f64; 8], b: &[f64; 8], s: f64, m: usize) -> [f64; 64]
     requires { ⌜ m ≤ 8 ⌝ }
@@ -272,6 +286,17 @@ pub fn symmetrize_in_place(p: &mut [f64; 64], m: usize)
     sized(p);
     for j in 0..m {
         mirror_column(p, m, j);
+    }
+}
+
+// All of P is 0.
+pub fn clear(p: &mut [f64; 64], m: usize)
+    requires { ⌜ m ≤ 8 ⌝ }
+    ensures { λ _. ⌜ mat m (now (p .exit)) ≡ zeros (m * m) ⌝ }
+{
+    sized(p);
+    for k in 0..m * m {
+        p[k] = 0.0;
     }
 }
 
@@ -400,10 +425,19 @@ pub fn load64(s: &[f64]) -> [f64; 64]
     ensures { λ r. ⌜ vec (length (now (s .entry))) r ≡ now (s .entry) ⌝ }
 {
     let mut out = [0.0; 64];
+    fill64(&mut out, s);
+    out
+}
+
+// The same, into an array that is there: what stands behind it stays.
+pub fn fill64(out: &mut [f64; 64], s: &[f64])
+    requires { ⌜ length (now s) ≤ 64 ⌝ }
+    ensures { λ _. ⌜ vec (length (now (s .entry))) (now (out .exit)) ≡ now (s .entry) ⌝ }
+{
+    sized(out);
     for i in 0..s.len() {
         out[i] = s[i];
     }
-    out
 }
 
 // The first places of an array, into a part of at most 8.

@@ -7,9 +7,10 @@ use mathlib.Core.List.{List, map}
 use lib.ListN.{length}
 use lib.Ieee.{Float}
 use Rattle.definition.specs.Run.{anyOf}
-use Rattle.definition.specs.Inputs.{Model, Offsets, Class, classOf, isInfinity}
+use Rattle.definition.specs.Inputs.{Model, Offsets, Class, classOf, isInfinity, noise}
 use Rattle.definition.specs.Outcome.{CovParts, MeanParts, Ending, turned, endingOf, ending, numberOf, roomy, outcome, outcomeAt}
 use Rattle.laws.specs.Accepted.{accepted}
+use Rattle.dense.specs.Views.{mat}
 use Rattle.model.specs.Lengths.{Room, by-room}
 use Rattle.forward.specs.View.{Fit, FitOn, fit-on}
 use Rattle.judged.specs.declared.Judged.{Judged}
@@ -42,11 +43,11 @@ module _ {x : Model} {o : Offsets} {y : List Float} {w : CovParts} {w′ : MeanP
   pub fit : k ≤ 0 → Fit x o (length y) w w′
   fit h = record { accepted = accepted x o (length y) (anyOf isInfinity (kinds y)) (roomy x w w′) (sym (ends.none h (e .number))) }
 
-  -- lent no state
-  pub fit-begun : {size : ℕ} → k ≤ 0 → size ≡ 0 → FitOn x o (length y) w w′ size ends.nothing
-  fit-begun h z =
+  -- lent no state, and R Q R' as the checks have left it
+  pub fit-begun : {rqr : List Float} {size : ℕ} → k ≤ 0 → size ≡ 0 → (k ≡ 0 → mat (x .m) rqr ≡ noise x) → FitOn x o (length y) rqr w w′ size ends.nothing
+  fit-begun h z q =
       let f = fit h in
-      fit-on f (record { m8 = f .accepted .sizes .m8; whole = λ some. absurd (some z) }) (record { diffuse = omega arith; heard = omega arith; news = omega arith })
+      fit-on f (q (omega arith)) (record { m8 = f .accepted .sizes .m8; whole = λ some. absurd (some z) }) (record { diffuse = omega arith; heard = omega arith; news = omega arith })
 
   pub told : {s s′ : List Float} {live : Bool} {g : Judged} {b : CovParts} {b′ : MeanParts} {r : Outcome} → k ≤ 0 → length s ≡ 0 → Went x o y s live ends.nothing true g s′ w b w′ b′ → r ≡ answerBy (numberOf (endingOf 0 (g .silent))) (g .answer) → Promise (outcome x o y w w′) r b b′
   told {g = g} none z v q =

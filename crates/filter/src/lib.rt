@@ -65,6 +65,7 @@ pub fn filter_univariate<'a>(
         m_star.len(),
         m_inf.len(),
     );
+    let mut rqr = [0.0; 64];
     let k = model::refusal(
         p,
         m,
@@ -83,6 +84,7 @@ pub fn filter_univariate<'a>(
         flags,
         y,
         room,
+        &mut rqr,
     );
     if 0 < k {
         return promise::Outcome::Refused(k);
@@ -100,6 +102,7 @@ pub fn filter_univariate<'a>(
         t,
         rr,
         q,
+        &rqr,
         c,
         d,
         a1,

@@ -1,5 +1,5 @@
 -- The two passes one after the other: what they may ask for, and that they leave the definition's run.
-use mathlib.Core.Path.{_≡_, refl, ap, _∙_, subst}
+use mathlib.Core.Path.{_≡_, ap, _∙_, subst}
 use Prim.Native.Nat.{ℕ, _+_, _*_, _/_, _≤_}
 use mathlib.Core.Bool.{Bool, not}
 use mathlib.Core.List.{List, map}
@@ -12,19 +12,20 @@ use Rattle.definition.specs.Run.{count, join, pairs, chunks}
 use Rattle.definition.specs.Cov.{Cov, CovPeriod, Decision, covRun}
 use Rattle.definition.specs.Mean.{Mean, MeanPeriod, meanRun}
 use Rattle.definition.specs.Parts.{CovPart, predCov, predInf, filtCov, fStar, fInf, mStar, mInf, MeanPart, predMean, filtMean, innovations, isNews, kindBlock}
-use Rattle.definition.specs.Inputs.{Model, Offsets, classOf, isGap, gapRows, noise, noiseOf, systemFrom, systemOf, frameFrom, frameOf}
+use Rattle.definition.specs.Inputs.{Model, Offsets, classOf, isGap, gapRows, noise, systemFrom, systemOf, frameFrom, frameOf}
 use Rattle.definition.specs.Outcome.{CovParts, MeanParts, kindsNeed, covNeed, meanNeed, kindsWritten, covWritten, meanWritten, decisionsOf, countsOf}
 use Rattle.laws.specs.Accepted.{as-long}
 use Rattle.laws.specs.Flat.{flatIn, decisionRows}
 use Rattle.laws.specs.Passes.{Laid, count-le}
 use Rattle.laws.specs.ReadBack.{rows-back, kinds-count}
 use Rattle.laws.specs.Shapes.{run-whole, run-length}
-use Rattle.model.specs.Past.{design-fits, noise-fits, start-fits}
+use Rattle.model.specs.Past.{design-fits, start-fits}
 use Rattle.carried.specs.State.{StateFits, covFrom, meanFrom, meanKept}
 use Rattle.carried.specs.Beside.{mean-beside}
 use Rattle.cov.specs.Counts.{isKept}
 use Rattle.cov.specs.declared.Ended.{Ended}
 use Rattle.cov.specs.View as covs
+use Rattle.dense.specs.Views.{mat}
 use Rattle.mean.specs.View as means
 use Rattle.promise.specs.declared.Answer.{Answer}
 use Rattle.promise.specs.Lent.{covParts, meanParts}
@@ -32,15 +33,14 @@ use Rattle.forward.specs.View.{FitOn, Few, Ran, countedOn, covOn, meanOn
 
 -- ---- what the passes may ask for
 
-module _ {x : Model} {o : Offsets} {y : ℕ} {w : CovParts} {w′ : MeanParts} {size : ℕ} {before : Answer} (f : FitOn x o y w w′ size before) where
-  pub cov-ready : {listed : ℕ} → listed ≡ length (x .zList) / (x .p * x .m) → covs.Ready (x .p) (x .m) (x .r) (x .n) listed (length (x .zOnce)) (length (x .zList)) (length (x .h)) (length (x .t)) (length (x .rr)) (length (x .q)) (length (x .pStar)) (length (x .flags)) y
+module _ {x : Model} {o : Offsets} {y : ℕ} {rqr : List Float} {w : CovParts} {w′ : MeanParts} {size : ℕ} {before : Answer} (f : FitOn x o y rqr w w′ size before) where
+  pub cov-ready : {listed : ℕ} → listed ≡ length (x .zList) / (x .p * x .m) → covs.Ready (x .p) (x .m) (x .n) listed (length (x .zOnce)) (length (x .zList)) (length (x .h)) (length (x .t)) (length (x .pStar)) (length (x .flags)) y
   cov-ready e =
       record {
         n4096 = f .sizes .n4096;
         design = design-fits (f .sizes) (f .inputs) e;
         noise = f .inputs .h;
         transition = f .inputs .t;
-        disturbance = noise-fits (f .sizes) (f .inputs);
         start = start-fits (f .sizes) (f .inputs);
         readings = f .readings;
       }
@@ -104,16 +104,16 @@ news-are k r ks₀ ks l =
     ap (count isKept) (ap (take k) (l .is) ∙ take-at (join (map kindBlock (r .0))) (drop (length (join (map kindBlock (r .0)))) ks₀) k (l .long)) ∙ kinds-count isKept (r .0)
 
 module _ (x : Model) (y s : List Float) (live : Bool) where
-  -- the covariance pass's run
-  abbrev covRan : List CovPeriod × Cov
-  covRan = covRun (systemFrom (x .p) (x .m) (x .zOnce) (x .zList) (x .h) (x .t) (noiseOf (x .m) (x .r) (x .rr) (x .q))) 0 (covFrom (x .m) s live (x .pStar) (x .flags)) (gapRows (x .n) (x .p) (map classOf y))
+  -- the covariance pass's run, by the R Q R' that it was handed
+  abbrev covRan : List Float → List CovPeriod × Cov
+  covRan rqr = covRun (systemFrom (x .p) (x .m) (x .zOnce) (x .zList) (x .h) (x .t) (mat (x .m) rqr)) 0 (covFrom (x .m) s live (x .pStar) (x .flags)) (gapRows (x .n) (x .p) (map classOf y))
 
   abbrev run : List CovPeriod × Cov
   run = covOn x s live (map classOf y)
 
-  cov-run : covRan ≡ run
-  unfolding covOn systemOf noise
-  cov-run = refl
+  cov-run : (rqr : List Float) → mat (x .m) rqr ≡ noise x → covRan rqr ≡ run
+  unfolding covOn systemOf
+  cov-run rqr e = rw e
 
   rows : length y ≡ x .n * x .p → {k k₀ : List ℕ} {a a₀ b b₀ c c₀ d d₀ : List Float} → Laid (x .n * x .p) (kindsWritten run) k₀ k → Laid (x .n * x .p) (covWritten (x .m) run fStar) a₀ a → Laid (x .n * x .p) (covWritten (x .m) run fInf) b₀ b → Laid (x .n * (x .p * x .m)) (covWritten (x .m) run mStar) c₀ c → Laid (x .n * (x .p * x .m)) (covWritten (x .m) run mInf) d₀ d
       → decisionRows (x .n) (x .p) (x .m) (flatIn k a b c d) ≡ decisionsOf (run .0)
@@ -134,7 +134,7 @@ module _ (x : Model) (y s : List Float) (live : Bool) where
 answer-is : {l : Float} {i j k i′ j′ k′ : ℕ} → i ≡ i′ → j ≡ j′ → k ≡ k′ → _≡_ {A = Answer} (record { loglik = l; «d_diffuse» = i; heard = j; news = k }) (record { loglik = l; «d_diffuse» = i′; heard = j′; news = k′ })
 answer-is e f g = cc
 
-module _ (x : Model) (o : Offsets) (y s s₁ s₂ : List Float) (live : Bool) (before : Answer) (end : Ended) (heard news : ℕ) (with-counts a : Answer) (pm₀ pm fm₀ fm vs₀ vs pc₀ pc pi₀ pi fc₀ fc : List Float) (ks₀ ks : List ℕ) (fs₀ fs fi₀ fi ms₀ ms mi₀ mi : List Float) where
+module _ (x : Model) (o : Offsets) (y rqr s s₁ s₂ : List Float) (live : Bool) (before : Answer) (end : Ended) (heard news : ℕ) (with-counts a : Answer) (pm₀ pm fm₀ fm vs₀ vs pc₀ pc pi₀ pi fc₀ fc : List Float) (ks₀ ks : List ℕ) (fs₀ fs fi₀ fi ms₀ ms mi₀ mi : List Float) where
   -- the mean pass's run, over the records that the covariance pass left
   abbrev meanRan : Float → List MeanPeriod × Mean
   meanRan l = meanRun (frameFrom (x .p) (x .m) (x .zOnce) (x .zList) (x .t)) (record { c = o .c; d = o .d }) 0 (record { a = meanFrom (x .m) s₁ (o .a1); loglik = l }) (means.entries (x .n) (x .p) (x .m) (flatIn ks fs fi ms mi) y)
@@ -177,9 +177,9 @@ module _ (x : Model) (o : Offsets) (y s s₁ s₂ : List Float) (live : Bool) (b
       ap (λ (z : List Float). meanRun (frameFrom (x .p) (x .m) (x .zOnce) (x .zList) (x .t)) (record { c = o .c; d = o .d }) 0 (record { a = z; loglik = l }) (pairs (decisionRows (x .n) (x .p) (x .m) (flatIn ks fs fi ms mi)) (chunks (x .n) (x .p) y))) b
       ∙ ap (λ (ds : List (List Decision)). meanRun (frameFrom (x .p) (x .m) (x .zOnce) (x .zList) (x .t)) (record { c = o .c; d = o .d }) 0 (record { a = meanFrom (x .m) s (o .a1); loglik = l }) (pairs ds (chunks (x .n) (x .p) y))) e
 
-  pub few-counts : FitOn x o (length y) (covParts pc₀ pi₀ fc₀ ks₀ fs₀ fi₀ ms₀ mi₀) (meanParts pm₀ fm₀ vs₀) (length s) before → CovPassed (covRan x y s live) → heard ≡ count not (map isGap (map classOf y)) → news ≡ count isKept (take (x .n * x .p) ks) → x .n * x .p ≤ length ks → Few before (end .diffuse) heard news
+  pub few-counts : FitOn x o (length y) rqr (covParts pc₀ pi₀ fc₀ ks₀ fs₀ fi₀ ms₀ mi₀) (meanParts pm₀ fm₀ vs₀) (length s) before → CovPassed (covRan x y s live rqr) → heard ≡ count not (map isGap (map classOf y)) → news ≡ count isKept (take (x .n * x .p) ks) → x .n * x .p ≤ length ks → Few before (end .diffuse) heard news
   few-counts f cp eh en lk =
-      let c : CovPassed (run x y s live) = subst CovPassed (cov-run x y s live) cp in
+      let c : CovPassed (run x y s live) = subst CovPassed (cov-run x y s live rqr (f .noise)) cp in
       record {
         tallies = f .tallies;
         diffuse = omega (arith, c .diffuse, diffuse-few x y s live, f .sizes .n4096);
@@ -187,12 +187,12 @@ module _ (x : Model) (o : Offsets) (y s s₁ s₂ : List Float) (live : Bool) (b
         news = omega (arith, count-le isKept (take (x .n * x .p) ks), length-take-le (x .n * x .p) ks lk, few-records f);
       }
 
-  pub ran : FitOn x o (length y) (covParts pc₀ pi₀ fc₀ ks₀ fs₀ fi₀ ms₀ mi₀) (meanParts pm₀ fm₀ vs₀) (length s) before → CovPassed (covRan x y s live) → heard ≡ count not (map isGap (map classOf y)) → news ≡ count isKept (take (x .n * x .p) ks)
+  pub ran : FitOn x o (length y) rqr (covParts pc₀ pi₀ fc₀ ks₀ fs₀ fi₀ ms₀ mi₀) (meanParts pm₀ fm₀ vs₀) (length s) before → CovPassed (covRan x y s live rqr) → heard ≡ count not (map isGap (map classOf y)) → news ≡ count isKept (take (x .n * x .p) ks)
       → with-counts ≡ counts → MeanPassed (meanRan (with-counts .loglik)) with-counts
       → Ran x o y s live before (record { answer = a; live = end .live }) s₂ (covParts pc₀ pi₀ fc₀ ks₀ fs₀ fi₀ ms₀ mi₀) (covParts pc pi fc ks fs fi ms mi) (meanParts pm₀ fm₀ vs₀) (meanParts pm fm vs)
   unfolding countsOf
   ran f cp eh en ew mp =
-      let c : CovPassed (run x y s live) = subst CovPassed (cov-run x y s live) cp in
+      let c : CovPassed (run x y s live) = subst CovPassed (cov-run x y s live rqr (f .noise)) cp in
       let q : MeanPassed (meanRan (before .loglik)) counts = subst (λ (b : Answer). MeanPassed (meanRan (b .loglik)) b) ew mp in
       let t : MeanPassed (meanOn x o s (before .loglik) (run x y s live .0) y) counts = subst (λ (r : List MeanPeriod × Mean). MeanPassed r counts) (run-is (f .state) (f .readings) c (before .loglik)) q in
       record {

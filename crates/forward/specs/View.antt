@@ -8,11 +8,12 @@ use Rattle.definition.specs.Run.{pairs, chunks}
 use Rattle.definition.specs.Cov.{Cov, CovPeriod, covRun}
 use Rattle.definition.specs.Mean.{Mean, MeanPeriod, meanRun}
 use Rattle.definition.specs.Parts.{CovPart, MeanPart}
-use Rattle.definition.specs.Inputs.{Model, Offsets, Class, classOf, gapRows, systemOf, frameOf}
+use Rattle.definition.specs.Inputs.{Model, Offsets, Class, classOf, gapRows, noise, systemOf, frameOf}
 use Rattle.definition.specs.Outcome.{CovParts, MeanParts, Counts, kindsNeed, covNeed, meanNeed, kindsWritten, covWritten, meanWritten, decisionsOf, countsOf, roomy}
 use Rattle.laws.specs.Passes.{Laid}
 use Rattle.laws.specs.Accepted.{Accepted, InRange, InputsFit, Roomy, room-of}
 use Rattle.carried.specs.State.{StateFits, covFrom, covKept, meanFrom, meanKept}
+use Rattle.dense.specs.Views.{mat}
 use Rattle.promise.specs.declared.Answer.{Answer}
 use Rattle.forward.specs.declared.End.{End}
 
@@ -45,20 +46,23 @@ pub record Tallies (b : Answer) : Type 0 where
   pub heard : b .heard ≤ 65536
   pub news : b .news ≤ 65536
 
-pub record FitOn (x : Model) (o : Offsets) (y : ℕ) (w : CovParts) (w′ : MeanParts) (size : ℕ) (before : Answer) : Type 0 where
+-- rqr: R Q R', worked out before
+pub record FitOn (x : Model) (o : Offsets) (y : ℕ) (rqr : List Float) (w : CovParts) (w′ : MeanParts) (size : ℕ) (before : Answer) : Type 0 where
   pub sizes : InRange (x .p) (x .m) (x .r) (x .n)
   pub inputs : InputsFit x o
   pub readings : y ≡ x .n * x .p
+  pub noise : mat (x .m) rqr ≡ noise x
   pub room : Roomy x w w′
   pub state : StateFits (x .m) size
   pub tallies : Tallies before
 
-pub fit-on : {x : Model} {o : Offsets} {y : ℕ} {w : CovParts} {w′ : MeanParts} {size : ℕ} {before : Answer} → Fit x o y w w′ → StateFits (x .m) size → Tallies before → FitOn x o y w w′ size before
-fit-on {x} {w = w} {w′} f s t =
+pub fit-on : {x : Model} {o : Offsets} {y : ℕ} {rqr : List Float} {w : CovParts} {w′ : MeanParts} {size : ℕ} {before : Answer} → Fit x o y w w′ → mat (x .m) rqr ≡ noise x → StateFits (x .m) size → Tallies before → FitOn x o y rqr w w′ size before
+fit-on {x} {w = w} {w′} f e s t =
     record {
       sizes = f .accepted .sizes;
       inputs = f .accepted .inputs;
       readings = f .accepted .readings;
+      noise = e;
       room = room-of x w w′ (f .accepted .roomy);
       state = s;
       tallies = t;

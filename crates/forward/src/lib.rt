@@ -25,6 +25,7 @@ fn counted(before: promise::Answer, diffuse: usize, heard: usize, news: usize) -
 
 // The two passes over n periods: every part written, the state carried on, and the answer, which goes on from the one
 // before. An empty state: the run begins at the start, and its state is not kept. There may be no periods.
+// `rqr` is R Q R', which the checks have worked out; R and Q are there for the contract, which speaks of the model.
 pub fn run<'a>(
     p: usize,
     m: usize,
@@ -36,6 +37,7 @@ pub fn run<'a>(
     t: &[f64],
     rr: &[f64],
     q: &[f64],
+    rqr: &[f64; 64],
     c: &[f64],
     d: &[f64],
     a1: &[f64],
@@ -59,7 +61,7 @@ pub fn run<'a>(
 ) -> End
     requires { ⌜ FitOn
         (modelOf p m r n (now z) (now zs) (now h) (now t) (now rr) (now q) (now «p_star») (now flags))
-        (offsetsOf (now c) (now d) (now a1)) (length (now y))
+        (offsetsOf (now c) (now d) (now a1)) (length (now y)) (now rqr)
         (covParts (now «pred_cov») (now «pred_inf») (now «filt_cov») (now kinds)
         (now «f_star») (now «f_inf») (now «m_star») (now «m_inf»))
         (meanParts (now «pred_mean») (now «filt_mean») (now v)) (length (now state)) before ⌝ }
@@ -81,8 +83,7 @@ pub fn run<'a>(
         zs,
         h,
         t,
-        rr,
-        q,
+        rqr,
         p_star,
         flags,
         y,
@@ -98,7 +99,6 @@ pub fn run<'a>(
         live,
         p,
         m,
-        r,
         n,
         listed,
     );

@@ -22,6 +22,7 @@ fn is_silent(a: promise::Answer, last: bool) -> bool
 }
 
 // n periods from the state that is lent. Where refusal 12 applies, what they wrote is blank; the state is carried on.
+// `rqr` is R Q R', which the checks have worked out; R and Q are there for the contract, which speaks of the model.
 pub fn run<'a>(
     p: usize,
     m: usize,
@@ -33,6 +34,7 @@ pub fn run<'a>(
     t: &[f64],
     rr: &[f64],
     q: &[f64],
+    rqr: &[f64; 64],
     c: &[f64],
     d: &[f64],
     a1: &[f64],
@@ -57,7 +59,7 @@ pub fn run<'a>(
 ) -> Judged
     requires { ⌜ FitOn
         (modelOf p m r n (now z) (now zs) (now h) (now t) (now rr) (now q) (now «p_star») (now flags))
-        (offsetsOf (now c) (now d) (now a1)) (length (now y))
+        (offsetsOf (now c) (now d) (now a1)) (length (now y)) (now rqr)
         (covParts (now «pred_cov») (now «pred_inf») (now «filt_cov») (now kinds)
         (now «f_star») (now «f_inf») (now «m_star») (now «m_inf»))
         (meanParts (now «pred_mean») (now «filt_mean») (now v)) (length (now state)) before ⌝ }
@@ -84,6 +86,7 @@ pub fn run<'a>(
         t,
         rr,
         q,
+        rqr,
         c,
         d,
         a1,

@@ -4,7 +4,8 @@ use mathlib.Core.Path.{_≡_, refl, sym, ap, ap₂, _∙_}
 use Prim.Native.Nat.{ℕ, zero, suc, _+_, _≤_, _<_}
 use native.Mathlib.Omega.{arith}
 use native.Mathlib.Numerals.{add-one}
-use native.Mathlib.Nat.{le-of-suc-le-suc, not-suc-le-zero}
+use native.Mathlib.Nat.{le-of-suc-le-suc, not-suc-le-zero, eq-or-lt-of-le}
+use mathlib.Core.Logic.{⊎-elim}
 use mathlib.Core.Bool.{Bool, true, false, _||_}
 use mathlib.Core.List.{List, [], _∷_, _++_, map}
 use lib.ListN.{length, getD, take}
@@ -36,6 +37,13 @@ any-none q = refl
 pub any-next : (q : ℕ → Bool) (k : ℕ) (found here : Bool) → found ≡ anyTo k q → here ≡ q k → (found || here) ≡ anyTo (k + 1) q
 unfolding anyTo
 any-next q k found here e h = rw add-one (ap₂ _||_ e h)
+
+pub any-false : (q : ℕ → Bool) (k : ℕ) → anyTo k q ≡ false → (i : ℕ) → i < k → q i ≡ false
+unfolding anyTo
+any-false q zero e i h = absurd (omega arith)
+any-false q (suc k) e i h =
+    let s = either-false (anyTo k q) (q k) e in
+    ⊎-elim (λ (w : i ≡ k). ap q w ∙ s .1) (λ (b : i < k). any-false q k (s .0) i b) (eq-or-lt-of-le (omega arith))
 
 pub any-end : (q : ℕ → Bool) {k n : ℕ} {found : Bool} → found ≡ anyTo k q → k ≤ n → n ≤ k → found ≡ anyTo n q
 any-end q {k} {n} {found} e a b = let s : k ≡ n = omega arith in cc

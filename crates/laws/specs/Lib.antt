@@ -1,4 +1,4 @@
--- Nothing cites these yet: Halves, `mul-swap` of Swap and `sumTo-cong` of Lists wait for request l of document 02, `scanBack-append` of Lists for i.
+-- Nothing cites these yet: Halves waits for request l of document 02, `scanBack-append` of Lists for i.
 
 -- lists, and going through them
 pub mod Lists
@@ -15,6 +15,8 @@ pub mod Swap
 pub mod Same
 pub mod Halves
 pub mod Signs
+pub mod Zeros
+pub mod Noise
 pub mod Squares
 pub mod RootLaws
 -- the run: its shapes, and what it wrote read back

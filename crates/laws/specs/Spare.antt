@@ -26,45 +26,8 @@ use Rattle.laws.specs.All.{AllOf, all-at, all-true, none-fails, each-all
 use Rattle.laws.specs.Accepted.{Designs, InputsFit}
 use Rattle.laws.specs.Lists.{matrix-at, vector-at, place-lt, chunks-each}
 use Rattle.laws.specs.Same.{round-of}
+use Rattle.laws.specs.Zeros.{Nil, zero-is, round-zero, times-zero, zero-times, sum-zero, nil-is-zero, finite-at}
 use Rattle.laws.specs.Signs.{Plain, round-plain, add-plain, lt-nan-right}
-
--- ---- a zero, of either sign
-abbrev Nil : Float → Type 0
-Nil v = (s : Bool) × (v ≡ fin s 0 (pos 0))
-
-zero-is : 0ᶠ ≡ fin false 0 (pos 0)
-unfolding ofBits
-zero-is = refl
-
-round-zero : (s : Bool) (a c : ℕ) → a ≡ 0 → 0 < c → round binary64 s a c ≡ fin s 0 (pos 0)
-round-zero s a c e h = round-of binary64 s 0 (pos 0) a c h (fit s) (ap (λ (i : ℕ). i * 1) e ∙ sym (ap (λ (i : ℕ). i * c) (zero-mul 1) ∙ zero-mul c))
-  where
-    fit : (s : Bool) → T (fits binary64 (fin s 0 (pos 0)))
-    fit s = unfold fits in tt
-
-times-zero : (v : Float) → T (isFinite v) → Nil (v ⊗ fin false 0 (pos 0))
-unfolding mul isFinite
-times-zero nan h = absurd h
-times-zero (inf s) h = absurd h
-times-zero (fin s m e) h = (unlike s false, round-zero (unlike s false) _ _ (mul-zero (m * up e)) (mul-pos (down-pos e) (zero-lt-suc 0)))
-
-zero-times : (v : Float) → T (isFinite v) → Nil (fin false 0 (pos 0) ⊗ v)
-unfolding mul isFinite
-zero-times nan h = absurd h
-zero-times (inf s) h = absurd h
-zero-times (fin s m e) h = (unlike false s, round-zero (unlike false s) _ _ (zero-mul (m * up e)) (mul-pos (zero-lt-suc 0) (down-pos e)))
-
-zero-plus : (s : Bool) → fin false 0 (pos 0) ⊕ fin s 0 (pos 0) ≡ fin false 0 (pos 0)
-unfolding add sum
-zero-plus true = round-zero false _ _ refl (zero-lt-suc 0)
-zero-plus false = round-zero false _ _ refl (zero-lt-suc 0)
-
-sum-zero : (k : ℕ) (f : ℕ → Float) → ((i : ℕ) → i < k → Nil (f i)) → sumTo k f ≡ fin false 0 (pos 0)
-unfolding sumTo
-sum-zero zero f h = zero-is
-sum-zero (suc k) f h =
-    let n = h k (omega arith) in
-    ap₂ _⊕_ (sum-zero k f (λ i l. h i (omega arith))) (n .1) ∙ zero-plus (n .0)
 
 -- a divisor above what is not below 0
 mul-plain : (x y : Float) → Plain x → Plain y → Plain (x ⊗ y)
@@ -141,14 +104,6 @@ zero-over c (fin t (suc n) e) p h = (
       ∙ round-zero (unlike false t) (0 * down e) (suc n * up e * 1) (zero-mul (down e)) (mul-pos (mul-pos (zero-lt-suc n) (up-pos e)) (zero-lt-suc 0)),
 )
 
-nil-is-zero : (v : Float) → Nil v → isZero v ≡ true
-unfolding eq ofBits
-nil-is-zero v n = ap isZero (n .1) ∙ go (n .0)
-  where
-    go : (s : Bool) → isZero (fin s 0 (pos 0)) ≡ true
-    go true = refl
-    go false = refl
-
 -- ---- the root: columns from k on are +0.0
 
 abbrev pub Spare : ℕ → ℕ → List Float → Type 0
@@ -158,12 +113,15 @@ abbrev pub Finite : ℕ → List Float → Type 0
 Finite m z = (i : ℕ) → i < m → T (isFinite (at z i))
 
 module _ (m k : ℕ) (root : List Float) (spare : Spare m k root) where
+  none : (i j : ℕ) → i < m → k ≤ j → j < m → isZero (ent m root i j) ≡ true
+  none i j hi hk hj = nil-is-zero (ent m root i j) (false, spare i j hi hk hj ∙ zero-is)
+
   -- T B
   spare-product : (tr : List Float) → ((i l : ℕ) → i < m → l < m → T (isFinite (ent m tr i l))) → Spare m k (product m m m tr root)
   unfolding product productAt productTerm
   spare-product tr f i j hi hk hj =
       matrix-at m m i j (productAt m m tr root) hi hj
-      ∙ sum-zero m (productTerm m m tr root i j) (λ l hl. subst (λ (v : Float). Nil (ent m tr i l ⊗ v)) (sym (spare l j hl hk hj ∙ zero-is)) (times-zero (ent m tr i l) (f i l hi hl)))
+      ∙ sum-zero m (productTerm m m tr root i j) (λ l hl. times-zero (ent m tr i l) (ent m root l j) (f i l hi hl) (none l j hl hk hj))
       ∙ sym zero-is
 
   module _ (z : List Float) (fine : Finite m z) where
@@ -172,7 +130,7 @@ module _ (m k : ℕ) (root : List Float) (spare : Spare m k root) where
     unfolding matTVec matTVecAt matTVecTerm
     nothing j hk hj =
         vector-at m j (matTVecAt m root z) hj
-        ∙ sum-zero m (matTVecTerm m root z j) (λ i hi. subst (λ (v : Float). Nil (v ⊗ at z i)) (sym (spare i j hi hk hj ∙ zero-is)) (zero-times (at z i) (fine i hi)))
+        ∙ sum-zero m (matTVecTerm m root z j) (λ i hi. zero-times (ent m root i j) (at z i) (fine i hi) (none i j hi hk hj))
 
     -- B (I - u u' / u' u), where u' u passed the diffuse test
     spare-less : (c : Float) → Plain c → lt c (dot m (matTVec m root z) (matTVec m root z)) ≡ true → Spare m k (rootLess m z root)
@@ -276,16 +234,6 @@ start-spare m flags i j hi hk hj = matrix-at m m i j (startRootAt flags) hi hj �
     go false b p q = refl
 
 -- ---- refusals 2 and 3 see to what is finite
-
-not-unfit : (v : Float) → unfit v ≡ false → T (isFinite v)
-not-unfit v e = go (isFinite v) e
-  where
-    go : (b : Bool) → not b ≡ false → T b
-    go true e = tt
-    go false e = absurd (let z : _≡_ {A = ℕ} 0 1 = cc in omega arith)
-
-finite-at : (l : List Float) (i : ℕ) → notFinite l ≡ false → i < length l → T (isFinite (getD l i nan))
-finite-at l i e h = not-unfit (getD l i nan) (all-at (λ v. unfit v ≡ false) l i nan (none-fails unfit l e) h)
 
 -- entry i of the design of period t
 design-at : (p m : ℕ) (once list : List Float) (t i : ℕ) → notFinite once ≡ false → notFinite list ≡ false → Designs (p * m) (length once) (length list) → i < p * m → T (isFinite (getD (designFrom p m once list t) i nan))

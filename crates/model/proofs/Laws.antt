@@ -1,4 +1,4 @@
--- Laws for the leaves: the places of a matrix, products of sizes in range, the noise and the start of arrays that hold the inputs.
+-- Laws for the leaves: the places of a matrix, products of sizes in range, the start of arrays that hold the inputs.
 use mathlib.Core.Path.{_≡_}
 use mathlib.Core.Bool.{Bool, true, false}
 use mathlib.Core.List.{List}
@@ -9,13 +9,12 @@ use lib.ListN.{length}
 use lib.Dec.{eqb}
 use lib.Ieee.{Float}
 use Rattle.definition.specs.Run.{anyOf}
-use Rattle.definition.specs.Dense.{product, transpose, symmetrise}
-use Rattle.definition.specs.Inputs.{noiseOf, startInf, startRoot, startFrom}
+use Rattle.definition.specs.Inputs.{startInf, startRoot, startFrom}
 use Rattle.laws.specs.Lists.{place-lt}
 use Rattle.laws.specs.Accepted.{InRange}
 use Rattle.dense.specs.Views.{vec, rect}
 use Rattle.dense.proofs.Laws.{area, loaded-rect}
-use Rattle.model.specs.Places.{Place, NoiseFits, StartFits}
+use Rattle.model.specs.Places.{Place, StartFits}
 use Rattle.model.specs.Start.{covOf}
 
 -- a place lies within its matrix, and is small
@@ -58,16 +57,6 @@ small {p} {m} {r} {n} i =
 
 pub contrary : {A : Type 0} {b : Bool} → b ≡ true → b ≡ false → A
 contrary {A} {b} e f = absurd (let z : _≡_ {A = ℕ} 0 1 = cc in omega arith)
-
--- (R Q) R', symmetrised, of arrays that hold R and Q
-pub noise-is : (m r : ℕ) {rr q : List Float} (a b rq x out : List Float) → NoiseFits m r (length rr) (length q) → vec (length rr) a ≡ rr → vec (length q) b ≡ q
-    → rect m r rq ≡ product m r r (rect m r a) (rect r r b) → rect m m x ≡ product m r m (rect m r rq) (transpose m r (rect m r a)) → rect m m out ≡ symmetrise m (rect m m x)
-    → rect m m out ≡ noiseOf m r rr q
-unfolding noiseOf
-noise-is m r {rr} {q} a b rq x out f ea eb e1 e2 e3 =
-    let la : rect m r a ≡ rr = loaded-rect m r (length rr) a (f .rr) ea in
-    let lb : rect r r b ≡ q = loaded-rect r r (length q) b (f .q) eb in
-    cc
 
 -- the start, of an array that holds P*
 pub started : (m : ℕ) {p* : List Float} (flags : List ℕ) (star p∞ root : List Float) {live : Bool} → StartFits m (length p*) (length flags) → vec (length p*) star ≡ p* → rect m m p∞ ≡ startInf m flags

@@ -1,10 +1,15 @@
--- A call past refusals 1 and 2 may ask for the later ones, the design, the noise and the start.
+-- A call past refusals 1 and 2 may ask for the later ones, the design and the start; past 5, for the noise.
 use mathlib.Core.Path.{_≡_}
 use Prim.Native.Nat.{ℕ, _*_, _/_}
+use mathlib.Core.Bool.{_||_}
 use lib.ListN.{length}
 use Rattle.definition.specs.Inputs.{Model, Offsets}
+use Rattle.definition.specs.Refusals.{firstOf, ofSystem, badSystem, notFinite}
+use Rattle.laws.specs.Any.{either-false}
+use Rattle.laws.specs.Numbered.{first-none}
 use Rattle.laws.specs.Accepted.{InRange, InputsFit}
 use Rattle.model.specs.Places.{Square, NoiseFits, StartFits, SystemFits, StartGiven, StepFits}
+use Rattle.model.specs.Noise.{NoiseGiven}
 use Rattle.model.specs.Design.{DesignFits}
 
 module _ {x : Model} {o : Offsets} (sizes : InRange (x .p) (x .m) (x .r) (x .n)) (inputs : InputsFit x o) where
@@ -27,5 +32,13 @@ module _ {x : Model} {o : Offsets} (sizes : InRange (x .p) (x .m) (x .r) (x .n))
   pub start-given : StartGiven (x .m) (length (o .a1)) (length (x .pStar)) (length (x .flags))
   start-given = record { p* = record { most = sizes .m8; whole = inputs .pStar }; a1 = inputs .a1; flags = inputs .flags }
 
-  pub step-fits : StepFits (x .m) (x .r) (length (x .t)) (length (x .rr)) (length (x .q)) (length (x .flags))
-  step-fits = record { t = record { most = sizes .m8; whole = inputs .t }; flags = inputs .flags; noise = noise-fits }
+  pub step-fits : StepFits (x .m) (length (x .t)) (length (x .flags))
+  step-fits = record { t = record { most = sizes .m8; whole = inputs .t }; flags = inputs .flags }
+
+  pub noise-given : firstOf (ofSystem x) ≡ 0 → NoiseGiven (x .m) (x .r) (x .rr) (x .q)
+  unfolding badSystem
+  noise-given e =
+      let s = first-none (ofSystem x) tt e in
+      let before = notFinite (x .zOnce) || notFinite (x .zList) || notFinite (x .h) || notFinite (x .t) in
+      let a = either-false (before || notFinite (x .rr)) (notFinite (x .q)) (s .0) in
+      record { fits = noise-fits; some = sizes .m0; finite = either-false before (notFinite (x .rr)) (a .0) .1; diagonal = s .1 .1 .0 }

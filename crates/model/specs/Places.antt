@@ -43,8 +43,7 @@ pub record StartGiven (m size-a1 size-p* size-flags : ℕ) : Type 0 where
   pub a1 : size-a1 ≡ m
   pub flags : size-flags ≡ m
 
--- T of m by m, a flag for each state, R and Q
-pub record StepFits (m r size-t size-rr size-q size-flags : ℕ) : Type 0 where
+-- T of m by m, and a flag for each state
+pub record StepFits (m size-t size-flags : ℕ) : Type 0 where
   pub t : Square m size-t
   pub flags : size-flags ≡ m
-  pub noise : NoiseFits m r size-rr size-q

@@ -1,4 +1,4 @@
-// model.rs: the checks of a call's inputs, the period's design, the noise R Q R', the start.
+// model.rs: the checks of a call's inputs, with the noise R Q R'; the period's design, the start.
 ghost use mathlib.Core.Path.{_≡_};
 ghost use mathlib.Core.List.{map};
 ghost use Prim.Native.Nat.{_<_, _≤_, _-_, _*_, _/_, min};
@@ -10,18 +10,20 @@ ghost use Rattle.laws.specs.Accepted.{InRange};
 ghost use Rattle.dense.specs.Views.{mat};
 ghost use Rattle.promise.specs.Lent.{modelOf, offsetsOf};
 ghost use Rattle.model.specs.Design.{DesignFits};
-ghost use Rattle.model.specs.Places.{NoiseFits, StartFits};
+ghost use Rattle.model.specs.Places.{StartFits};
 ghost use Rattle.model.specs.Start.{covOf};
 
 mod diffuse; // P∞ and its root
 mod entries; // the tests of refusals 3 to 10
 pub mod lengths; // the tests of refusals 1 and 2
+mod noise; // R Q R'
 pub mod refusals; // the refusals by segments
 
 // ---- the checks
 
 // Of sizes in range, the number of the first of refusals 2 to 11 that applies, by document 01's table; 0 for none. The
-// order is every call's; `room` says whether each output is as long as the call needs it.
+// order is every call's; `room` says whether each output is as long as the call needs it. Where none applies rqr holds R Q R',
+// which refusal 11 looks at and the run goes by.
 pub fn refusal_of_inputs(
     p: usize,
     m: usize,
@@ -40,13 +42,15 @@ pub fn refusal_of_inputs(
     flags: &[u8],
     y: &[f64],
     room: bool,
+    rqr: &mut [f64; 64],
 ) -> u8
     requires { ⌜ InRange p m r n ⌝ }
     ensures { λ k. ⌜ k ≡ firstOf (ofInputs
         (modelOf p m r n (now (z .entry)) (now (zs .entry)) (now (h .entry)) (now (t .entry)) (now (rr .entry))
         (now (q .entry)) (now («p_star» .entry)) (now (flags .entry)))
         (offsetsOf (now (c .entry)) (now (d .entry)) (now (a1 .entry)))
-        (length (now (y .entry))) (anyOf isInfinity (map classOf (now (y .entry)))) room) ⌝ }
+        (length (now (y .entry))) (anyOf isInfinity (map classOf (now (y .entry)))) room)
+        × (k ≡ 0 → mat m (now (rqr .exit)) ≡ noiseOf m r (now (rr .entry)) (now (q .entry))) ⌝ }
 {
     let lengths = refusals::of_lengths(
         p,
@@ -86,7 +90,7 @@ pub fn refusal_of_inputs(
     if readings != 0 {
         return readings;
     }
-    refusals::of_step(m, r, t, rr, q, flags)
+    refusals::of_step(m, r, t, rr, q, flags, rqr)
 }
 
 // The same with refusal 1 before it: the filter's call and the smoother's. `room` is what lengths::room, or
@@ -109,12 +113,14 @@ pub fn refusal(
     flags: &[u8],
     y: &[f64],
     room: bool,
+    rqr: &mut [f64; 64],
 ) -> u8
     ensures { λ k. ⌜ k ≡ refusal
         (modelOf p m r n (now (z .entry)) (now (zs .entry)) (now (h .entry)) (now (t .entry)) (now (rr .entry))
         (now (q .entry)) (now («p_star» .entry)) (now (flags .entry)))
         (offsetsOf (now (c .entry)) (now (d .entry)) (now (a1 .entry)))
-        (length (now (y .entry))) (anyOf isInfinity (map classOf (now (y .entry)))) room ⌝ }
+        (length (now (y .entry))) (anyOf isInfinity (map classOf (now (y .entry)))) room
+        × (k ≡ 0 → mat m (now (rqr .exit)) ≡ noiseOf m r (now (rr .entry)) (now (q .entry))) ⌝ }
 {
     let sizes = refusals::of_sizes(p, m, r, n);
     if sizes != 0 {
@@ -138,6 +144,7 @@ pub fn refusal(
         flags,
         y,
         room,
+        rqr,
     )
 }
 
@@ -195,23 +202,6 @@ pub fn design<'a>(
     let a = entry_of(listed, t) * k;
     let e = a + k;
     &zs[a..e]
-}
-
-// ---- the noise
-
-// R Q R' as (R Q) R', symmetrised.
-pub fn noise(rr: &[f64], q: &[f64], m: usize, r: usize) -> [f64; 64]
-    requires { ⌜ NoiseFits m r (length (now rr)) (length (now q)) ⌝ }
-    ensures { λ x. ⌜ mat m x ≡ noiseOf m r (now (rr .entry)) (now (q .entry)) ⌝ }
-{
-    let a = dense::load64(rr);
-    let b = dense::load64(q);
-    let mut rq = [0.0; 64];
-    products::product_into(&mut rq, &a, &b, m, r, r);
-    let mut out = [0.0; 64];
-    products::product_t_into(&mut out, &rq, &a, m, r, m);
-    dense::symmetrize_in_place(&mut out, m);
-    out
 }
 
 // ---- the start

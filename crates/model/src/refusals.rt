@@ -3,6 +3,7 @@
 // first, since what the others require follows from these two (specs/Past).
 ghost use mathlib.Core.Path.{_≡_};
 ghost use mathlib.Core.List.{[], _∷_, map};
+ghost use Prim.Native.Nat.{_≤_};
 ghost use lib.ListN.{length};
 ghost use Rattle.definition.specs.Run.{anyOf};
 ghost use Rattle.definition.specs.Inputs.{isInfinity, classOf, noiseOf};
@@ -21,9 +22,12 @@ ghost use Rattle.definition.specs.Refusals.{
 ghost use Rattle.definition.specs.Stretch.{outsideStretch};
 ghost use Rattle.laws.specs.Accepted.{InRange};
 ghost use Rattle.promise.specs.Lent.{modelOf, offsetsOf};
-ghost use Rattle.model.specs.Places.{Square, NoiseFits, SystemFits, StartGiven, StepFits};
+ghost use Rattle.dense.specs.Views.{mat};
+ghost use Rattle.model.specs.Places.{Square, SystemFits, StartGiven, StepFits};
+ghost use Rattle.model.specs.Noise.{NoiseGiven};
 use crate::entries;
 use crate::lengths;
+use crate::noise;
 
 // 1 Dimension.
 pub fn of_sizes(p: usize, m: usize, r: usize, n: usize) -> u8
@@ -158,30 +162,48 @@ pub fn of_readings(y: &[f64]) -> u8
     if entries::any_infinite(y) { 9 } else { 0 }
 }
 
-// 10 MixedDriven, 11 NonFiniteNoise.
-pub fn of_step(m: usize, r: usize, t: &[f64], rr: &[f64], q: &[f64], flags: &[u8]) -> u8
-    requires { ⌜ StepFits m r (length (now t)) (length (now rr)) (length (now q)) (length (now flags)) ⌝ }
+// 10 MixedDriven, 11 NonFiniteNoise. Where neither applies rqr holds R Q R'.
+pub fn of_step(
+    m: usize,
+    r: usize,
+    t: &[f64],
+    rr: &[f64],
+    q: &[f64],
+    flags: &[u8],
+    rqr: &mut [f64; 64],
+) -> u8
+    requires { ⌜ StepFits m (length (now t)) (length (now flags)) × NoiseGiven m r (now rr) (now q) ⌝ }
     ensures { λ k. ⌜ k ≡ firstOf (
         (10, mixedDriven m (now (t .entry)) (now (flags .entry)))
         ∷ (11, notFinite (noiseOf m r (now (rr .entry)) (now (q .entry))))
-        ∷ []) ⌝ }
+        ∷ [])
+        × (k ≡ 0 → mat m (now (rqr .exit)) ≡ noiseOf m r (now (rr .entry)) (now (q .entry))) ⌝ }
 {
     if entries::mixed_driven(t, flags, m) {
         return 10;
     }
-    if bad_noise(rr, q, m, r) {
+    if bad_noise(rqr, rr, q, m, r) {
         return 11;
     }
     0
 }
 
-// R Q R', symmetrised, has a non-finite entry.
-fn bad_noise(rr: &[f64], q: &[f64], m: usize, r: usize) -> bool
-    requires { ⌜ NoiseFits m r (length (now rr)) (length (now q)) ⌝ }
-    ensures { λ b. ⌜ b ≡ notFinite (noiseOf m r (now (rr .entry)) (now (q .entry))) ⌝ }
+// Some entry of a matrix is NaN or an infinity.
+fn matrix_not_finite(a: &[f64; 64], m: usize) -> bool
+    requires { ⌜ m ≤ 8 ⌝ }
+    ensures { λ b. ⌜ b ≡ notFinite (mat m (now (a .entry))) ⌝ }
 {
-    let a = crate::noise(rr, q, m, r);
-    dense::sized(&a);
+    let all: &[f64] = a;
     let e = m * m;
-    entries::not_finite(&a[0..e])
+    entries::not_finite(&all[0..e])
+}
+
+// R Q R', symmetrised, has a non-finite entry.
+fn bad_noise(rqr: &mut [f64; 64], rr: &[f64], q: &[f64], m: usize, r: usize) -> bool
+    requires { ⌜ NoiseGiven m r (now rr) (now q) ⌝ }
+    ensures { λ b. ⌜ (b ≡ notFinite (noiseOf m r (now (rr .entry)) (now (q .entry))))
+        × (mat m (now (rqr .exit)) ≡ noiseOf m r (now (rr .entry)) (now (q .entry))) ⌝ }
+{
+    noise::noise(rqr, rr, q, m, r);
+    matrix_not_finite(rqr, m)
 }

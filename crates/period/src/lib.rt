@@ -6,7 +6,6 @@ ghost use mathlib.Core.Path.{_≡_};
 ghost use mathlib.Core.Bool.{true, false};
 ghost use Prim.Native.Nat.{_≤_, _<_, _*_};
 ghost use lib.ListN.{take, length};
-ghost use Rattle.definition.specs.Num.{zeros};
 ghost use Rattle.definition.specs.Run.{scan};
 ghost use Rattle.definition.specs.Dense.{sandwich};
 ghost use Rattle.definition.specs.Cov.{elementOf, isLive, stepStar, stepInf, stepped};
@@ -376,14 +375,6 @@ pub fn elements(
     }
 }
 
-// All of P is 0.
-fn clear(p: &mut [f64; 64], m: usize)
-    requires { ⌜ m ≤ 8 ⌝ }
-    ensures { λ _. ⌜ mat m (now (p .exit)) ≡ zeros (m * m) ⌝ }
-{
-    *p = [0.0; 64];
-}
-
 // Whether the diffuse state lasts into a period: it did until then (`live`), and P∞ is not washed out.
 fn lasts(p_inf: &[f64; 64], live: bool, m: usize) -> bool
     requires { ⌜ m ≤ 8 ⌝ }
@@ -403,7 +394,7 @@ pub fn begin(p_inf: &mut [f64; 64], live: bool, m: usize) -> bool
     if lasts(p_inf, live, m) {
         return true;
     }
-    clear(p_inf, m);
+    dense::clear(p_inf, m);
     false
 }
 

@@ -10,7 +10,7 @@ use lib.Arith.{mod-mul, digits-div, digits-mod}
 use lib.Pow.{pow-add}
 use lib.Seq.{getD-drop, sets-eq, take-add, drop-drop}
 use Rattle.definition.specs.Saved.{bytesOf, fromBytes}
-use Rattle.saved.specs.Places.{bytesAt, putAt}
+use Rattle.saved.specs.Places.{bytesAt, leastFirst, putAt}
 
 -- ---- read
 
@@ -56,9 +56,26 @@ bytes-four v =
     let c : v % 256 ≡ v % 256 ^ 3 % 256 ^ 2 % 256 ^ 1 / 256 ^ 0 = omega arith in
     cc
 
-pub four-put : (at v : ℕ) (old : List ℕ) → at + 4 ≤ length old → set (set (set (set old at (v / 0x1000000)) (at + 1) (v / 0x10000 % 256)) (at + 2) (v / 0x100 % 256)) (at + 3) (v % 256) ≡ putAt at (bytesOf 4 v) old
-four-put at v old h =
-    rw (add-one, add-two, add-three) (sets-eq (v / 0x1000000 ∷ v / 0x10000 % 256 ∷ v / 0x100 % 256 ∷ v % 256 ∷ []) old at h ∙ ap (λ (l : List ℕ). putAt at l old) (bytes-four v))
+-- a number made of four bytes, read from the least on
+least-digits : (a b c d : ℕ) → a < 256 → b < 256 → c < 256 → d < 256 → leastFirst (a * 0x1000000 + b * 0x10000 + c * 0x100 + d) ≡ (d ∷ c ∷ b ∷ a ∷ [])
+least-digits a b c d ha hb hc hd =
+    let v = a * 0x1000000 + b * 0x10000 + c * 0x100 + d in
+    let low : ℕ → ℕ = λ i. i % 256 in
+    let w : v % 256 ≡ d = omega arith in
+    let x : v / 0x100 ≡ a * 0x10000 + b * 0x100 + c = omega arith in
+    let y : v / 0x10000 ≡ a * 0x100 + b = omega arith in
+    let z : v / 0x1000000 ≡ a = omega arith in
+    let x′ : v / 0x100 % 256 ≡ c = ap low x ∙ omega arith in
+    let y′ : v / 0x10000 % 256 ≡ b = ap low y ∙ omega arith in
+    let z′ : v / 0x1000000 % 256 ≡ a = ap low z ∙ omega arith in
+    cc
+
+-- of v's own bytes in the other order
+pub turned-bytes : (v : ℕ) → v < 256 ^ 4 → leastFirst (v % 256 * 0x1000000 + v / 0x100 % 256 * 0x10000 + v / 0x10000 % 256 * 0x100 + v / 0x1000000) ≡ bytesOf 4 v
+turned-bytes v h = least-digits (v % 256) (v / 0x100 % 256) (v / 0x10000 % 256) (v / 0x1000000) (omega arith) (omega arith) (omega arith) (omega arith) ∙ bytes-four v
+
+pub least-put : (at w : ℕ) (old : List ℕ) → at + 4 ≤ length old → set (set (set (set old at (w % 256)) (at + 1) (w / 0x100 % 256)) (at + 2) (w / 0x10000 % 256)) (at + 3) (w / 0x1000000 % 256) ≡ putAt at (leastFirst w) old
+least-put at w old h = rw (add-one, add-two, add-three) (sets-eq (leastFirst w) old at h)
 
 positive : (k : ℕ) → 0 < 256 ^ k
 positive k = one-le-pow k 256 (omega arith)
@@ -71,7 +88,7 @@ module _ (v a b : ℕ) (some : 0 < a) (pos : 0 < b) where
   high : v % (a * b) / b ≡ v / b % a
   high = ap (λ (i : ℕ). i / b) (mod-mul v some pos) ∙ digits-div (v / b % a) (mod-lt v pos)
 
-pub bytes-split : (j k v : ℕ) → v < 256 ^ (j + k) → bytesOf (j + k) v ≡ bytesOf j (v / 256 ^ k) ++ bytesOf k (v % 256 ^ k)
+bytes-split : (j k v : ℕ) → v < 256 ^ (j + k) → bytesOf (j + k) v ≡ bytesOf j (v / 256 ^ k) ++ bytesOf k (v % 256 ^ k)
 unfolding bytesOf
 bytes-split zero k v h = let e : v < 256 ^ k = rw zero-add at h in rw zero-add (ap (bytesOf k) (sym (mod-eq-of-lt e)))
 bytes-split (suc j) k v h =
@@ -83,3 +100,10 @@ bytes-split (suc j) k v h =
     let hi : v % 256 ^ (j + k) / b ≡ v / b % a = ap (λ (i : ℕ). v % i / b) e ∙ high v a b (positive j) (positive k) in
     let lo : v % 256 ^ (j + k) % b ≡ v % b = ap (λ (i : ℕ). v % i % b) e ∙ low v a b (positive j) (positive k) in
     ap (λ (i : ℕ). bytesOf i v) (suc-add j k) ∙ ap₂ (λ (x : ℕ) (l : List ℕ). x ∷ l) first (bytes-split j k (v % 256 ^ (j + k)) (mod-lt v (positive (j + k))) ∙ ap₂ (λ (x : ℕ) (y : ℕ). bytesOf j x ++ bytesOf k y) hi lo)
+
+pub turned-eight-bytes : (v hi lo : ℕ) → v < 256 ^ 8 → leastFirst hi ≡ bytesOf 4 (v / 256 ^ 4) → hi < 256 ^ 4 → leastFirst lo ≡ bytesOf 4 (v % 256 ^ 4) → leastFirst ((lo * 0x100000000 + hi) % 256 ^ 4) ++ leastFirst ((lo * 0x100000000 + hi) / 256 ^ 4) ≡ bytesOf 8 v
+turned-eight-bytes v hi lo h e small f =
+    let w = lo * 0x100000000 + hi in
+    let a : w % 256 ^ 4 ≡ hi = omega arith in
+    let b : w / 256 ^ 4 ≡ lo = omega arith in
+    ap₂ (λ (x : ℕ) (y : ℕ). leastFirst x ++ leastFirst y) a b ∙ ap₂ _++_ e f ∙ sym (bytes-split 4 4 v h)

@@ -1,25 +1,19 @@
--- What is loaded, part by part, is what is carried.
+-- What is loaded, part by part: the state's floats, and with the tallies what is carried.
 use mathlib.Core.Path.{_≡_, refl, sym, ap, _∙_}
 use Prim.Native.Nat.{ℕ, _+_, _*_, _≤_}
 use native.Mathlib.Omega.{arith}
+use mathlib.Core.Bool.{true, true≢false}
 use mathlib.Core.List.{List, _++_, map, append-assoc}
 use lib.ListN.{length, take, drop, length-map}
 use lib.Seq.{take-at, drop-at, drop-drop}
 use lib.Ieee.{Float}
-use Rattle.definition.specs.Saved.{float, widths, numbersIn, loadedPast, loadedMean}
+use Rattle.definition.specs.Saved.{float, widths, numbersIn, badSaved, loadedPast, loadedMean}
+use Rattle.laws.specs.SavedBack.{loaded}
 use Rattle.saved.specs.declared.Tallies.{Tallies}
 use Rattle.saved.specs.Places.{numbersAt, putAt, Starts}
-use Rattle.saved.specs.Loaded.{LoadedTallies, Loaded}
+use Rattle.saved.specs.Loaded.{carriedOf, Parts, LoadedState, LoadedTallies, Loaded}
 use Rattle.saved.proofs.Put.{Put, put-first, put-next, put-all}
 use Rattle.saved.proofs.Rows as rows
-
--- five parts, of m and four times q places, and what follows
-pub record Parts (m q : ℕ) (a b c d e after : List Float) : Type 0 where
-  pub mean : take m after ≡ a
-  pub star : take q (drop m after) ≡ b
-  pub pinf : take q (drop (m + q) after) ≡ c
-  pub root : take q (drop (m + q + q) after) ≡ d
-  pub unres : take q (drop (m + q + q + q) after) ≡ e
 
 module _ (m q : ℕ) (a b c d e rest : List Float) (la : length a ≡ m) (lb : length b ≡ q) (lc : length c ≡ q) (ld : length d ≡ q) (le : length e ≡ q) (after : List Float) (is : after ≡ a ++ b ++ c ++ d ++ e ++ rest) where
   flat : after ≡ a ++ (b ++ (c ++ (d ++ (e ++ rest))))
@@ -37,17 +31,18 @@ module _ (m q : ℕ) (a b c d e rest : List Float) (la : length a ≡ m) (lb : l
   past4 : drop (m + q + q + q) after ≡ e ++ rest
   past4 = sym (drop-drop q (m + q + q) after) ∙ ap (drop q) past3 ∙ drop-at d _ q ld
 
-  pub past : drop (m + q + q + q + q) after ≡ rest
+  past : drop (m + q + q + q + q) after ≡ rest
   past = sym (drop-drop q (m + q + q + q) after) ∙ ap (drop q) past4 ∙ drop-at e _ q le
 
-  pub parts : Parts m q a b c d e after
-  parts =
+  pub parts : (before : List Float) → rest ≡ drop (m + q + q + q + q) before → Parts m q a b c d e before after
+  parts before kept =
       record {
         mean = ap (take m) flat ∙ take-at a _ m la;
         star = ap (take q) past1 ∙ take-at b _ q lb;
         pinf = ap (take q) past2 ∙ take-at c _ q lc;
         root = ap (take q) past3 ∙ take-at d _ q ld;
         unres = ap (take q) past4 ∙ take-at e _ q le;
+        rest = past ∙ kept;
       }
 
 -- the floats of a row
@@ -58,10 +53,9 @@ pub floats-length : (k at : ℕ) (bs : List ℕ) → length (floatsAt k at bs) �
 floats-length k at bs = length-map (numbersAt k at bs) float ∙ rows.row-length k at bs
 
 module _ {m star pinf root unres loglik tallies end : ℕ} (s : Starts m star pinf root unres loglik tallies end) (bs : List ℕ) where
-  pub loaded : (s0 s1 s2 s3 s4 s5 : List Float) (t : Tallies) → m + m * m + m * m + m * m + m * m ≤ length s0 → s1 ≡ putAt 0 (floatsAt m 40 bs) s0 → s2 ≡ putAt m (floatsAt (m * m) (star + 4) bs) s1 → s3 ≡ putAt (m + m * m) (floatsAt (m * m) (pinf + 4) bs) s2 → s4 ≡ putAt (m + m * m + m * m) (floatsAt (m * m) (root + 4) bs) s3 → s5 ≡ putAt (m + m * m + m * m + m * m) (floatsAt (m * m) (unres + 4) bs) s4
-      → LoadedTallies (numbersIn (widths m) bs) t → Loaded m bs s0 s5 t
-  unfolding loadedPast loadedMean
-  loaded s0 s1 s2 s3 s4 s5 t room e1 e2 e3 e4 e5 g =
+  pub loads : (s0 s1 s2 s3 s4 s5 : List Float) → m + m * m + m * m + m * m + m * m ≤ length s0 → s1 ≡ putAt 0 (floatsAt m 40 bs) s0 → s2 ≡ putAt m (floatsAt (m * m) (star + 4) bs) s1 → s3 ≡ putAt (m + m * m) (floatsAt (m * m) (pinf + 4) bs) s2 → s4 ≡ putAt (m + m * m + m * m) (floatsAt (m * m) (root + 4) bs) s3 → s5 ≡ putAt (m + m * m + m * m + m * m) (floatsAt (m * m) (unres + 4) bs) s4
+      → LoadedState m bs s0 s5
+  loads s0 s1 s2 s3 s4 s5 room e1 e2 e3 e4 e5 =
       let q = m * m in
       let a = floatsAt m 40 bs in
       let b = floatsAt q (star + 4) bs in
@@ -80,10 +74,13 @@ module _ {m star pinf root unres loglik tallies end : ℕ} (s : Starts m star pi
       let u5 : Put 0 (m + q + q + q + q) (a ++ b ++ c ++ d ++ e) s0 s5 = put-next e (m + q + q + q + q) (m + q + q + q) u4 (omega arith) (omega arith) e5 (ap (λ (i : ℕ). m + q + q + q + i) le) in
       let w = put-all (a ++ b ++ c ++ d ++ e) u5 refl in
       let n : length (a ++ b ++ c ++ d ++ e) ≡ m + q + q + q + q = u5 .long in
-      let h = parts m q a b c d e _ la lb lc ld le s5 w in
-      let k1 = rows.mean-row m bs in
-      let k2 = rows.star-row s bs in
-      let k3 = rows.pinf-row s bs in
-      let k4 = rows.root-row s bs in
-      let k5 = rows.unres-row s bs in
-      record { carried = cc; rest = past m q a b c d e _ la lb lc ld le s5 w ∙ ap (λ (i : ℕ). drop i s0) n }
+      rw (rows.mean-row m bs, rows.star-row s bs, rows.pinf-row s bs, rows.root-row s bs, rows.unres-row s bs) (parts m q a b c d e _ la lb lc ld le s5 w s0 (ap (λ (i : ℕ). drop i s0) n))
+
+-- refused before a float is loaded
+pub none-loaded : {p m r n : ℕ} {bs : List ℕ} {s : List Float} → true ≡ badSaved p m r n bs → Loaded p m r n bs s s true
+none-loaded e = record { refused = e; state = λ f. absurd (true≢false f) }
+
+-- with the tallies, what is carried
+pub carried-loaded : (m : ℕ) (bs : List ℕ) (before after : List Float) (t : Tallies) → LoadedState m bs before after → LoadedTallies (numbersIn (widths m) bs) t → carriedOf m after t ≡ loaded m bs
+unfolding loadedPast loadedMean
+carried-loaded m bs before after t h g = cc

@@ -12,8 +12,7 @@ use Rattle.definition.specs.Run.{join, lay}
 use Rattle.definition.specs.Saved.{bytesOf, bits, section}
 use Rattle.laws.specs.Bytes.{bytes-length, join-length}
 use Rattle.laws.specs.Passes.{map-append, join-append}
-use Rattle.saved.specs.Places.{putAt}
-use Rattle.saved.proofs.Digits.{bytes-split}
+use Rattle.saved.specs.Places.{leastFirst, putAt}
 
 -- w, of k places, put at a place
 pub record Put {A : Type 0} (at k : ℕ) (w old new : List A) : Type 0 where
@@ -90,9 +89,9 @@ floats-all at from i k x old out e u = put-is (written (take k (drop from x))) u
 
 -- ---- what each function puts
 
-pub eight-put : (at v : ℕ) (old mid new : List ℕ) → v < 256 ^ 8 → at + 8 ≤ length old → mid ≡ putAt at (bytesOf 4 (v / 0x100000000)) old → new ≡ putAt (at + 4) (bytesOf 4 (v % 0x100000000)) mid → new ≡ putAt at (bytesOf 8 v) old
-eight-put at v old mid new h room e q =
-    put-is (bytesOf 8 v) (put-next (bytesOf 4 (v % 0x100000000)) 8 (at + 4) (put-first at (bytesOf 4 (v / 0x100000000)) old 4 (bytes-length 4 (v / 0x100000000)) e) (omega arith) refl q (ap (λ (i : ℕ). 4 + i) (bytes-length 4 (v % 0x100000000)))) (sym (bytes-split 4 4 v h))
+pub eight-put : (at v w : ℕ) (old mid new : List ℕ) → at + 8 ≤ length old → leastFirst (w % 256 ^ 4) ++ leastFirst (w / 256 ^ 4) ≡ bytesOf 8 v → mid ≡ putAt at (leastFirst (w % 256 ^ 4)) old → new ≡ putAt (at + 4) (leastFirst (w / 256 ^ 4)) mid → new ≡ putAt at (bytesOf 8 v) old
+eight-put at v w old mid new room h e q =
+    put-is (bytesOf 8 v) (put-next (leastFirst (w / 256 ^ 4)) 8 (at + 4) (put-first at (leastFirst (w % 256 ^ 4)) old 4 refl e) (omega arith) refl q refl) h
 
 pub section-put : (at from k : ℕ) (x : List Float) (old mid new : List ℕ) → at + (4 + k * 8) ≤ length old → from + k ≤ length x → mid ≡ putAt at (bytesOf 4 k) old → new ≡ putAt (at + 4) (written (take k (drop from x))) mid → new ≡ putAt at (section (map bits (take k (drop from x)))) old
 unfolding section

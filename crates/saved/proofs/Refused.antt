@@ -9,9 +9,9 @@ use lib.Dec.{ltb, eqb}
 use lib.Ieee.{binary64}
 use lib.Ieee.Bits.{nanBits-is, nanBits-above}
 use borrow.Author.Tests.{lt-ltb, le-ltb, ltb-true, ltb-false, eq-eqb, ne-eqb}
-use Rattle.definition.specs.Run.{anyOf}
+use Rattle.definition.specs.Run.{anyOf, chunks}
 use Rattle.definition.specs.Saved.{otherNan, lengthOf, widths, savedNeed, wrongCount, numbersIn, numberAt, doneIn, badSizes, badTallies, badFloats, badSaved}
-use Rattle.laws.specs.Any.{either-false}
+use Rattle.laws.specs.Any.{either-false, or-false}
 use Rattle.saved.specs.Places.{bytesAt, numbersAt, whole, Starts}
 use Rattle.saved.proofs.Rows as rows
 
@@ -74,6 +74,10 @@ module _ {m star pinf root unres loglik tallies end : ℕ} (s : Starts m star pi
   tallies-are p =
       rw (rows.size-there m bs 3 28 (omega arith) refl, rows.tally-there s bs 0 (tallies + 4) (omega arith) (omega arith), rows.tally-there s bs 1 (tallies + 12) (omega arith) (omega arith), rows.tally-there s bs 2 (tallies + 20) (omega arith) (omega arith), rows.tally-there s bs 3 (tallies + 28) (omega arith) (omega arith)) refl
 
-  pub floats-are : (anyOf otherNan (numbersAt m 40 bs) || anyOf otherNan (numbersAt (m * m) (star + 4) bs) || anyOf otherNan (numbersAt (m * m) (pinf + 4) bs) || anyOf otherNan (numbersAt (m * m) (root + 4) bs) || anyOf otherNan (numbersAt (m * m) (unres + 4) bs) || anyOf otherNan (numbersAt 1 (loglik + 4) bs)) ≡ badFloats (numbersIn (widths m) bs)
+  loglik-is : anyOf otherNan (numbersAt 1 (loglik + 4) bs) ≡ otherNan (bytesAt 8 (loglik + 4) bs)
+  unfolding anyOf chunks
+  loglik-is = or-false (otherNan (bytesAt 8 (loglik + 4) bs))
+
+  pub floats-are : (anyOf otherNan (numbersAt m 40 bs) || anyOf otherNan (numbersAt (m * m) (star + 4) bs) || anyOf otherNan (numbersAt (m * m) (pinf + 4) bs) || anyOf otherNan (numbersAt (m * m) (root + 4) bs) || anyOf otherNan (numbersAt (m * m) (unres + 4) bs) || otherNan (bytesAt 8 (loglik + 4) bs)) ≡ badFloats (numbersIn (widths m) bs)
   unfolding badFloats
-  floats-are = rw (rows.mean-row m bs, rows.star-row s bs, rows.pinf-row s bs, rows.root-row s bs, rows.unres-row s bs, rows.loglik-row s bs) refl
+  floats-are = rw (rows.mean-row m bs, rows.star-row s bs, rows.pinf-row s bs, rows.root-row s bs, rows.unres-row s bs, rows.loglik-row s bs, loglik-is) refl

@@ -1,12 +1,13 @@
 -- What is carried, as it is lent: a state's numbers in the file's order, and tallies.
 use mathlib.Core.Path.{_≡_}
 use Prim.Native.Nat.{ℕ, _+_, _*_}
-use mathlib.Core.List.{List}
+use mathlib.Core.Bool.{Bool, false}
+use mathlib.Core.List.{List, map}
 use lib.ListN.{take, drop}
 use lib.Dec.{eqb}
 use lib.Ieee.{Float}
 use Rattle.definition.specs.Carried.{Past, Carried}
-use Rattle.definition.specs.Saved.{float, widths, numbersIn, numberAt, doneIn, diffuseIn, heardIn, newsIn, stateIn, loadedPast, loadedMean}
+use Rattle.definition.specs.Saved.{float, widths, numbersIn, sectionAt, numberAt, doneIn, diffuseIn, heardIn, newsIn, stateIn, badSaved}
 use Rattle.saved.specs.declared.Tallies.{Tallies}
 
 abbrev pub pastOf : ℕ → List Float → Tallies → Past
@@ -27,6 +28,21 @@ pastOf m s t =
 abbrev pub carriedOf : ℕ → List Float → Tallies → Carried
 carriedOf m s t = record { past = pastOf m s t; mean = record { a = take m s; loglik = t .answer .loglik } }
 
+-- a state's parts, of m and four times q numbers; past them nothing has changed
+pub record Parts (m q : ℕ) (a b c d e before after : List Float) : Type 0 where
+  pub mean : take m after ≡ a
+  pub star : take q (drop m after) ≡ b
+  pub pinf : take q (drop (m + q) after) ≡ c
+  pub root : take q (drop (m + q + q) after) ≡ d
+  pub unres : take q (drop (m + q + q + q) after) ≡ e
+  pub rest : drop (m + q + q + q + q) after ≡ drop (m + q + q + q + q) before
+
+-- they are the floats of the bytes bs
+abbrev pub LoadedState : ℕ → List ℕ → List Float → List Float → Type 0
+LoadedState m bs before after =
+    let part : ℕ → List Float = λ k. map float (sectionAt (numbersIn (widths m) bs) k) in
+    Parts m (m * m) (part 1) (part 2) (part 3) (part 4) (part 5) before after
+
 pub record LoadedTallies (ns : List (List ℕ)) (t : Tallies) : Type 0 where
   pub done : t .done ≡ doneIn ns
   pub live : t .live ≡ eqb (stateIn ns) 1
@@ -35,7 +51,7 @@ pub record LoadedTallies (ns : List (List ℕ)) (t : Tallies) : Type 0 where
   pub heard : t .answer .heard ≡ heardIn ns
   pub news : t .answer .news ≡ newsIn ns
 
--- what is loaded of the bytes bs is carried now; past the state's numbers nothing has changed
-pub record Loaded (m : ℕ) (bs : List ℕ) (before after : List Float) (t : Tallies) : Type 0 where
-  pub carried : carriedOf m after t ≡ record { past = loadedPast (numbersIn (widths m) bs); mean = loadedMean (numbersIn (widths m) bs) }
-  pub rest : drop (m + m * m + m * m + m * m + m * m) after ≡ drop (m + m * m + m * m + m * m + m * m) before
+-- the bytes bs are bad, or their floats are the state's
+pub record Loaded (p m r n : ℕ) (bs : List ℕ) (before after : List Float) (bad : Bool) : Type 0 where
+  pub refused : bad ≡ badSaved p m r n bs
+  pub state : bad ≡ false → LoadedState m bs before after

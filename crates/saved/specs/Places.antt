@@ -1,7 +1,7 @@
--- Bytes by their places: a number read at one, numbers in a row, a list put at one; where each section of a saved run begins.
+-- Bytes by their places: a number read at one, numbers in a row, a number's bytes, a list put at one; where each section of a saved run begins.
 use mathlib.Core.Path.{_≡_}
-use Prim.Native.Nat.{ℕ, _+_, _*_, _≤_}
-use mathlib.Core.List.{List, _++_, map}
+use Prim.Native.Nat.{ℕ, _+_, _*_, _/_, _%_, _≤_}
+use mathlib.Core.List.{List, [], _∷_, _++_, map}
 use lib.ListN.{length, take, drop}
 use Rattle.definition.specs.Run.{chunks}
 use Rattle.definition.specs.Saved.{fromBytes}
@@ -13,6 +13,10 @@ bytesAt k at bs = fromBytes (take k (drop at bs))
 -- the w numbers of eight bytes from a place on
 abbrev pub numbersAt : ℕ → ℕ → List ℕ → List ℕ
 numbersAt w at bs = map fromBytes (chunks w 8 (drop at bs))
+
+-- the four low bytes of a number, the least first
+abbrev pub leastFirst : ℕ → List ℕ
+leastFirst w = w % 256 ∷ w / 0x100 % 256 ∷ w / 0x10000 % 256 ∷ w / 0x1000000 % 256 ∷ []
 
 -- w in place of what stood from a place on
 abbrev pub putAt : {A : Type 0} → ℕ → List A → List A → List A

@@ -21,10 +21,9 @@ ghost use Rattle.definition.specs.Saved.{
   badSizes,
   badTallies,
   badFloats,
-  badSaved,
 };
 ghost use Rattle.saved.specs.Places.{bytesAt, numbersAt, putAt, whole, Starts};
-ghost use Rattle.saved.specs.Loaded.{carriedOf, LoadedTallies, Loaded};
+ghost use Rattle.saved.specs.Loaded.{carriedOf, LoadedState, LoadedTallies, Loaded};
 use numbers::eight;
 use numbers::four;
 use numbers::put_eight;
@@ -132,36 +131,45 @@ fn other_nan(k: u64) -> bool
     (k % 0x8000_0000_0000_0000 > 0x7FF0_0000_0000_0000) & (k != 0x7FF8_0000_0000_0000)
 }
 
-// Such bits stand among the w numbers from a place on.
-fn other_nans(saved: &[u8], at: usize, w: usize) -> bool
-    requires { ⌜ at + w * 8 ≤ length (now saved) ⌝ }
-    ensures { λ r. ⌜ r ≡ anyOf otherNan (numbersAt w at (now (saved .entry))) ⌝ }
+// ---- loading
+
+// The k numbers from a place on, as floats, into the state from a place on; whether other NaNs' bits are among them.
+fn load_floats(saved: &[u8], at: usize, k: usize, state: &mut [f64], to: usize) -> bool
+    requires { ⌜ (at + k * 8 ≤ length (now saved)) × (to + k ≤ length (now state)) ⌝ }
+    ensures { λ r. ⌜ (r ≡ anyOf otherNan (numbersAt k at (now (saved .entry))))
+        × (now (state .exit) ≡ putAt to (map float (numbersAt k at (now (saved .entry)))) (now (state .entry))) ⌝ }
 {
     let mut found = false;
-    for i in 0..w {
-        found = found | other_nan(eight(saved, at + i * 8));
+    for i in 0..k {
+        let w = eight(saved, at + i * 8);
+        found = found | other_nan(w);
+        state[to + i] = bits::double(w);
     }
     found
 }
 
-fn bad_floats(saved: &[u8], m: usize) -> bool
-    requires { ⌜ (m ≤ 8) × (length (now saved) ≡ whole m) ⌝ }
-    ensures { λ r. ⌜ r ≡ badFloats (numbersIn (widths m) (now (saved .entry))) ⌝ }
+// The state's sections; whether other NaNs' bits are among the floats, the log-likelihood's too.
+fn load_state(saved: &[u8], m: usize, state: &mut [f64]) -> bool
+    requires { ⌜ (m ≤ 8) × (length (now saved) ≡ whole m) × (m + m * m + m * m + m * m + m * m ≤ length (now state)) ⌝ }
+    ensures { λ r. ⌜ (r ≡ badFloats (numbersIn (widths m) (now (saved .entry))))
+        × LoadedState m (now (saved .entry)) (now (state .entry)) (now (state .exit)) ⌝ }
 {
     let at = places_of(m);
     let mm = m * m;
-    other_nans(saved, 40, m)
-        | other_nans(saved, at.star + 4, mm)
-        | other_nans(saved, at.p_inf + 4, mm)
-        | other_nans(saved, at.root + 4, mm)
-        | other_nans(saved, at.unres + 4, mm)
-        | other_nans(saved, at.loglik + 4, 1)
+    let mean = load_floats(saved, 40, m, state, 0);
+    let star = load_floats(saved, at.star + 4, mm, state, m);
+    let p_inf = load_floats(saved, at.p_inf + 4, mm, state, m + mm);
+    let root = load_floats(saved, at.root + 4, mm, state, m + mm + mm);
+    let unres = load_floats(saved, at.unres + 4, mm, state, m + mm + mm + mm);
+    let loglik = other_nan(eight(saved, at.loglik + 4));
+    mean | star | p_inf | root | unres | loglik
 }
 
-// Whether the bytes are refused for a model of these sizes and a stretch of n periods.
-pub fn bad(saved: &[u8], p: usize, m: usize, r: usize, n: usize) -> bool
-    requires { ⌜ (p ≤ 8) × (m ≤ 8) ⌝ }
-    ensures { λ b. ⌜ b ≡ badSaved p m r n (now (saved .entry)) ⌝ }
+// Whether the bytes are refused for a model of these sizes and a stretch of n periods. They are gone through once: where
+// they are not refused, the state holds what was saved, the mean, P*, P∞, its root, the unresolved matrix.
+pub fn load(saved: &[u8], p: usize, m: usize, r: usize, n: usize, state: &mut [f64]) -> bool
+    requires { ⌜ (p ≤ 8) × (m ≤ 8) × (m + m * m + m * m + m * m + m * m ≤ length (now state)) ⌝ }
+    ensures { λ b. ⌜ Loaded p m r n (now (saved .entry)) (now (state .entry)) (now (state .exit)) b ⌝ }
 {
     let long = saved.len();
     let end = places_of(m).end;
@@ -171,22 +179,12 @@ pub fn bad(saved: &[u8], p: usize, m: usize, r: usize, n: usize) -> bool
     if bad_sizes(saved, p, m, r, n) {
         return true;
     }
-    wrong_count(saved, m) | bad_tallies(saved, p, m) | bad_floats(saved, m)
+    let floats = load_state(saved, m, state);
+    wrong_count(saved, m) | bad_tallies(saved, p, m) | floats
 }
 
-// ---- loading
-
-// The k numbers from a place on, as floats, into the state from a place on.
-fn load_floats(saved: &[u8], at: usize, k: usize, state: &mut [f64], to: usize)
-    requires { ⌜ (at + k * 8 ≤ length (now saved)) × (to + k ≤ length (now state)) ⌝ }
-    ensures { λ _. ⌜ now (state .exit) ≡ putAt to (map float (numbersAt k at (now (saved .entry)))) (now (state .entry)) ⌝ }
-{
-    for i in 0..k {
-        state[to + i] = bits::double(eight(saved, at + i * 8));
-    }
-}
-
-fn load_tallies(saved: &[u8], m: usize) -> Tallies
+// How far the saved run had come.
+pub fn load_tallies(saved: &[u8], m: usize) -> Tallies
     requires { ⌜ (m ≤ 8) × (length (now saved) ≡ whole m) ⌝ }
     ensures { λ t. ⌜ LoadedTallies (numbersIn (widths m) (now (saved .entry))) t ⌝ }
 {
@@ -203,21 +201,6 @@ fn load_tallies(saved: &[u8], m: usize) -> Tallies
         live: eight(saved, at + 28) == 1,
         answer,
     }
-}
-
-// What was saved. Into the state: the mean, P*, P∞, its root, the unresolved matrix.
-pub fn load(saved: &[u8], m: usize, state: &mut [f64]) -> Tallies
-    requires { ⌜ (m ≤ 8) × (length (now saved) ≡ whole m) × (m + m * m + m * m + m * m + m * m ≤ length (now state)) ⌝ }
-    ensures { λ t. ⌜ Loaded m (now (saved .entry)) (now (state .entry)) (now (state .exit)) t ⌝ }
-{
-    let at = places_of(m);
-    let mm = m * m;
-    load_floats(saved, 40, m, state, 0);
-    load_floats(saved, at.star + 4, mm, state, m);
-    load_floats(saved, at.p_inf + 4, mm, state, m + mm);
-    load_floats(saved, at.root + 4, mm, state, m + mm + mm);
-    load_floats(saved, at.unres + 4, mm, state, m + mm + mm + mm);
-    load_tallies(saved, m)
 }
 
 // ---- saving

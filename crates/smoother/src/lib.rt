@@ -71,6 +71,7 @@ pub fn smooth_univariate<'a>(
         m_inf.len(),
     );
     let both = model::lengths::room_smoothed(p, m, r, n, room, sm_mean.len(), sm_cov.len());
+    let mut rqr = [0.0; 64];
     let k = model::refusal(
         p,
         m,
@@ -89,6 +90,7 @@ pub fn smooth_univariate<'a>(
         flags,
         y,
         both,
+        &mut rqr,
     );
     if 0 < k {
         return promise::Outcome::Refused(k);

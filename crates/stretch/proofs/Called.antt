@@ -8,7 +8,7 @@ use lib.ListN.{length, drop}
 use lib.Dec.{eqb, leb}
 use lib.Ieee.{Float}
 use Rattle.definition.specs.Run.{anyOf, lay}
-use Rattle.definition.specs.Inputs.{Model, Offsets, classOf, isInfinity}
+use Rattle.definition.specs.Inputs.{Model, Offsets, classOf, isInfinity, noise}
 use Rattle.definition.specs.Outcome.{CovParts, MeanParts, endingOf, numberOf, roomy}
 use Rattle.definition.specs.Carried.{Carried, Past}
 use Rattle.definition.specs.Saved.{savedNeed, badSaved, savedOf}
@@ -18,6 +18,7 @@ use Rattle.laws.specs.AcceptedStretch.{passes, sizes-pass}
 use Rattle.laws.specs.SavedBack.{loaded}
 use Rattle.laws.specs.Sizes.{square-le}
 use Rattle.laws.specs.Later.{laterFrom}
+use Rattle.dense.specs.Views.{mat}
 use Rattle.model.specs.Lengths.{roomsOf, rooms-are}
 use Rattle.carried.specs.State.{StateFits}
 use Rattle.forward.specs.View.{FitOn}
@@ -25,7 +26,7 @@ use Rattle.forward.specs.View as view
 use Rattle.judged.specs.declared.Judged.{Judged}
 use Rattle.judged.specs.Went.{Went}
 use Rattle.saved.specs.declared.Tallies.{Tallies}
-use Rattle.saved.specs.Loaded.{carriedOf}
+use Rattle.saved.specs.Loaded.{LoadedState, carriedOf}
 use Rattle.promise.specs.declared.Answer.{Answer}
 use Rattle.promise.specs.declared.Outcome.{Outcome}
 use Rattle.promise.specs.declared.Outcome.the-variants.{Refused}
@@ -75,12 +76,18 @@ module _ (x : Model) (o : Offsets) (y : List Float) (begins : Bool) (saved : Lis
     room : Roomy x w w′ × (last ≡ false → savedNeed (x .m) ≤ length save)
     room = room-to-save x last w w′ save (inputs .2)
 
-    pub may-enter : {size : ℕ} → size ≡ 264 → Starts (x .m) (length (o .a1)) (length (x .pStar)) (length (x .flags)) size × (begins ≡ false → length saved ≡ savedNeed (x .m))
-    may-enter e =
+    -- from what the checks have made of the state
+    pub may-enter : {before state : List Float} → length state ≡ 264 → (k ≡ 0 → begins ≡ false → LoadedState (x .m) saved before state)
+        → Starts (x .m) (length (o .a1)) (length (x .pStar)) (length (x .flags)) (length state) × (begins ≡ false → (length saved ≡ savedNeed (x .m)) × LoadedState (x .m) saved state state)
+    may-enter e loads =
         let i = inputs .0 in
         let s = sizes in (
           record { m0 = s .m0; m8 = s .m8; mean = i .a1; star = i .pStar; flagged = i .flags; room = state-fits (s .m8) e },
-          entered.long-enough x begins saved good,
+          λ b.
+              let l = loads (omega arith) b in (
+                entered.long-enough x begins saved good b,
+                record { mean = l .mean; star = l .star; pinf = l .pinf; root = l .root; unres = l .unres; rest = refl },
+              ),
         )
 
     -- where the run stands: t, over the state s
@@ -97,11 +104,12 @@ module _ (x : Model) (o : Offsets) (y : List Float) (begins : Bool) (saved : Lis
       fits : StateFits (x .m) (length s)
       fits = record { m8 = sizes .m8; whole = λ some. state-fits (sizes .m8) long }
 
-      pub may-run : (left : List Float) → left ≡ drop (min (t .done) (length (x .zList) / (x .p * x .m) - 1) * (x .p * x .m)) (x .zList) → FitOn (withList x left) o (length y) w w′ (length s) (t .answer)
+      pub may-run : {rqr : List Float} → (k ≡ 0 → mat (x .m) rqr ≡ noise x) → (left : List Float) → left ≡ drop (min (t .done) (length (x .zList) / (x .p * x .m) - 1) * (x .p * x .m)) (x .zList)
+          → FitOn (withList x left) o (length y) rqr w w′ (length s) (t .answer)
       unfolding laterFrom
-      may-run left e =
+      may-run q left e =
           rw e
-          (may-begin {x = x} {o = o} {y = length y} {w = w} {w′ = w′} sizes (inputs .0) (inputs .1) (room .0) (t .done) fits (record { diffuse = few .diffuse; heard = few .heard; news = few .news }))
+          (may-begin {x = x} {o = o} {y = length y} {w = w} {w′ = w′} sizes (inputs .0) (inputs .1) (room .0) (t .done) (q (omega arith)) fits (record { diffuse = few .diffuse; heard = few .heard; news = few .news }))
 
       pub may-keep : {size : ℕ} → size ≡ 264 → (x .m ≤ 8) × (last ≡ false → savedNeed (x .m) ≤ length save) × (x .m + x .m * x .m + x .m * x .m + x .m * x .m + x .m * x .m ≤ size)
       may-keep e = (sizes .m8, room .1, state-fits (sizes .m8) e)

@@ -10,11 +10,13 @@ use lib.ListN.{length, drop, length-drop}
 use lib.Dec.{leb}
 use lib.Ieee.{Float}
 use borrow.Author.Tests.{leb-true}
-use Rattle.definition.specs.Inputs.{Model, Offsets}
+use Rattle.definition.specs.Inputs.{Model, Offsets, noise}
 use Rattle.definition.specs.Outcome.{CovParts, MeanParts, roomy, kindsNeed, covNeed, meanNeed}
 use Rattle.definition.specs.Saved.{savedNeed}
 use Rattle.definition.specs.Stretch.{roomyStretch}
 use Rattle.laws.specs.Accepted.{InRange, InputsFit, Designs, Roomy, room-of}
+use Rattle.dense.specs.Views.{mat}
+use Rattle.model.proofs.Laws.{product-some}
 use Rattle.promise.specs.declared.Answer.{Answer}
 use Rattle.carried.specs.State.{StateFits}
 use Rattle.forward.specs.View.{FitOn, Tallies}
@@ -55,16 +57,13 @@ later-designs k done z zs some (inr w) =
     parts : (l s : ℕ) {n : ℕ} → s ≤ l → n ≡ l * k → n - s * k ≡ (l - s) * k
     parts l s h e = let w : l - s + s ≡ l = omega arith in omega (arith, e, add-mul (l - s) s k, ap (λ (i : ℕ). i * k) w)
 
-pub product-some : (a b : ℕ) → 0 < a → 0 < b → 0 < a * b
-product-some (suc a) (suc b) h g = omega arith
-
 module _ {x : Model} {o : Offsets} {y : ℕ} {w : CovParts} {w′ : MeanParts} (sizes : InRange (x .p) (x .m) (x .r) (x .n)) (inputs : InputsFit x o) (readings : y ≡ x .n * x .p) (room : Roomy x w w′) where
   pub some-design : 0 < x .p * x .m
-  some-design = product-some (x .p) (x .m) (sizes .p0) (sizes .m0)
+  some-design = product-some (sizes .p0) (sizes .m0)
 
-  pub may-begin : (done : ℕ) {size : ℕ} {before : Answer} → StateFits (x .m) size → Tallies before → FitOn (laterOf x done) o y w w′ size before
-  unfolding kindsNeed covNeed meanNeed
-  may-begin done s t =
+  pub may-begin : (done : ℕ) {rqr : List Float} {size : ℕ} {before : Answer} → mat (x .m) rqr ≡ noise x → StateFits (x .m) size → Tallies before → FitOn (laterOf x done) o y rqr w w′ size before
+  unfolding noise kindsNeed covNeed meanNeed
+  may-begin done q s t =
       record {
         sizes = sizes;
         inputs =
@@ -81,6 +80,7 @@ module _ {x : Model} {o : Offsets} {y : ℕ} {w : CovParts} {w′ : MeanParts} (
               flags = inputs .flags;
             };
         readings = readings;
+        noise = q;
         room = record { kinds = room .kinds; cov = room .cov; mean = room .mean };
         state = s;
         tallies = t;

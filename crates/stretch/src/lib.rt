@@ -13,22 +13,36 @@ ghost use Rattle.definition.specs.Stretch.{stretchRefusal};
 ghost use Rattle.laws.specs.Accepted.{InRange};
 ghost use Rattle.laws.specs.SavedBack.{loaded};
 ghost use Rattle.model.specs.Lengths.{rooms};
-ghost use Rattle.saved.specs.Loaded.{carriedOf};
+ghost use Rattle.saved.specs.Loaded.{LoadedState, carriedOf};
 ghost use Rattle.promise.specs.Lent.{modelOf, offsetsOf, given, lent, givenStretch, lentStretch};
 ghost use Rattle.promise.specs.Calls.{Stretched};
 ghost use Rattle.stretch.specs.Begun.{Starts, begunOf};
+ghost use Rattle.stretch.specs.Checks.{Checks};
 
 // ---- the checks
 
-// 15 BadSaved, of sizes in range. A run that begins has no saved bytes.
-fn of_saved(begins: bool, saved: &[u8], p: usize, m: usize, r: usize, n: usize) -> u8
-    requires { ⌜ InRange p m r n ⌝ }
-    ensures { λ k. ⌜ k ≡ firstOf ((15, cond begins (not (eqb (length (now (saved .entry))) 0)) (badSaved p m r n (now (saved .entry)))) ∷ []) ⌝ }
+// 15 BadSaved, of sizes in range. A run that begins has no saved bytes; of one that goes on, the state is loaded as its bytes are tested.
+fn of_saved(
+    begins: bool,
+    saved: &[u8],
+    p: usize,
+    m: usize,
+    r: usize,
+    n: usize,
+    state: &mut [f64],
+) -> u8
+    requires { ⌜ InRange p m r n × (m + m * m + m * m + m * m + m * m ≤ length (now state)) ⌝ }
+    ensures { λ k. ⌜ (k ≡ firstOf ((15, cond begins (not (eqb (length (now (saved .entry))) 0)) (badSaved p m r n (now (saved .entry)))) ∷ []))
+        × (k ≡ 0 → begins ≡ false → LoadedState m (now (saved .entry)) (now (state .entry)) (now (state .exit))) ⌝ }
 {
     if begins {
         return if saved.len() == 0 { 0 } else { 15 };
     }
-    if saved::bad(saved, p, m, r, n) { 15 } else { 0 }
+    if saved::load(saved, p, m, r, n, state) {
+        15
+    } else {
+        0
+    }
 }
 
 // Whether there is room to save in; the last stretch needs none.
@@ -39,7 +53,8 @@ fn room_to_save(last: bool, save: usize, m: usize) -> bool
     last | (104 + m * 8 + m * m * 32 <= save)
 }
 
-// Refusals 1 to 11 and 15, of the inputs and of the outputs' lengths; 0: none.
+// Refusals 1 to 11 and 15, of the inputs and of the outputs' lengths; 0: none. What the tests have worked out is handed on: R Q R', and the
+// state of a run that goes on.
 fn refusal(
     p: usize,
     m: usize,
@@ -72,13 +87,17 @@ fn refusal(
     m_star: usize,
     m_inf: usize,
     save: usize,
+    rqr: &mut [f64; 64],
+    state: &mut [f64],
 ) -> u8
-    ensures { λ k. ⌜ k ≡ stretchRefusal
+    requires { ⌜ length (now state) ≡ 264 ⌝ }
+    ensures { λ k. ⌜ Checks k (stretchRefusal
         (modelOf p m r n (now (z .entry)) (now (zs .entry)) (now (h .entry)) (now (t .entry)) (now (rr .entry)) (now (q .entry)) (now («p_star» .entry)) (now (flags .entry)))
         (offsetsOf (now (c .entry)) (now (d .entry)) (now (a1 .entry)))
         (length (now (y .entry))) (anyOf isInfinity (map classOf (now (y .entry))))
         (rooms p m n «pred_mean» «pred_cov» «pred_inf» «filt_mean» «filt_cov» kinds v «f_star» «f_inf» «m_star» «m_inf» && (last || leb (savedNeed m) save))
-        (cond begins (not (eqb (length (now (saved .entry))) 0)) (badSaved p m r n (now (saved .entry)))) ⌝ }
+        (cond begins (not (eqb (length (now (saved .entry))) 0)) (badSaved p m r n (now (saved .entry)))))
+        m r (now (rr .entry)) (now (q .entry)) (now (rqr .exit)) begins (now (saved .entry)) (now (state .entry)) (now (state .exit)) ⌝ }
 {
     let sizes = model::refusals::of_stretch_sizes(p, m, r, n);
     if sizes != 0 {
@@ -120,11 +139,12 @@ fn refusal(
         flags,
         y,
         room,
+        rqr,
     );
     if inputs != 0 {
         return inputs;
     }
-    of_saved(begins, saved, p, m, r, n)
+    of_saved(begins, saved, p, m, r, n, state)
 }
 
 // ---- where the run stands
@@ -163,7 +183,7 @@ fn begin(a1: &[f64], p_star: &[f64], flags: &[u8], m: usize, state: &mut [f64]) 
     }
 }
 
-// At its start, or where it was saved.
+// At its start, or where it was saved: then the checks have loaded the state.
 fn enter(
     begins: bool,
     saved: &[u8],
@@ -174,14 +194,14 @@ fn enter(
     state: &mut [f64],
 ) -> saved::Tallies
     requires { ⌜ Starts m (length (now a1)) (length (now «p_star»)) (length (now flags)) (length (now state))
-        × (begins ≡ false → length (now saved) ≡ savedNeed m) ⌝ }
+        × (begins ≡ false → (length (now saved) ≡ savedNeed m) × LoadedState m (now saved) (now state) (now state)) ⌝ }
     ensures { λ t. ⌜ carriedOf m (now (state .exit)) t
         ≡ cond begins (begunOf m (now (a1 .entry)) (now («p_star» .entry)) (now (flags .entry))) (loaded m (now (saved .entry))) ⌝ }
 {
     if begins {
         return begin(a1, p_star, flags, m, state);
     }
-    saved::load(saved, m, state)
+    saved::load_tallies(saved, m)
 }
 
 // The run saved; the last stretch saves nothing.
@@ -252,6 +272,8 @@ pub fn stretch<'a>(
         (now («m_star» .exit)) (now («m_inf» .exit)))
         (now (save .exit))) ⌝ }
 {
+    let mut rqr = [0.0; 64];
+    let mut state = [0.0; 264];
     let k = refusal(
         p,
         m,
@@ -284,11 +306,12 @@ pub fn stretch<'a>(
         m_star.len(),
         m_inf.len(),
         save.len(),
+        &mut rqr,
+        &mut state,
     );
     if 0 < k {
         return promise::Outcome::Refused(k);
     }
-    let mut state = [0.0; 264];
     let stands = enter(begins, saved, a1, p_star, flags, m, &mut state);
     let before = stands.answer;
     let left = model::later(zs, p, m, stands.done);
@@ -303,6 +326,7 @@ pub fn stretch<'a>(
         t,
         rr,
         q,
+        &rqr,
         c,
         d,
         a1,
@@ -325,6 +349,7 @@ pub fn stretch<'a>(
         before,
         last,
     );
+    let done = stands.done + n;
     let answer = e.answer;
     keep(
         save,
@@ -334,7 +359,7 @@ pub fn stretch<'a>(
         r,
         &state,
         saved::Tallies {
-            done: stands.done + n,
+            done,
             live: e.live,
             answer,
         },

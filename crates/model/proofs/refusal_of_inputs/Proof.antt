@@ -13,7 +13,7 @@ use Rattle.definition.specs.Refusals.{firstOf, ofLengths, ofSystem, ofStart, of
 use Rattle.laws.specs.Numbered.{stops, goes-on}
 use Rattle.laws.specs.Accepted.{InputsFit, past-lengths}
 use Rattle.promise.specs.Lent.{modelOf, offsetsOf}
-use Rattle.model.specs.Past.{h-fits, system-fits, start-given, step-fits}
+use Rattle.model.specs.Past.{h-fits, system-fits, start-given, step-fits, noise-given}
 use Rattle.model.proofs.refusal_of_inputs.Statement.{statement}
 use Rattle.model.proofs.refusal_of_inputs.Tie as tie
 
@@ -65,28 +65,28 @@ of-h-requires : tie.Need-of-h-requires
 of-h-requires c κs = h-fits (c .before .before .before .before .before .before .before .before .before .before .before .before .before .before .before .before .before .before .pre) (inputs (c .before .before .before .before))
 
 of-step-requires : tie.Need-of-step-requires
-of-step-requires c κs = step-fits (c .before .before .before .before .before .before .before .before .before .before .before .before .before .before .before .before .before .before .before .before .before .before .pre) (inputs (c .before .before .before .before .before .before .before .before))
+of-step-requires c κs = (step-fits (c .before .before .before .before .before .before .before .before .before .before .before .before .before .before .before .before .before .before .before .before .before .before .before .pre) (inputs (c .before .before .before .before .before .before .before .before .before)), noise-given (c .before .before .before .before .before .before .before .before .before .before .before .before .before .before .before .before .before .before .before .before .before .before .before .pre) (inputs (c .before .before .before .before .before .before .before .before .before)) (sym (c .before .before .before .before .before .before .before .before .of-system .ensures) ∙ c .before .before .before .before .before .before .before .if2 .left))
 
 -- ---- what is returned
 
 returns : tie.Need-returns
-returns c = stops (ofLengths (model (c .before .before .before .before .before .before .before .before .before .before .before .before .before .before)) (offsets (c .before .before .before .before .before .before .before .before .before .before .before .before .before .before)) _ _) _ tt (c .before .of-lengths .ensures) (c .if1 .taken)
+returns c = (stops (ofLengths (model (c .before .before .before .before .before .before .before .before .before .before .before .before .before .before)) (offsets (c .before .before .before .before .before .before .before .before .before .before .before .before .before .before)) _ _) _ tt (c .before .of-lengths .ensures) (c .if1 .taken), λ e. absurd (c .if1 .taken e))
 
 returns-2 : tie.Need-returns-2
-returns-2 c = after-lengths (c .before .before) (stops (ofSystem (model (c .before .before .before .before .before .before .before .before .before .before .before .before .before .before .before .before))) _ tt (c .before .of-system .ensures) (c .if2 .taken))
+returns-2 c = (after-lengths (c .before .before) (stops (ofSystem (model (c .before .before .before .before .before .before .before .before .before .before .before .before .before .before .before .before))) _ tt (c .before .of-system .ensures) (c .if2 .taken)), λ e. absurd (c .if2 .taken e))
 
 returns-3 : tie.Need-returns-3
-returns-3 c = after-system (c .before .before) (stops (ofStart (model (c .before .before .before .before .before .before .before .before .before .before .before .before .before .before .before .before .before .before)) (offsets (c .before .before .before .before .before .before .before .before .before .before .before .before .before .before .before .before .before .before))) _ tt (c .before .of-start .ensures) (c .if3 .taken))
+returns-3 c = (after-system (c .before .before) (stops (ofStart (model (c .before .before .before .before .before .before .before .before .before .before .before .before .before .before .before .before .before .before)) (offsets (c .before .before .before .before .before .before .before .before .before .before .before .before .before .before .before .before .before .before))) _ tt (c .before .of-start .ensures) (c .if3 .taken)), λ e. absurd (c .if3 .taken e))
 
 returns-4 : tie.Need-returns-4
-returns-4 c = after-start (c .before .before) (stops (ofH (model (c .before .before .before .before .before .before .before .before .before .before .before .before .before .before .before .before .before .before .before .before))) _ tt (c .before .of-h .ensures) (c .if4 .taken))
+returns-4 c = (after-start (c .before .before) (stops (ofH (model (c .before .before .before .before .before .before .before .before .before .before .before .before .before .before .before .before .before .before .before .before))) _ tt (c .before .of-h .ensures) (c .if4 .taken)), λ e. absurd (c .if4 .taken e))
 
 returns-5 : tie.Need-returns-5
-returns-5 c = after-h (c .before .before) (stops (ofReadings (infinity (c .before .before .before .before .before .before .before .before .before .before .before .before .before .before .before .before .before .before .before .before .before .before))) _ tt (c .before .of-readings .ensures) (c .if5 .taken))
+returns-5 c = (after-h (c .before .before) (stops (ofReadings (infinity (c .before .before .before .before .before .before .before .before .before .before .before .before .before .before .before .before .before .before .before .before .before .before))) _ tt (c .before .of-readings .ensures) (c .if5 .taken)), λ e. absurd (c .if5 .taken e))
 
 returns-6 : tie.Need-returns-6
 unfolding noise
-returns-6 c = after-readings (c .before) (c .of-step .ensures)
+returns-6 c = (after-readings (c .before .before) (c .of-step .ensures .0), c .of-step .ensures .1)
 
 pub refusal-of-inputs-spec : {M : Type 1} → statement M
 refusal-of-inputs-spec = tie.close (tie.spec (λ c κs. search needs) returns of-system-requires returns-2 of-start-requires returns-3 of-h-requires returns-4 (λ c κs. search needs) returns-5 of-step-requires returns-6)

@@ -9,9 +9,9 @@ use Rattle.smoother.proofs.smooth_univariate.Tie as tie
 use borrow.Author.Needs.{needs}
 
 -- at the checks' end: what they say of the inputs and of the parts as they were lent
-checked : (c : tie.After-refusal) → (let a = c .before .before .before .before .before .before .before .before .before .before .before .before .before .before .before .before .before .before .before .before .before .before .before .before .before .before .before .before .args in judged.CheckedSmooth (modelOf (a .p) (a .m) (a .r) (a .n) (a .z .now) (a .zs .now) (a .h .now) (a .t .now) (a .rr .now) (a .q .now) (a .p-star .now) (a .flags .now)) (offsetsOf (a .c .now) (a .d .now) (a .a1 .now)) (a .y .now) (covParts (a .pred-cov .now) (a .pred-inf .now) (a .filt-cov .now) (a .kinds .now) (a .f-star .now) (a .f-inf .now) (a .m-star .now) (a .m-inf .now)) (meanParts (a .pred-mean .now) (a .filt-mean .now) (a .v .now)) (a .sm-mean .now) (a .sm-cov .now) (c .refusal .result))
+checked : (c : tie.After-refusal) → (let a = c .before .before .before .before .before .before .before .before .before .before .before .before .before .before .before .before .before .before .before .before .before .before .before .before .before .before .before .before .before .args in judged.CheckedSmooth (modelOf (a .p) (a .m) (a .r) (a .n) (a .z .now) (a .zs .now) (a .h .now) (a .t .now) (a .rr .now) (a .q .now) (a .p-star .now) (a .flags .now)) (offsetsOf (a .c .now) (a .d .now) (a .a1 .now)) (a .y .now) (covParts (a .pred-cov .now) (a .pred-inf .now) (a .filt-cov .now) (a .kinds .now) (a .f-star .now) (a .f-inf .now) (a .m-star .now) (a .m-inf .now)) (meanParts (a .pred-mean .now) (a .filt-mean .now) (a .v .now)) (a .sm-mean .now) (a .sm-cov .now) (c .refusal .result))
 unfolding covParts meanParts
-checked c = judged.checked (c .refusal .ensures) (c .before .before .room .ensures) (c .before .room-smoothed .ensures)
+checked c = judged.checked (c .refusal .ensures .0) (c .before .before .before .room .ensures) (c .before .before .room-smoothed .ensures)
 
 returns : tie.Need-returns
 unfolding covParts meanParts
@@ -74,7 +74,7 @@ same-length-13 c = c .before .before .before .before .smoothed .kept .1 .0
 returns-2 : tie.Need-returns-2
 unfolding covParts meanParts
 returns-2 c =
-    let a = c .before .before .before .before .before .before .before .before .before .before .before .before .before .before .before .before .before .before .before .before .before .before .before .before .before .before .before .before .before .before .before .before .before .before .before .before .before .before .before .before .before .before .before .before .before .before .before .before .before .before .before .before .before .before .before .before .before .before .before .before .before .before .before .before .before .before .before .before .before .before .before .before .before .args in
+    let a = c .before .before .before .before .before .before .before .before .before .before .before .before .before .before .before .before .before .before .before .before .before .before .before .before .before .before .before .before .before .before .before .before .before .before .before .before .before .before .before .before .before .before .before .before .before .before .before .before .before .before .before .before .before .before .before .before .before .before .before .before .before .before .before .before .before .before .before .before .before .before .before .before .before .before .args in
     let x = modelOf (a .p) (a .m) (a .r) (a .n) (a .z .now) (a .zs .now) (a .h .now) (a .t .now) (a .rr .now) (a .q .now) (a .p-star .now) (a .flags .now) in
     let o = offsetsOf (a .c .now) (a .d .now) (a .a1 .now) in
     let w = covParts (a .pred-cov .now) (a .pred-inf .now) (a .filt-cov .now) (a .kinds .now) (a .f-star .now) (a .f-inf .now) (a .m-star .now) (a .m-inf .now) in
@@ -125,7 +125,7 @@ same-length-26 c = c .before .before .before .before .back .kept .1 .1 .1 .1 .1 
 returns-3 : tie.Need-returns-3
 unfolding covParts meanParts
 returns-3 c =
-    let a = c .before .before .before .before .before .before .before .before .before .before .before .before .before .before .before .before .before .before .before .before .before .before .before .before .before .before .before .before .before .before .before .before .before .before .before .before .before .before .before .before .before .before .before .before .before .before .before .before .before .before .before .before .before .before .before .before .before .before .before .before .before .before .before .before .before .before .before .before .before .before .before .before .before .before .before .before .before .before .before .before .before .before .args in
+    let a = c .before .before .before .before .before .before .before .before .before .before .before .before .before .before .before .before .before .before .before .before .before .before .before .before .before .before .before .before .before .before .before .before .before .before .before .before .before .before .before .before .before .before .before .before .before .before .before .before .before .before .before .before .before .before .before .before .before .before .before .before .before .before .before .before .before .before .before .before .before .before .before .before .before .before .before .before .before .before .before .before .before .before .before .args in
     let x = modelOf (a .p) (a .m) (a .r) (a .n) (a .z .now) (a .zs .now) (a .h .now) (a .t .now) (a .rr .now) (a .q .now) (a .p-star .now) (a .flags .now) in
     let o = offsetsOf (a .c .now) (a .d .now) (a .a1 .now) in
     let w = covParts (a .pred-cov .now) (a .pred-inf .now) (a .filt-cov .now) (a .kinds .now) (a .f-star .now) (a .f-inf .now) (a .m-star .now) (a .m-inf .now) in

@@ -1,37 +1,16 @@
--- Four stores, one after the other.
-use native.Mathlib.Omega.{arith}
+-- Turned, and the least first.
+use mathlib.Core.Path.{ap, _∙_}
+use Prim.Native.Nat.{ℕ}
+use mathlib.Core.List.{List}
 use borrow.Author.Needs.{needs}
-use lib.ListN.{length-set}
-use Rattle.saved.proofs.Digits.{four-put}
+use Rattle.saved.specs.Places.{putAt}
 use Rattle.saved.proofs.numbers.put_four.Statement.{statement}
 use Rattle.saved.proofs.numbers.put_four.Tie as tie
 
-slice-write-out-2 : tie.Need-slice-write-out-2
-slice-write-out-2 c = simp length-set (omega arith)
-
-slice-write-out-3 : tie.Need-slice-write-out-3
-slice-write-out-3 c = simp length-set (omega arith)
-
-slice-write-out-4 : tie.Need-slice-write-out-4
-slice-write-out-4 c = simp length-set (omega arith)
-
 returns : tie.Need-returns
-returns c = four-put (c .args .at) (c .args .v) (c .args .out .now) (c .pre .0)
+returns c =
+    let s = c .before .before .before .before .before .before in
+    c .before .before .put-least .ensures ∙ ap (λ (l : List ℕ). putAt (s .args .at) l (s .args .out .now)) (c .before .before .before .turned .ensures .0)
 
 pub put-four-spec : {M : Type 1} → statement M
-put-four-spec =
-    tie.close
-    (tie.spec
-    (λ c. search needs)
-    (λ c. search needs)
-    (λ c. search needs)
-    (λ c. search needs)
-    slice-write-out-2
-    (λ c. search needs)
-    (λ c. search needs)
-    slice-write-out-3
-    (λ c. search needs)
-    (λ c. search needs)
-    slice-write-out-4
-    (λ c. search needs)
-    returns)
+put-four-spec = tie.close (tie.spec (λ c κs. search needs) (λ c κs. search needs) (λ c. search needs) returns)
