@@ -2,7 +2,7 @@
 use Prim.Native.Nat.{ℕ, zero, suc, _+_, _*_, _≤_, _<_}
 use mathlib.Core.Path.{_≡_, refl, ap, _∙_}
 use mathlib.Core.Bool.{Bool, true, false, cond}
-use mathlib.Core.List.{List, _∷_}
+use mathlib.Core.List.{List}
 use mathlib.Core.Logic.{⊎-elim}
 use native.Mathlib.Omega.{arith}
 use native.Mathlib.Numerals.{add-one}
@@ -10,12 +10,12 @@ use lib.Dec.{eqb}
 use lib.Ieee.{Float}
 use lib.ListN.{length, replicate}
 use borrow.Author.Tests.{eqb-true, eq-eqb, ne-eqb, lt-ltb, le-ltb}
-use Rattle.definition.specs.Num.{0ᶠ, isZero, tabFrom, tabulate, matrix, zeros, at, ent, sumBut}
+use Rattle.definition.specs.Num.{0ᶠ, isZero, tabFrom, tabulate, matrix, at, ent, sumBut}
 use Rattle.definition.specs.Dense.{zeroAt, matVecAt, matVec, lessOf, outerSubAt, outerSub}
 use Rattle.laws.specs.Lists.{vector-at, matrix-at, tab-cong, matrix-cong}
 use Rattle.dense.specs.Views.{vec, mat, rect}
 use Rattle.dense.specs.Columns.{moreAt, moreKeptAt, matVecTo, lessAt, columnLess, columnKept, outerSubTo}
-use Rattle.dense.proofs.Laws.{lt-or-le, vec-self, vec-zeros, rect-self}
+use Rattle.dense.proofs.Laws.{lt-or-le, vec-self, vec-zeros, zeros-tab, rect-self}
 
 -- ---- M x
 
@@ -34,11 +34,6 @@ module _ (m : ℕ) (a x : List Float) (j : ℕ) where
       h ∙ tab-cong m 0 (moreKeptAt m a x j o) (matVecTo m a x (j + 1)) (λ i p q.
       let s : at o i ≡ matVecTo m a x j i = ap (λ (l : List Float). at l i) e ∙ vector-at m i (matVecTo m a x j) (omega arith) in
       rw (add-one, s))
-
-pub zeros-tab : (n k : ℕ) → zeros n ≡ tabFrom k n (λ i. 0ᶠ)
-unfolding tabFrom
-zeros-tab zero k = refl
-zeros-tab (suc n) k = ap (λ (l : List Float). 0ᶠ ∷ l) (zeros-tab n (suc k))
 
 pub more-start : (m n : ℕ) (a x : List Float) → m ≤ n → vec m (replicate n 0ᶠ) ≡ tabulate m (matVecTo m a x 0)
 unfolding matVecTo sumBut

@@ -419,10 +419,10 @@ unfolding rect vec
 rect-zeros r c n h = vec-zeros (r * c) n h
 
 -- a table of +0.0
-pub tab-zeros : (n k : ℕ) → tabFrom k n (λ i. 0ᶠ) ≡ zeros n
+pub zeros-tab : (n k : ℕ) → zeros n ≡ tabFrom k n (λ i. 0ᶠ)
 unfolding tabFrom
-tab-zeros zero k = refl
-tab-zeros (suc n) k = ap (λ (l : List Float). 0ᶠ ∷ l) (tab-zeros n (suc k))
+zeros-tab zero k = refl
+zeros-tab (suc n) k = ap (λ (l : List Float). 0ᶠ ∷ l) (zeros-tab n (suc k))
 
 -- ---- sums that leave terms out, and sums from a first value
 

@@ -5,14 +5,15 @@ use Prim.Native.Nat.{ℕ, zero, suc, _*_, _<_}
 use native.Mathlib.Nat.{zero-lt-suc, zero-mul, mul-one}
 use native.Mathlib.Omega.{arith}
 use lib.IntN.{ℤ}
-use lib.Dec.{T, ltb, eqb, eqb→eq, ltb→lt, lt→ltb, eqb-refl}
+use lib.Dec.{T, ltb, eqb, ltb→lt, lt→ltb, eqb-refl}
 use lib.Ieee.{Float, nan, inf, fin, sub, lt, eq, ne, neg, fits, binary64, up, down, isNan, ofBits}
-use lib.Ieee.Fits.{neg-fits, and-i, and-l, eq→eqb}
+use lib.Ieee.Fits.{neg-fits, and-i, eq→eqb}
 use lib.Ieee.Bits.{is-false}
 use lib.Ieee.Positive.{positive}
 use Rattle.definition.specs.Num.{0ᶠ, absOf, isInfinite, isFinite}
 use Rattle.laws.specs.Swap.{add-swap}
-use Rattle.laws.specs.Same.{zero-exp, plus-zero, minus-zero, some-above, add-plus-zero, zeros-add}
+use Rattle.laws.specs.Same.{zero-fits, plus-zero, minus-zero, some-above, add-plus-zero, zeros-add}
+use Rattle.laws.specs.Zeros.{not-zero}
 use Rattle.laws.specs.Says.{or-right}
 
 abbrev pub top : Float
@@ -62,12 +63,6 @@ outside-cases P f g h (fin false (suc m) e) z = absurd z
 none-above : (d u : ℕ) → 0 * d < 0 * u * 1 → ⊥
 none-above d u h = omega (arith, zero-mul d, zero-mul u)
 
-not-level : (m : ℕ) (e : ℤ) (b : Bool) → T (eqb (suc m * up e * 1) (0 * down e) && b) → ⊥
-not-level m e b t = apart (0 * down e) (suc m * up e * 1) (some-above m e) (eqb→eq (suc m * up e * 1) (0 * down e) (and-l (eqb (suc m * up e * 1) (0 * down e)) b t))
-  where
-    apart : (a b : ℕ) → a < b → b ≡ a → ⊥
-    apart a b h e = omega arith
-
 level-zero : (s : Bool) (e : ℤ) → T (eqb (0 * up e * 1) (0 * down e) && (Bool·beq s false || eqb (0 * up e * 1) 0))
 level-zero s e = and-i (eqb (0 * up e * 1) (0 * down e)) (Bool·beq s false || eqb (0 * up e * 1) 0) (eq→eqb (left ∙ sym (zero-mul (down e)))) (or-right (Bool·beq s false) (eqb (0 * up e * 1) 0) (eq→eqb left))
   where
@@ -79,7 +74,7 @@ unfolding eq ofBits
 zero-of nan h = absurd (false≢true h)
 zero-of (inf s) h = absurd (false≢true h)
 zero-of (fin s zero e) h = tt
-zero-of (fin s (suc m) e) h = not-level m e (Bool·beq s false || eqb (suc m * up e * 1) 0) (yes (eqb (suc m * up e * 1) (0 * down e) && (Bool·beq s false || eqb (suc m * up e * 1) 0)) h)
+zero-of (fin s (suc m) e) h = not-zero s m e h
 
 pub outside-of : (x : Float) → lt 0ᶠ x ≡ false → eq x 0ᶠ ≡ false → Outside x
 unfolding lt eq ofBits
@@ -174,5 +169,5 @@ abs-rest nan f h = add-swap binary64 plus-zero nan
 abs-rest (inf true) f h = add-swap binary64 plus-zero (inf false)
 abs-rest (inf false) f h = absurd (true≢false h)
 abs-rest (fin true m e) f h = add-swap binary64 plus-zero (fin false m e) ∙ add-plus-zero binary64 (fin false m e) (neg-fits binary64 (fin true m e) f) tt
-abs-rest (fin false zero e) f h = let z = zero-exp e (eqb→eq (up e * down e) 1 f) in rw z (add-swap binary64 plus-zero minus-zero ∙ zeros-add binary64)
+abs-rest (fin false zero e) f h = let z = zero-fits binary64 false e f in rw z (add-swap binary64 plus-zero minus-zero ∙ zeros-add binary64)
 abs-rest (fin false (suc m) e) f h = absurd (no (ltb (0 * down e) (suc m * up e * 1)) h (lt→ltb (0 * down e) (suc m * up e * 1) (some-above m e)))

@@ -13,15 +13,9 @@ use Rattle.definition.specs.Inputs.{Model, Offsets}
 use Rattle.definition.specs.Refusals.{beyond, outside, designFits, inputsFit, badLength, firstOf, ofSizes, ofLengths, ofSystem, ofStart, ofH, ofReadings, ofStep, refusal, tests}
 use Rattle.definition.specs.Parts.{CovPart, predCov, predInf, filtCov, fStar, fInf, mStar, mInf, MeanPart, predMean, filtMean, innovations}
 use Rattle.definition.specs.Outcome.{CovParts, MeanParts, kindsNeed, covNeed, meanNeed, smoothedCovNeed, smoothedMeanNeed, roomy, roomySmoothed}
-use Rattle.laws.specs.Any.{either-false}
+use Rattle.laws.specs.Any.{either-false, both-true}
 use Rattle.laws.specs.Says.{Says, says-as, says-not, says-and, says-or, says-eq, says-le}
 use Rattle.laws.specs.Numbered.{first-none, none-of-both}
-
--- ---- tests taken apart
-
-and-true : (a b : Bool) → (a && b) ≡ true → (a ≡ true) × (b ≡ true)
-and-true true b e = (refl, e)
-and-true false b e = absurd (let z : _≡_ {A = ℕ} 0 1 = cc in omega arith)
 
 -- ---- the sizes
 
@@ -140,8 +134,8 @@ inputs-fit x o e = says-inputs x o .to (subst T (sym e) tt)
 pub lengths-pass : (x : Model) (o : Offsets) (y : ℕ) (room : Bool) → badLength x o y room ≡ false → (inputsFit x o ≡ true) × (y ≡ x .n * x .p) × (room ≡ true)
 unfolding badLength
 lengths-pass x o y room e =
-    let b = and-true (inputsFit x o && eqb y (x .n * x .p)) room (not-false _ e) in
-    let c = and-true (inputsFit x o) (eqb y (x .n * x .p)) (b .0) in
+    let b = both-true (inputsFit x o && eqb y (x .n * x .p)) room (not-false _ e) in
+    let c = both-true (inputsFit x o) (eqb y (x .n * x .p)) (b .0) in
     (c .0, eqb-true y (x .n * x .p) (c .1), b .1)
 
 pub past-lengths : (x : Model) (o : Offsets) (y : ℕ) (room : Bool) → firstOf (ofLengths x o y room) ≡ 0 → InputsFit x o × (y ≡ x .n * x .p) × (room ≡ true)

@@ -1,12 +1,12 @@
 -- Whether a test holds somewhere: laws of `anyTo` (at a place below k) and `anyOf` (of an entry of a list), as a loop that goes through the places
--- needs them. `found` is what the loop has found so far.
+-- needs them. `found` is what the loop has found so far. Before them, laws of `||` and of `&&`.
 use mathlib.Core.Path.{_≡_, refl, sym, ap, ap₂, _∙_}
 use Prim.Native.Nat.{ℕ, zero, suc, _+_, _≤_, _<_}
 use native.Mathlib.Omega.{arith}
 use native.Mathlib.Numerals.{add-one}
 use native.Mathlib.Nat.{le-of-suc-le-suc, not-suc-le-zero, eq-or-lt-of-le}
 use mathlib.Core.Logic.{⊎-elim}
-use mathlib.Core.Bool.{Bool, true, false, _||_}
+use mathlib.Core.Bool.{Bool, true, false, _&&_, _||_}
 use mathlib.Core.List.{List, [], _∷_, _++_, map}
 use lib.ListN.{length, getD, take}
 use lib.Seq.{take-length}
@@ -27,6 +27,11 @@ or-false false = refl
 pub either-false : (a b : Bool) → (a || b) ≡ false → (a ≡ false) × (b ≡ false)
 either-false true b e = absurd (let z : _≡_ {A = ℕ} 0 1 = cc in omega arith)
 either-false false b e = (refl, e)
+
+-- both halves of a test that is true hold
+pub both-true : (a b : Bool) → (a && b) ≡ true → (a ≡ true) × (b ≡ true)
+both-true true b e = (refl, e)
+both-true false b e = absurd (let z : _≡_ {A = ℕ} 0 1 = cc in omega arith)
 
 -- ---- at a place below k
 

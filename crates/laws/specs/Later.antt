@@ -2,7 +2,7 @@
 -- from 0: so the passes need no index of their first period.
 use mathlib.Core.Path.{_≡_, refl, sym, ap, _∙_}
 use Prim.Native.Nat.{ℕ, zero, suc, _+_, _-_, _*_, _/_, _≤_, _<_, min}
-use native.Mathlib.Nat.{add-zero, add-suc, add-mul, min-eq-left, min-eq-right, min-le-right, min-zero, mul-div-left, suc-mul}
+use native.Mathlib.Nat.{add-zero, add-suc, add-mul, min-eq-left, min-eq-right, min-le-right, min-zero, mul-div-left, mul-pos}
 use native.Mathlib.Omega.{arith}
 use mathlib.Core.Bool.{Bool}
 use mathlib.Core.Logic.{_⊎_, inl, inr, ⊎-elim}
@@ -53,6 +53,45 @@ together done t l h = by (order done (l - 1))
         let b : min (done + t) (l - 1) ≡ l - 1 = min-eq-right (omega arith) in
         rw (s, z, min-zero, b) (omega arith)
 
+-- no list stays none
+later-none : (k done : ℕ) (zs : List Float) → length zs ≡ 0 → length (laterFrom k done zs) ≡ 0
+unfolding laterFrom
+later-none k done zs e = simp length-drop (omega arith)
+
+-- the length of the later part, and its count of designs
+module _ (k done : ℕ) (zs : List Float) {once : ℕ} (w : Listed k once (length zs)) where
+  abbrev count : ℕ
+  count = length zs / k
+
+  abbrev before : ℕ
+  before = min done (count - 1)
+
+  before-lt : before < count
+  before-lt = omega (arith, min-le-right done (count - 1), w .some)
+
+  later-long : length (laterFrom k done zs) ≡ (count - before) * k
+  unfolding laterFrom
+  later-long =
+      let s : count - before + before ≡ count = omega (arith, before-lt) in
+      length-drop (before * k) zs ∙ omega (arith, w .whole, add-mul (count - before) before k, ap (λ (i : ℕ). i * k) s)
+
+  later-count : 0 < k → length (laterFrom k done zs) / k ≡ count - before
+  later-count some = ap (λ (i : ℕ). i / k) later-long ∙ mul-div-left (count - before) some
+
+-- the later part of a list of designs is one
+later-listed : (k done : ℕ) (zs : List Float) {once : ℕ} → 0 < k → Listed k once (length zs) → Listed k once (length (laterFrom k done zs))
+later-listed k done zs some w =
+    let e = later-count k done zs w some in
+    let low = before-lt k done zs w in
+    record { none = w .none; whole = later-long k done zs w ∙ ap (λ (i : ℕ). i * k) (sym e); some = rw e (omega arith); most = rw e (omega (arith, w .most)) }
+
+pub later-designs : (k done : ℕ) (z zs : List Float) → 0 < k → Designs k (length z) (length zs) → Designs k (length z) (length (laterFrom k done zs))
+later-designs k done z zs some (inl c) = inl (record { one = c .one; none = later-none k done zs (c .none) })
+later-designs k done z zs some (inr w) = inr (later-listed k done zs some w)
+
+listed-some : {k once list : ℕ} → 0 < k → Listed k once list → list ≡ 0 → ⊥
+listed-some some w e = omega (arith, w .whole, mul-pos (w .some) some)
+
 module _ (p m done : ℕ) (z zs : List Float) (some : 0 < p * m) where
   abbrev k : ℕ
   k = p * m
@@ -62,30 +101,12 @@ module _ (p m done : ℕ) (z zs : List Float) (some : 0 < p * m) where
   list-later w t =
       let l = length zs / k in
       let s = min done (l - 1) in
-      let low : s < l = omega (arith, min-le-right done (l - 1), w .some) in
-      let left : length zs - s * k ≡ (l - s) * k = parts l s k (omega arith) (w .whole) in
-      let long : length (drop (s * k) zs) ≡ (l - s) * k = length-drop (s * k) zs ∙ left in
-      let count : length (drop (s * k) zs) / k ≡ l - s = ap (λ (i : ℕ). i / k) long ∙ mul-div-left (l - s) some in
-      let full : length zs ≡ 0 → ⊥ = λ e. nothing l k (omega arith) some (sym (w .whole) ∙ e) in
-      let full′ : length (drop (s * k) zs) ≡ 0 → ⊥ = λ e. nothing (l - s) k (omega arith) some (sym long ∙ e) in
-      rw (ne-eqb _ _ full, ne-eqb _ _ full′, count)
-      (ap (take k) (sym (drop-drop (min t (l - s - 1) * k) (s * k) zs ∙ ap (λ (i : ℕ). drop i zs) (both s (min t (l - s - 1)) k ∙ ap (λ (i : ℕ). i * k) (together done t l (w .some))))))
-    where
-      nothing : (a b : ℕ) → 0 < a → 0 < b → a * b ≡ 0 → ⊥
-      nothing zero b h g e = omega arith
-      nothing (suc a) b h g e = omega (arith, suc-mul a b)
-
-      parts : (l s k : ℕ) {n : ℕ} → s ≤ l → n ≡ l * k → n - s * k ≡ (l - s) * k
-      parts l s k h e = let w : l - s + s ≡ l = omega arith in omega (arith, e, add-mul (l - s) s k, ap (λ (i : ℕ). i * k) w)
-
-      both : (a b k : ℕ) → a * k + b * k ≡ (a + b) * k
-      both a b k = sym (add-mul a b k)
+      rw (ne-eqb _ _ (listed-some some w), ne-eqb _ _ (listed-some some (later-listed k done zs some w)), later-count k done zs w some)
+      (ap (take k) (sym (drop-drop (min t (l - s - 1) * k) (s * k) zs ∙ ap (λ (i : ℕ). drop i zs) (sym (add-mul s (min t (l - s - 1)) k) ∙ ap (λ (i : ℕ). i * k) (together done t l (w .some))))))
 
   constant-later : Constant (p * m) (length z) (length zs) → (t : ℕ) → designFrom p m z zs (done + t) ≡ designFrom p m z (laterFrom (p * m) done zs) t
   unfolding designFrom laterFrom
-  constant-later w t =
-      let none : length (drop (min done (length zs / k - 1) * k) zs) ≡ 0 = simp length-drop (omega (arith, w .none)) in
-      rw (eq-eqb _ _ (w .none), eq-eqb _ _ none) refl
+  constant-later w t = rw (eq-eqb _ _ (w .none), eq-eqb _ _ (later-none k done zs (w .none))) refl
 
   pub design-later : Designs (p * m) (length z) (length zs) → (t : ℕ) → designFrom p m z zs (done + t) ≡ designFrom p m z (laterFrom (p * m) done zs) t
   design-later w t = ⊎-elim (λ (c : Constant (p * m) (length z) (length zs)). constant-later c t) (λ (c : Listed (p * m) (length z) (length zs)). list-later c t) w

@@ -1,18 +1,16 @@
 -- R Q R' of a diagonal Q, as a call past refusals 2, 3 and 5 has it: R Q is R with each column times its variance, and the product is a sum of
 -- outer products, one for each disturbance, which is how the code works it out.
-use mathlib.Core.Path.{_≡_, refl, sym, ap, ap₂, _∙_}
-use Prim.Native.Nat.{ℕ, zero, suc, _+_, _*_, _<_}
+use mathlib.Core.Path.{_≡_, ap, ap₂, _∙_}
+use Prim.Native.Nat.{ℕ, _+_, _*_, _<_}
 use native.Mathlib.Omega.{arith}
-use mathlib.Core.Bool.{Bool, true, false, not, _&&_, _||_}
+use mathlib.Core.Bool.{true, false}
 use mathlib.Core.List.{List}
 use lib.ListN.{length}
-use lib.Dec.{eqb}
 use lib.Ieee.{Float, binary64}
 use lib.Ieee.Fits.{mul-fits}
-use borrow.Author.Tests.{ne-eqb}
+use borrow.Author.Tests.{not-false, ne-eqb}
 use Rattle.definition.specs.Num.{_⊕_, _⊗_, 0ᶠ, isZero, matrix, ent, sumTo}
 use Rattle.definition.specs.Dense.{product, productAt, productTerm, transpose, transposeAt, symmetrise}
-use Rattle.definition.specs.Run.{anyTo}
 use Rattle.definition.specs.Inputs.{noiseOf}
 use Rattle.definition.specs.Refusals.{notFinite, offDiagonal, offRow, offAt}
 use Rattle.laws.specs.Any.{any-false}
@@ -26,12 +24,7 @@ shockTerm r rr q i j l = (0ᶠ ⊕ ent r q l l ⊗ ent r rr i l) ⊗ ent r rr j 
 
 off-zero : (r : ℕ) (q : List Float) (k l : ℕ) → offDiagonal r q ≡ false → k < r → l < r → (k ≡ l → ⊥) → isZero (ent r q k l) ≡ true
 unfolding offDiagonal offRow offAt
-off-zero r q k l h a b d = by-tests (eqb k l) (isZero (ent r q k l)) (ne-eqb k l d) (any-false (offAt r q k) r (any-false (offRow r q) r h k a) l b)
-  where
-    by-tests : (e z : Bool) → e ≡ false → (not e && not z) ≡ false → z ≡ true
-    by-tests true z p h = absurd (let w : _≡_ {A = ℕ} 0 1 = cc in omega arith)
-    by-tests false true p h = refl
-    by-tests false false p h = absurd (let w : _≡_ {A = ℕ} 0 1 = cc in omega arith)
+off-zero r q k l h a b d = not-false _ (rw (ne-eqb k l d) at (any-false (offAt r q k) r (any-false (offRow r q) r h k a) l b))
 
 module _ (m r : ℕ) (rr q : List Float) (long : length rr ≡ m * r) (finite : notFinite rr ≡ false) (diagonal : offDiagonal r q ≡ false) where
   scaled-column : (i l : ℕ) → i < m → l < r → ent r (product m r r rr q) i l ≡ 0ᶠ ⊕ ent r q l l ⊗ ent r rr i l

@@ -3,29 +3,28 @@
 use mathlib.Core.Path.{_≡_, refl, sym, ap, ap₂, _∙_, subst}
 use mathlib.Core.Logic.{inl, inr}
 use Prim.Native.Nat.{ℕ, zero, suc, _+_, _-_, _*_, _/_, _≤_, _<_, min}
-use native.Mathlib.Nat.{zero-mul, mul-zero, mul-pos, zero-lt-suc, mul-le-mul-right, suc-mul}
+use native.Mathlib.Nat.{zero-mul, mul-pos, zero-lt-suc, mul-le-mul-right, suc-mul}
 use native.Mathlib.Omega.{arith}
-use mathlib.Core.Bool.{Bool, true, false, not, _&&_, cond}
+use mathlib.Core.Bool.{Bool, true, false, _&&_, cond}
 use mathlib.Core.List.{List, [], _∷_, map}
 use lib.ListN.{length, getD, drop, length-map}
 use lib.Seq.{getD-take, getD-drop}
 use lib.Dec.{T, eqb, eqb·suc-zero}
 use lib.IntN.{ℤ, pos}
-use lib.Ieee.{Float, nan, inf, fin, binary64, fits, up, down, unlike, round, sum, add, mul, div, lt, eq, ofBits}
-use lib.Ieee.Fits.{up-pos, down-pos}
+use lib.Ieee.{Float, nan, inf, fin, binary64, up, down, unlike, round, mul, div, lt, ofBits}
+use lib.Ieee.Fits.{up-pos}
 use borrow.Author.Tests.{ne-eqb, eq-eqb, eqb-true, le-ltb}
-use Rattle.definition.specs.Num.{_⊕_, _⊖_, _⊗_, _⊘_, _>ᶠ_, 0ᶠ, 1ᶠ, cancel-tol, rank-tol, isZero, isFinite, absOf, sumTo, sumFrom, at, ent}
+use Rattle.definition.specs.Num.{_⊖_, _⊗_, _⊘_, _>ᶠ_, 0ᶠ, 1ᶠ, cancel-tol, rank-tol, isZero, isFinite, absOf, sumFrom, at, ent}
 use Rattle.definition.specs.Dense.{dot, over, overAt, matVec, matTVec, matTVecAt, matTVecTerm, lessOf, outerSub, outerSubAt, product, productAt, productTerm, absQuadForm, absTo, absColumn, absTerm, row, rowAt}
 use Rattle.definition.specs.Run.{scan, count, chunks}
 use Rattle.definition.specs.Cov.{System, Cov, Fixed, Inner, Decision, skipped, usual, diffuse, Candidate, usually, usualTest, diffusely, diffuseTest, judge, candidate, verdict, apply, rootLess, fInfBy, fStarBy, elementOf, isLive, entered, ended, stepped, periodOf, period, covRun}
 use Rattle.definition.specs.Inputs.{Model, Offsets, Class, isGap, designFrom, systemOf, systemFrom, gapRows, isFlagged, flagsBefore, startRoot, startRootAt, startOf, startFrom}
-use Rattle.definition.specs.Refusals.{unfit, notFinite, badSystem}
+use Rattle.definition.specs.Refusals.{notFinite, badSystem}
 use Rattle.definition.specs.Carried.{Past, begunPast, covFrom, pastOn}
-use Rattle.laws.specs.Any.{either-false}
-use Rattle.laws.specs.All.{AllOf, all-at, all-true, none-fails, each-all}
+use Rattle.laws.specs.Any.{either-false, both-true}
+use Rattle.laws.specs.All.{AllOf, all-true, each-all}
 use Rattle.laws.specs.Accepted.{Designs, InputsFit}
 use Rattle.laws.specs.Lists.{matrix-at, vector-at, place-lt, chunks-each}
-use Rattle.laws.specs.Same.{round-of}
 use Rattle.laws.specs.Zeros.{Nil, zero-is, round-zero, times-zero, zero-times, sum-zero, nil-is-zero, finite-at}
 use Rattle.laws.specs.Signs.{Plain, round-plain, add-plain, lt-nan-right}
 
@@ -150,10 +149,6 @@ cond-by : {A : Type 0} (P : A → Type 0) (b : Bool) (d e : A) → (b ≡ true �
 cond-by P true d e h g = h refl
 cond-by P false d e h g = g
 
-and-right : (a b : Bool) → (a && b) ≡ true → b ≡ true
-and-right true b e = e
-and-right false b e = absurd (let z : _≡_ {A = ℕ} 0 1 = cc in omega arith)
-
 module _ (p m k : ℕ) (h : List Float) (f : Fixed) (i : ℕ) (s : Inner) (spare : Spare m k (s .root)) (fine : Finite m (row m (f .z) i)) where
   abbrev After : Decision → Type 0
   After d = Spare m k (apply m (row m (f .z) i) i s d .root)
@@ -173,7 +168,7 @@ module _ (p m k : ℕ) (h : List Float) (f : Fixed) (i : ℕ) (s : Inner) (spare
       let first = f∞ >ᶠ rank-tol ⊗ absQuadForm m z (s .pinf) in
       let least = cancel-tol ⊗ absQuadForm m z (f .unres) in
       cond-by After (first && (dot m u u >ᶠ least)) (diffuse f* f∞ m* m∞) (usually m e f* m*)
-      (λ q. spare-less m k (s .root) spare z fine least (mul-plain cancel-tol (absQuadForm m z (f .unres)) tol-plain (quad-plain m z (f .unres))) (and-right first (dot m u u >ᶠ least) q))
+      (λ q. spare-less m k (s .root) spare z fine least (mul-plain cancel-tol (absQuadForm m z (f .unres)) tol-plain (quad-plain m z (f .unres))) (both-true first (dot m u u >ᶠ least) q .1))
       (usually-spare e f* m*)
 
   element-spare : (gap : Bool) → After (verdict p m h f i s gap)

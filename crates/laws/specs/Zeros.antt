@@ -1,21 +1,22 @@
 -- Zeros of either sign in products and in sums that start from +0.0: a finite number times a zero is a zero, and a zero more changes no sum.
 use mathlib.Core.Path.{_≡_, refl, sym, ap, ap₂, _∙_, subst}
 use mathlib.Core.Logic.{⊎-elim}
-use Prim.Native.Nat.{ℕ, zero, suc, _*_, _≤_, _<_}
-use native.Mathlib.Nat.{zero-mul, mul-zero, mul-pos, zero-lt-suc, eq-or-lt-of-le}
+use Prim.Native.Nat.{ℕ, zero, suc, _*_, _<_}
+use native.Mathlib.Nat.{zero-mul, mul-zero, mul-pos, eq-or-lt-of-le}
 use native.Mathlib.Omega.{arith}
-use mathlib.Core.Bool.{Bool, true, false, not, _&&_}
+use mathlib.Core.Bool.{Bool, true, false, not}
 use mathlib.Core.List.{List}
 use lib.ListN.{length, getD}
-use lib.Dec.{T, eqb, eqb→eq}
+use lib.Dec.{T, eqb}
 use lib.IntN.{ℤ, pos}
-use lib.Ieee.{Float, nan, inf, fin, binary64, fits, up, down, unlike, round, sum, add, mul, eq, ofBits}
+use lib.Ieee.{Float, nan, inf, fin, binary64, fits, up, down, unlike, round, mul, eq, ofBits}
 use lib.Ieee.Fits.{down-pos, add-fits}
-use borrow.Author.Tests.{eqb-true}
+use borrow.Author.Tests.{eqb-true, not-false}
 use Rattle.definition.specs.Num.{_⊕_, _⊗_, 0ᶠ, isZero, isFinite, sumTo}
 use Rattle.definition.specs.Refusals.{unfit, notFinite}
+use Rattle.laws.specs.Any.{both-true}
 use Rattle.laws.specs.All.{all-at, none-fails}
-use Rattle.laws.specs.Same.{round-of, zero-exp, some-above, isMinusZero, add-plus-zero, add-minus-zero}
+use Rattle.laws.specs.Same.{round-of, zero-fits, some-above, plus-zero, isMinusZero, add-plus-zero, add-minus-zero}
 use Rattle.laws.specs.Swap.{add-swap, mul-swap}
 
 -- a zero, as an operation leaves it
@@ -42,16 +43,13 @@ nil-is-zero v n = ap isZero (n .1) ∙ go (n .0)
 
 -- ---- a finite number times a zero
 
-not-zero : (s : Bool) (m : ℕ) (e : ℤ) → isZero (fin s (suc m) e) ≡ true → ⊥
+pub not-zero : (s : Bool) (m : ℕ) (e : ℤ) → isZero (fin s (suc m) e) ≡ true → ⊥
 unfolding eq ofBits
-not-zero s m e h = apart (suc m * up e * 1) (0 * down e) (some-above m e) (first (eqb (suc m * up e * 1) (0 * down e)) _ h)
+not-zero s m e h =
+    apart (suc m * up e * 1) (0 * down e) (some-above m e) (eqb-true (suc m * up e * 1) (0 * down e) (both-true (eqb (suc m * up e * 1) (0 * down e)) _ h .0))
   where
-    first : (a b : Bool) → (a && b) ≡ true → a ≡ true
-    first true b h = refl
-    first false b h = h
-
-    apart : (a b : ℕ) → b < a → eqb a b ≡ true → ⊥
-    apart a b l h = let e = eqb-true a b h in omega arith
+    apart : (a b : ℕ) → b < a → a ≡ b → ⊥
+    apart a b l h = omega arith
 
 pub times-zero : (v z : Float) → T (isFinite v) → isZero z ≡ true → Nil (v ⊗ z)
 unfolding mul isFinite eq ofBits
@@ -68,31 +66,25 @@ zero-times z v h e = let n = times-zero v z h e in (n .0, mul-swap binary64 z v 
 
 -- ---- sums of zeros
 
-zero-plus : (s : Bool) → fin false 0 (pos 0) ⊕ fin s 0 (pos 0) ≡ fin false 0 (pos 0)
-unfolding add sum
-zero-plus true = round-zero false _ _ refl (zero-lt-suc 0)
-zero-plus false = round-zero false _ _ refl (zero-lt-suc 0)
-
-pub sum-zero : (k : ℕ) (f : ℕ → Float) → ((i : ℕ) → i < k → Nil (f i)) → sumTo k f ≡ fin false 0 (pos 0)
-unfolding sumTo
-sum-zero zero f h = zero-is
-sum-zero (suc k) f h =
-    let n = h k (omega arith) in
-    ap₂ _⊕_ (sum-zero k f (λ i l. h i (omega arith))) (n .1) ∙ zero-plus (n .0)
-
--- ---- a sum with one term that may be something
-
 -- a zero more
 add-nil : (x z : Float) → T (fits binary64 x) → T (not (isMinusZero x)) → Nil z → x ⊕ z ≡ x
 add-nil x z t n (false, e) = ap (λ (v : Float). x ⊕ v) e ∙ add-plus-zero binary64 x t n
 add-nil x z t n (true, e) = ap (λ (v : Float). x ⊕ v) e ∙ add-minus-zero binary64 x t
 
+plus-nil : (z : Float) → Nil z → plus-zero ⊕ z ≡ plus-zero
+unfolding fits
+plus-nil z n = add-nil plus-zero z tt tt n
+
+pub sum-zero : (k : ℕ) (f : ℕ → Float) → ((i : ℕ) → i < k → Nil (f i)) → sumTo k f ≡ fin false 0 (pos 0)
+unfolding sumTo
+sum-zero zero f h = zero-is
+sum-zero (suc k) f h =
+    ap (λ (s : Float). s ⊕ f k) (sum-zero k f (λ i l. h i (omega arith))) ∙ plus-nil (f k) (h k (omega arith))
+
+-- ---- a sum with one term that may be something
+
 same : (y : Float) → T (fits binary64 y) → T (not (isMinusZero y)) → 0ᶠ ⊕ y ≡ y
 same y t n = add-swap binary64 0ᶠ y ∙ ap (λ (v : Float). y ⊕ v) zero-is ∙ add-plus-zero binary64 y t n
-
-exponent : (e : ℤ) → T (fits binary64 (fin true 0 e)) → e ≡ pos 0
-unfolding fits
-exponent e t = zero-exp e (eqb→eq (up e * down e) 1 t)
 
 -- what starts from +0.0 is never -0.0
 never-minus : (y : Float) → T (fits binary64 y) → T (not (isMinusZero (0ᶠ ⊕ y)))
@@ -101,7 +93,8 @@ never-minus (inf s) t = subst (λ (v : Float). T (not (isMinusZero v))) (sym (sa
 never-minus (fin false m e) t = subst (λ (v : Float). T (not (isMinusZero v))) (sym (same (fin false m e) t tt)) tt
 never-minus (fin true (suc m) e) t = subst (λ (v : Float). T (not (isMinusZero v))) (sym (same (fin true (suc m) e) t tt)) tt
 never-minus (fin true zero e) t =
-    subst (λ (v : Float). T (not (isMinusZero v))) (sym (ap₂ _⊕_ zero-is (ap (λ (d : ℤ). fin true 0 d) (exponent e t)) ∙ zero-plus true)) tt
+    subst (λ (v : Float). T (not (isMinusZero v)))
+    (sym (ap (λ (v : Float). v ⊕ fin true 0 e) zero-is ∙ plus-nil (fin true 0 e) (true, ap (λ (d : ℤ). fin true 0 d) (zero-fits binary64 true e t)))) tt
 
 pub only-one : (n l : ℕ) (f : ℕ → Float) → l < n → T (fits binary64 (f l)) → ((k : ℕ) → k < n → (k ≡ l → ⊥) → Nil (f k)) → sumTo n f ≡ 0ᶠ ⊕ f l
 unfolding sumTo
@@ -117,11 +110,4 @@ only-one (suc n) l f h t z =
 -- ---- what refusal 3 sees to
 
 pub finite-at : (l : List Float) (i : ℕ) → notFinite l ≡ false → i < length l → T (isFinite (getD l i nan))
-finite-at l i e h = not-unfit (getD l i nan) (all-at (λ v. unfit v ≡ false) l i nan (none-fails unfit l e) h)
-  where
-    not-unfit : (v : Float) → unfit v ≡ false → T (isFinite v)
-    not-unfit v e = go (isFinite v) e
-      where
-        go : (b : Bool) → not b ≡ false → T b
-        go true e = tt
-        go false e = absurd (let z : _≡_ {A = ℕ} 0 1 = cc in omega arith)
+finite-at l i e h = subst T (sym (not-false (isFinite (getD l i nan)) (all-at (λ v. unfit v ≡ false) l i nan (none-fails unfit l e) h))) tt

@@ -1,19 +1,18 @@
 -- R Q R' disturbance by disturbance: what stands after the first l of them.
-use mathlib.Core.Path.{_≡_, refl, sym, ap, ap₂, _∙_}
+use mathlib.Core.Path.{_≡_, sym, ap, ap₂, _∙_}
 use Prim.Native.Nat.{ℕ, _+_, _*_, _≤_, _<_}
 use native.Mathlib.Omega.{arith}
-use native.Mathlib.Numerals.{add-one}
 use mathlib.Core.List.{List}
-use lib.ListN.{length, replicate, getD-replicate}
+use lib.ListN.{replicate, getD-replicate}
 use lib.Ieee.{Float, nan}
 use Rattle.definition.specs.Num.{_⊕_, _⊗_, 0ᶠ, tabulate, matrix, zeros, at, ent, sumTo}
 use Rattle.definition.specs.Dense.{axpy, axpyAt, symmetrise}
 use Rattle.definition.specs.Inputs.{noiseOf}
-use Rattle.laws.specs.Lists.{vector-at, matrix-at, matrix-cong}
+use Rattle.laws.specs.Lists.{vector-at, matrix-at, matrix-cong, sum-next}
 use Rattle.laws.specs.Noise.{shockTerm, noise-by-shocks}
-use Rattle.dense.specs.Views.{vec, rect, mat}
+use Rattle.dense.specs.Views.{vec, mat}
 use Rattle.dense.specs.Columns.{outerMoreAt}
-use Rattle.dense.proofs.Laws.{vec-zeros, tab-zeros}
+use Rattle.dense.proofs.Laws.{vec-zeros, zeros-tab}
 use Rattle.model.specs.Noise.{NoiseGiven, moreAt}
 
 -- an outer product of column l, scaled, and column l
@@ -40,16 +39,16 @@ module _ (m r : ℕ) (rr q : List Float) where
 
   pub none : (out : List Float) → mat m out ≡ zeros (m * m) → Summed 0 out
   unfolding sumTo
-  none out e = e ∙ sym (tab-zeros (m * m) 0)
+  none out e = e ∙ zeros-tab (m * m) 0
 
   pub next : (l : ℕ) (p out : List Float) (x : Float) → 0 < m → x ≡ ent r q l l → Summed l p → mat m out ≡ matrix m m (moreAt m r rr x l (mat m p)) → Summed (l + 1) out
-  unfolding moreAt shockTerm sumTo
+  unfolding moreAt shockTerm
   next l p out x z ex e h =
       h ∙ matrix-cong m m (moreAt m r rr x l (mat m p)) (λ i j. sumTo (l + 1) (shockTerm r rr q i j)) z
       (λ i j hi hj.
-      rw add-one
-      (ap₂ (λ (s v : Float). s ⊕ (0ᶠ ⊕ v ⊗ ent r rr i l) ⊗ ent r rr j l)
-      (ap (λ (a : List Float). ent m a i j) e ∙ matrix-at m m i j (λ i j. sumTo l (shockTerm r rr q i j)) hi hj) ex))
+      sum-next (shockTerm r rr q i j) l (ent m (mat m p) i j) ((0ᶠ ⊕ x ⊗ ent r rr i l) ⊗ ent r rr j l)
+      (ap (λ (a : List Float). ent m a i j) e ∙ matrix-at m m i j (λ i j. sumTo l (shockTerm r rr q i j)) hi hj)
+      (ap (λ (v : Float). (0ᶠ ⊕ v ⊗ ent r rr i l) ⊗ ent r rr j l) ex))
 
   -- all of them, symmetrised
   pub whole : (l : ℕ) (p out : List Float) → NoiseGiven m r rr q → l ≤ r → r ≤ l → Summed l p → mat m out ≡ symmetrise m (mat m p) → mat m out ≡ noiseOf m r rr q

@@ -11,8 +11,7 @@ use Rattle.definition.specs.Dense.{productTerm, productAt, transposed}
 use Rattle.laws.specs.Lists.{vector-at, tab-cong}
 use Rattle.dense.specs.Views.{vec}
 use Rattle.products.specs.Rows.{rowMoreAt, rowTo}
-use Rattle.dense.proofs.Laws.{vec-zeros, transpose-at}
-use Rattle.dense.proofs.Columns.{zeros-tab}
+use Rattle.dense.proofs.Laws.{vec-zeros, zeros-tab, transpose-at}
 
 module _ (m : ℕ) (a b : List Float) (i : ℕ) where
   pub rows-start : (n : ℕ) → m ≤ n → vec m (replicate n 0ᶠ) ≡ tabulate m (rowTo m a b i 0)

@@ -8,11 +8,12 @@ use mathlib.Core.List.{List, map}
 use lib.ListN.{length}
 use lib.Dec.{leb, ltb}
 use lib.Ieee.{Float}
-use borrow.Author.Tests.{ltb-true, ltb-false, lt-ltb, le-ltb, lt-leb, le-leb, ne-eqb}
+use borrow.Author.Tests.{not-true, ltb-true, ltb-false, lt-ltb, le-ltb, lt-leb, le-leb, ne-eqb}
 use Rattle.definition.specs.Run.{anyOf}
 use Rattle.definition.specs.Inputs.{Model, Offsets, classOf, isInfinity}
 use Rattle.definition.specs.Refusals.{outside, badLength, refusal, tests, firstOf}
 use Rattle.definition.specs.Outcome.{CovParts, MeanParts, CovOutcome, MeanOutcome, SmoothedCov, SmoothedMean, Ending, kindsNeed, roomy, roomySmoothed, ending, after, covOutcome, meanOutcome, outcome, outcomeAt, smoothedCov, smoothedMean, smoothOutcome, smoothOutcomeAt}
+use Rattle.laws.specs.Any.{both-true}
 use Rattle.model.specs.Lengths.{rooms-are, rooms-smoothed-are, by-room, by-room-smoothed}
 use Rattle.promise.specs.declared.Answer.{Answer}
 use Rattle.promise.specs.declared.Outcome.{Outcome}
@@ -60,13 +61,6 @@ pub maybe-few : (p m r n have : ℕ) → outside p m r n ≡ false → ltb have 
 unfolding tooFew
 maybe-few p m r n have e = rw e refl
 
-clash : true ≡ false → ⊥
-clash e = let z : _≡_ {A = ℕ} 0 1 = cc in omega arith
-
-few-parts : (a b : Bool) → (not a && b) ≡ true → (a ≡ false) × (b ≡ true)
-few-parts true b e = absurd (clash (sym e))
-few-parts false b e = (refl, e)
-
 short : (a b : Bool) → not (a && b && false) ≡ true
 short true true = refl
 short true false = refl
@@ -79,9 +73,10 @@ module _ (x : Model) (o : Offsets) (y : List Float) (have : ℕ) where
   two : (room : Bool) → few ≡ true → 2 ≡ ends.number x o y (room && leb (kindsNeed x) have)
   unfolding tooFew kindsNeed refusal tests firstOf badLength
   two room e =
-      let h = few-parts (outside (x .p) (x .m) (x .r) (x .n)) (ltb have (x .n * x .p)) e in
+      let h = both-true (not (outside (x .p) (x .m) (x .r) (x .n))) (ltb have (x .n * x .p)) e in
+      let i : outside (x .p) (x .m) (x .r) (x .n) ≡ false = not-true _ (h .0) in
       let l : leb (x .n * x .p) have ≡ false = lt-leb (x .n * x .p) have (ltb-true have (x .n * x .p) (h .1)) in
-      rw (h .0, l, and-false, short) refl
+      rw (i, l, and-false, short) refl
 
   -- else the list has room, where it is asked
   has-room : (room : Bool) → few ≡ false → outside (x .p) (x .m) (x .r) (x .n) ≡ false → (room && leb (kindsNeed x) have) ≡ room

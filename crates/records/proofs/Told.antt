@@ -15,6 +15,7 @@ use Rattle.definition.specs.Parts.{fStar, fInf, innovations, fStarOf, fInfOf, c
 use Rattle.definition.specs.Inputs.{Model, Offsets, Class, classOf, isInfinity, systemOf, systemFrom, startOf}
 use Rattle.definition.specs.Refusals.{outside, refusal, tests, firstOf}
 use Rattle.definition.specs.Outcome.{CovParts, MeanParts, Ending, turned, silent, answered, ending, endingOf, numberOf, after, kindsNeed, kindsWritten, covWritten, meanWritten, decisionsOf, covOf, meanOf, countsOf, noInformation, covOutcome, meanOutcome, roomy, roomySmoothed}
+use Rattle.laws.specs.Any.{both-true}
 use Rattle.laws.specs.Lists.{length-join}
 use Rattle.laws.specs.ReadBack.{flat-of, each-many, kinds-join}
 use Rattle.laws.specs.Shapes.{run-whole, run-length}
@@ -134,10 +135,6 @@ module _ (x : Model) (o : Offsets) (y : List Float) (w : CovParts) (w′ : MeanP
 
 -- ---- the promises, from the flat call's and from what `fill` leaves
 
-last-true : (a b : Bool) → (a && b) ≡ true → b ≡ true
-last-true true b e = e
-last-true false b e = absurd (let z : _≡_ {A = ℕ} 0 1 = cc in omega arith)
-
 module _ (x : Model) (o : Offsets) (y : List Float) (w : CovParts) (w′ : MeanParts) (r : Outcome) (pc pi fc : List Float) (kinds : List ℕ) (fs fi ms mi pm fm v : List Float) (k : ℕ) (old new : List Record) where
   abbrev b : CovParts
   b = covParts pc pi fc kinds fs fi ms mi
@@ -147,7 +144,7 @@ module _ (x : Model) (o : Offsets) (y : List Float) (w : CovParts) (w′ : MeanP
 
   has-room : (room : Bool) → (room && leb (kindsNeed x) (length old)) ≡ true → x .n * x .p ≤ length old
   unfolding kindsNeed
-  has-room room e = leb-true _ _ (last-true room _ e)
+  has-room room e = leb-true _ _ (both-true room _ e .1)
 
   module _ (e : k ≡ toTell r (capped (x .p) (x .n))) (l : new ≡ filled k kinds v fs fi old) where
     by-flat : (room : Bool) → Promise (ends.End x o y w w′ (ending x o (map classOf y) (room && leb (kindsNeed x) (length old)))) r b b′ → new ≡ toldBy (x .n * x .p) r b b′ old
