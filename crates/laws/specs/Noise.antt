@@ -19,8 +19,8 @@ use Rattle.laws.specs.Swap.{mul-swap}
 use Rattle.laws.specs.Zeros.{times-zero, only-one, finite-at}
 
 -- what disturbance l brings to entry (i, j)
-unfoldable pub shockTerm : ℕ → List Float → List Float → ℕ → ℕ → ℕ → Float
-shockTerm r rr q i j l = (0ᶠ ⊕ ent r q l l ⊗ ent r rr i l) ⊗ ent r rr j l
+unfoldable pub disturbanceTerm : ℕ → List Float → List Float → ℕ → ℕ → ℕ → Float
+disturbanceTerm r rr q i j l = (0ᶠ ⊕ ent r q l l ⊗ ent r rr i l) ⊗ ent r rr j l
 
 off-zero : (r : ℕ) (q : List Float) (k l : ℕ) → offDiagonal r q ≡ false → k < r → l < r → (k ≡ l → ⊥) → isZero (ent r q k l) ≡ true
 unfolding offDiagonal offRow offAt
@@ -35,11 +35,11 @@ module _ (m r : ℕ) (rr q : List Float) (long : length rr ≡ m * r) (finite : 
       (λ k hk d. times-zero (ent r rr i k) (ent r q k l) (finite-at rr (i * r + k) finite (omega (arith, place-lt m r i k hi hk))) (off-zero r q k l diagonal hk hl d))
       ∙ ap (λ (v : Float). 0ᶠ ⊕ v) (mul-swap binary64 (ent r rr i l) (ent r q l l))
 
-  pub noise-by-shocks : 0 < m → noiseOf m r rr q ≡ symmetrise m (matrix m m (λ i j. sumTo r (shockTerm r rr q i j)))
-  unfolding noiseOf product productAt productTerm transpose transposeAt shockTerm
-  noise-by-shocks z =
+  pub by-disturbances : 0 < m → noiseOf m r rr q ≡ symmetrise m (matrix m m (λ i j. sumTo r (disturbanceTerm r rr q i j)))
+  unfolding noiseOf product productAt productTerm transpose transposeAt disturbanceTerm
+  by-disturbances z =
       ap (symmetrise m)
-      (matrix-cong m m (productAt r m (product m r r rr q) (transpose m r rr)) (λ i j. sumTo r (shockTerm r rr q i j)) z
+      (matrix-cong m m (productAt r m (product m r r rr q) (transpose m r rr)) (λ i j. sumTo r (disturbanceTerm r rr q i j)) z
       (λ i j hi hj.
-      sumTo-cong r (productTerm r m (product m r r rr q) (transpose m r rr) i j) (shockTerm r rr q i j)
+      sumTo-cong r (productTerm r m (product m r r rr q) (transpose m r rr) i j) (disturbanceTerm r rr q i j)
       (λ l hl. ap₂ _⊗_ (scaled-column i l hi hl) (matrix-at r m l j (transposeAt r rr) hl hj))))

@@ -9,7 +9,7 @@ use Rattle.definition.specs.Num.{_⊕_, _⊗_, 0ᶠ, tabulate, matrix, zeros, a
 use Rattle.definition.specs.Dense.{axpy, axpyAt, symmetrise}
 use Rattle.definition.specs.Inputs.{noiseOf}
 use Rattle.laws.specs.Lists.{vector-at, matrix-at, matrix-cong, sum-next}
-use Rattle.laws.specs.Noise.{shockTerm, noise-by-shocks}
+use Rattle.laws.specs.Noise.{disturbanceTerm, by-disturbances}
 use Rattle.dense.specs.Views.{vec, mat}
 use Rattle.dense.specs.Columns.{outerMoreAt}
 use Rattle.dense.proofs.Laws.{vec-zeros, zeros-tab}
@@ -35,24 +35,24 @@ more m r l rr a b p out q z m8 ea eb e =
 module _ (m r : ℕ) (rr q : List Float) where
   -- the first l of them
   abbrev pub Summed : ℕ → List Float → Type 0
-  Summed l out = mat m out ≡ matrix m m (λ i j. sumTo l (shockTerm r rr q i j))
+  Summed l out = mat m out ≡ matrix m m (λ i j. sumTo l (disturbanceTerm r rr q i j))
 
   pub none : (out : List Float) → mat m out ≡ zeros (m * m) → Summed 0 out
   unfolding sumTo
   none out e = e ∙ zeros-tab (m * m) 0
 
   pub next : (l : ℕ) (p out : List Float) (x : Float) → 0 < m → x ≡ ent r q l l → Summed l p → mat m out ≡ matrix m m (moreAt m r rr x l (mat m p)) → Summed (l + 1) out
-  unfolding moreAt shockTerm
+  unfolding moreAt disturbanceTerm
   next l p out x z ex e h =
-      h ∙ matrix-cong m m (moreAt m r rr x l (mat m p)) (λ i j. sumTo (l + 1) (shockTerm r rr q i j)) z
+      h ∙ matrix-cong m m (moreAt m r rr x l (mat m p)) (λ i j. sumTo (l + 1) (disturbanceTerm r rr q i j)) z
       (λ i j hi hj.
-      sum-next (shockTerm r rr q i j) l (ent m (mat m p) i j) ((0ᶠ ⊕ x ⊗ ent r rr i l) ⊗ ent r rr j l)
-      (ap (λ (a : List Float). ent m a i j) e ∙ matrix-at m m i j (λ i j. sumTo l (shockTerm r rr q i j)) hi hj)
+      sum-next (disturbanceTerm r rr q i j) l (ent m (mat m p) i j) ((0ᶠ ⊕ x ⊗ ent r rr i l) ⊗ ent r rr j l)
+      (ap (λ (a : List Float). ent m a i j) e ∙ matrix-at m m i j (λ i j. sumTo l (disturbanceTerm r rr q i j)) hi hj)
       (ap (λ (v : Float). (0ᶠ ⊕ v ⊗ ent r rr i l) ⊗ ent r rr j l) ex))
 
   -- all of them, symmetrised
   pub whole : (l : ℕ) (p out : List Float) → NoiseGiven m r rr q → l ≤ r → r ≤ l → Summed l p → mat m out ≡ symmetrise m (mat m p) → mat m out ≡ noiseOf m r rr q
   whole l p out g a b e h =
       let k : l ≡ r = omega arith in
-      h ∙ ap (symmetrise m) (e ∙ ap (λ (n : ℕ). matrix m m (λ i j. sumTo n (shockTerm r rr q i j))) k)
-      ∙ sym (noise-by-shocks m r rr q (g .fits .rr) (g .finite) (g .diagonal) (g .some))
+      h ∙ ap (symmetrise m) (e ∙ ap (λ (n : ℕ). matrix m m (λ i j. sumTo n (disturbanceTerm r rr q i j))) k)
+      ∙ sym (by-disturbances m r rr q (g .fits .rr) (g .finite) (g .diagonal) (g .some))

@@ -24,9 +24,6 @@ place-in {k} {size} {i} {j} h = omega (arith, place-lt k k i j (h .row) (h .col)
 pub place-most : {k size i j : ℕ} → Place k size i j → i * k + j < 64
 place-most {k} {size} {i} {j} h = omega (arith, place-lt k k i j (h .row) (h .col), area (h .most) (h .most))
 
-pub product-some : {a b : ℕ} → 0 < a → 0 < b → 0 < a * b
-product-some {a} {b} h g = mul-le-mul {n₁ = 1} {m₁ = 1} {n₂ = a} {m₂ = b} h g
-
 -- sizes in range: their products are small
 pub record Small (p m r n : ℕ) : Type 0 where
   pub pp : p * p ≤ 64

@@ -1,6 +1,7 @@
 -- Past refusals 1 to 11 and 15 the run over the later part of the list may begin, from a state that fits.
 use mathlib.Core.Path.{_≡_}
 use Prim.Native.Nat.{ℕ, _*_, _≤_, _<_}
+use native.Mathlib.Nat.{mul-pos}
 use native.Mathlib.Omega.{arith}
 use mathlib.Core.Bool.{Bool, true, false, _||_}
 use mathlib.Core.List.{List}
@@ -16,7 +17,6 @@ use Rattle.laws.specs.Any.{both-true}
 use Rattle.laws.specs.Accepted.{InRange, InputsFit, Roomy, room-of}
 use Rattle.laws.specs.Later.{later-designs}
 use Rattle.dense.specs.Views.{mat}
-use Rattle.model.proofs.Laws.{product-some}
 use Rattle.promise.specs.declared.Answer.{Answer}
 use Rattle.carried.specs.State.{StateFits}
 use Rattle.forward.specs.View.{FitOn, Tallies}
@@ -39,7 +39,7 @@ room-to-save x last w w′ save e =
 
 module _ {x : Model} {o : Offsets} {y : ℕ} {w : CovParts} {w′ : MeanParts} (sizes : InRange (x .p) (x .m) (x .r) (x .n)) (inputs : InputsFit x o) (readings : y ≡ x .n * x .p) (room : Roomy x w w′) where
   pub some-design : 0 < x .p * x .m
-  some-design = product-some (sizes .p0) (sizes .m0)
+  some-design = mul-pos (sizes .p0) (sizes .m0)
 
   pub may-begin : (done : ℕ) {rqr : List Float} {size : ℕ} {before : Answer} → mat (x .m) rqr ≡ noise x → StateFits (x .m) size → Tallies before → FitOn (laterOf x done) o y rqr w w′ size before
   unfolding noise kindsNeed covNeed meanNeed

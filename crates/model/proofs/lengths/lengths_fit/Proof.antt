@@ -2,14 +2,15 @@
 use Rattle.model.proofs.lengths.lengths_fit.Statement.{statement}
 use Rattle.model.proofs.lengths.lengths_fit.Tie as tie
 use native.Mathlib.Omega.{arith}
-use Rattle.model.proofs.Laws.{small, product-some}
+use native.Mathlib.Nat.{mul-pos}
+use Rattle.model.proofs.Laws.{small}
 use Rattle.model.specs.Lengths.{lengthsFit}
 
 mul-design-fits : tie.Need-mul-design-fits
 mul-design-fits c = omega (arith, small (c .pre))
 
 design-fits-requires : tie.Need-design-fits-requires
-design-fits-requires c κs = product-some (c .pre .p0) (c .pre .m0)
+design-fits-requires c κs = mul-pos (c .pre .p0) (c .pre .m0)
 
 mul-result : tie.Need-mul-result
 mul-result c = omega (arith, small (c .before .pre))
