@@ -1,5 +1,5 @@
-//! The time of both calls, the library's against the oracle's: the same inputs, in turns, the least of many counts. And of a run in stretches against
-//! the library's own filter.
+//! The time of both calls, the library's against the oracle's: the same inputs, in turns, over and over. And of a run in stretches against the library's
+//! own filter.
 
 use std::hint::black_box;
 use std::time::Instant;
@@ -16,7 +16,7 @@ use crate::tally::Line;
 
 /// The periods over which the growth is shown.
 const GROWTH: [usize; 4] = [64, 256, 1024, 4096];
-/// Each figure is the least over so many milliseconds, and over so many turns at least.
+/// Calls are made in turns for so many milliseconds, and for so many turns at least.
 const LEAST_MILLISECONDS: u128 = 1000;
 const LEAST_TURNS: usize = 7;
 
@@ -28,17 +28,26 @@ fn once(call: impl FnOnce() -> u32) -> f64 {
     took
 }
 
+/// What one call in a hundred stays under. The least of all would be a slip of the clock now and then, by which one call seems shorter than any is.
+fn low(mut took: Vec<f64>) -> f64 {
+    took.sort_by(f64::total_cmp);
+    took[took.len() / 100]
+}
+
+/// The low time of each of the calls that a turn makes.
+fn in_turns<const K: usize>(mut turn: impl FnMut() -> [f64; K]) -> [f64; K] {
+    let mut turns = Vec::new();
+    let whole = Instant::now();
+    while turns.len() < LEAST_TURNS || whole.elapsed().as_millis() < LEAST_MILLISECONDS {
+        turns.push(turn());
+    }
+    std::array::from_fn(|k| low(turns.iter().map(|took| took[k]).collect()))
+}
+
 /// Nanoseconds a period of the library's call and of the oracle's.
 fn periods(which: Call, m: usize, p: usize, n: usize) -> (f64, f64) {
     let mut lent = Lent::of(&time::case(m, p, n), 0);
-    let (mut library, mut oracle) = (f64::MAX, f64::MAX);
-    let whole = Instant::now();
-    let mut turns = 0;
-    while turns < LEAST_TURNS || whole.elapsed().as_millis() < LEAST_MILLISECONDS {
-        library = library.min(once(|| black_box(&mut lent).library(which)));
-        oracle = oracle.min(once(|| black_box(&mut lent).oracle(which)));
-        turns += 1;
-    }
+    let [library, oracle] = in_turns(|| [once(|| black_box(&mut lent).library(which)), once(|| black_box(&mut lent).oracle(which))]);
     (library / n as f64, oracle / n as f64)
 }
 
@@ -84,15 +93,8 @@ impl Chain {
 fn cut_up(m: usize, p: usize, n: usize) -> [f64; 3] {
     let mut lent = Lent::of(&time::case(m, p, n), 0);
     let (mut one, mut many) = (Chain::of(m, p, n, n), Chain::of(m, p, n, 1));
-    let mut least = [f64::MAX; 3];
-    let whole = Instant::now();
-    let mut turns = 0;
-    while turns < LEAST_TURNS || whole.elapsed().as_millis() < LEAST_MILLISECONDS {
-        let took = [once(|| black_box(&mut lent).library(Call::Filter)), once(|| black_box(&mut one).run()), once(|| black_box(&mut many).run())];
-        least = std::array::from_fn(|k| least[k].min(took[k]));
-        turns += 1;
-    }
-    least.map(|x| x / n as f64)
+    let took = in_turns(|| [once(|| black_box(&mut lent).library(Call::Filter)), once(|| black_box(&mut one).run()), once(|| black_box(&mut many).run())]);
+    took.map(|x| x / n as f64)
 }
 
 /// Compares the stretches that are timed with the oracle's run that is not cut. How many, and how many differ.
@@ -140,7 +142,7 @@ pub fn check() -> bool {
 
 pub fn print() {
     println!("m states, p elements in each of n periods, no gaps. Library: the proved calls. Oracle: the Rust, its checks and outputs included.");
-    println!("Both on the same inputs, in turns, by the thread's processor time; the least of many calls counts. Ratio: library over oracle; below 1 the library is faster.");
+    println!("Both on the same inputs, in turns, by the thread's processor time; what one call in a hundred stays under counts. Ratio: library over oracle; below 1 the library is faster.");
     println!();
     println!("Nanoseconds a period, n = {}", time::PERIODS);
     println!("       {:^29}   {:^29}", "filter", "smoother");
@@ -163,7 +165,7 @@ pub fn print() {
     println!("{:>2} {:>2}  {:>9}   {head}   {head}", "m", "p", "library");
     for (m, p) in time::SIZES {
         let [filter, one, many] = cut_up(m, p, time::PERIODS);
-        println!("{m:>2} {p:>2}  {filter:>9.0}   {one:>9.0} {:>9.2}   {many:>9.0} {:>9.2}", one / filter, many / filter);
+        println!("{m:>2} {p:>2}  {filter:>9.0}   {one:>9.0} {:>9.3}   {many:>9.0} {:>9.3}", one / filter, many / filter);
     }
     for which in CALLS {
         println!();

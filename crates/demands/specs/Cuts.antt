@@ -5,7 +5,7 @@ use mathlib.Core.Path.{_≡_, refl, sym, ap, _∙_}
 use mathlib.Core.Logic.{_⊎_, inl, inr, ⊎-elim}
 use Prim.Native.Nat.{ℕ, _+_, _*_}
 use native.Mathlib.Nat.{le-of-eq}
-use mathlib.Core.Bool.{Bool, true, false, _&&_, _||_}
+use mathlib.Core.Bool.{Bool, true, false, _&&_}
 use mathlib.Core.List.{List, [], _∷_, _++_, map}
 use lib.ListN.{length, take, replicate, length-replicate, length-map}
 use lib.Seq.{take-at}
@@ -21,6 +21,7 @@ use Rattle.definition.specs.Carried.{pastOn, meanOn}
 use Rattle.definition.specs.Saved.{savedNeed}
 use Rattle.definition.specs.Stretch.{From, StretchOutcome, pastIn, carriedIn, badFrom, stretchRefusal, roomyStretch, stretchEnding, covStretch, meanStretch, stretchOutcome}
 use Rattle.laws.specs.All.{AllOf}
+use Rattle.laws.specs.Any.{or-true}
 use Rattle.laws.specs.Accepted.{lengths-pass}
 use Rattle.laws.specs.Cut.{lasting}
 use Rattle.laws.specs.Written.{covUnit, meanUnit, kinds-written, cov-written, mean-written}
@@ -82,17 +83,13 @@ pub record Fits (x : Model) (last : Bool) (c : Piece) : Type 0 where
 enough : {A : Type 0} (k : ℕ) (a : A) → leb k (length (replicate k a)) ≡ true
 enough k a = le-leb _ _ (le-of-eq (sym (length-replicate k a)))
 
-either-true : (b : Bool) → (b || true) ≡ true
-either-true true = refl
-either-true false = refl
-
 abbrev ample : Model → Lent
 ample x = record { cov = record { kinds = replicate (kindsNeed x) 0; part = λ q. zeros (covNeed x q) }; mean = λ q. zeros (meanNeed x q); save = replicate (savedNeed (x .m)) 0 }
 
 ample-room : (x : Model) (last : Bool) → roomyStretch x last (ample x .cov) (ample x .mean) (ample x .save) ≡ true
 unfolding roomyStretch roomy
 ample-room x last =
-    rw (enough {A = ℕ} (kindsNeed x) 0, enough (covNeed x predCov) 0ᶠ, enough (covNeed x predInf) 0ᶠ, enough (covNeed x filtCov) 0ᶠ, enough (covNeed x fStar) 0ᶠ, enough (covNeed x fInf) 0ᶠ, enough (covNeed x mStar) 0ᶠ, enough (covNeed x mInf) 0ᶠ, enough (meanNeed x predMean) 0ᶠ, enough (meanNeed x filtMean) 0ᶠ, enough (meanNeed x innovations) 0ᶠ, enough {A = ℕ} (savedNeed (x .m)) 0) (either-true last)
+    rw (enough {A = ℕ} (kindsNeed x) 0, enough (covNeed x predCov) 0ᶠ, enough (covNeed x predInf) 0ᶠ, enough (covNeed x filtCov) 0ᶠ, enough (covNeed x fStar) 0ᶠ, enough (covNeed x fInf) 0ᶠ, enough (covNeed x mStar) 0ᶠ, enough (covNeed x mInf) 0ᶠ, enough (meanNeed x predMean) 0ᶠ, enough (meanNeed x filtMean) 0ᶠ, enough (meanNeed x innovations) 0ᶠ, enough {A = ℕ} (savedNeed (x .m)) 0) (or-true last)
 
 -- ---- the theorem
 

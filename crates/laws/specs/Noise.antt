@@ -18,9 +18,13 @@ use Rattle.laws.specs.Lists.{matrix-at, matrix-cong, sumTo-cong, place-l
 use Rattle.laws.specs.Swap.{mul-swap}
 use Rattle.laws.specs.Zeros.{times-zero, only-one, finite-at}
 
--- what disturbance l brings to entry (i, j)
+-- what a disturbance of variance v brings to entry (i, j) by its column, l, of R
+unfoldable pub broughtAt : ℕ → List Float → Float → ℕ → ℕ → ℕ → Float
+broughtAt r rr v l i j = (0ᶠ ⊕ v ⊗ ent r rr i l) ⊗ ent r rr j l
+
+-- of Q's variances
 unfoldable pub disturbanceTerm : ℕ → List Float → List Float → ℕ → ℕ → ℕ → Float
-disturbanceTerm r rr q i j l = (0ᶠ ⊕ ent r q l l ⊗ ent r rr i l) ⊗ ent r rr j l
+disturbanceTerm r rr q i j l = broughtAt r rr (ent r q l l) l i j
 
 off-zero : (r : ℕ) (q : List Float) (k l : ℕ) → offDiagonal r q ≡ false → k < r → l < r → (k ≡ l → ⊥) → isZero (ent r q k l) ≡ true
 unfolding offDiagonal offRow offAt
@@ -36,7 +40,7 @@ module _ (m r : ℕ) (rr q : List Float) (long : length rr ≡ m * r) (finite : 
       ∙ ap (λ (v : Float). 0ᶠ ⊕ v) (mul-swap binary64 (ent r rr i l) (ent r q l l))
 
   pub by-disturbances : 0 < m → noiseOf m r rr q ≡ symmetrise m (matrix m m (λ i j. sumTo r (disturbanceTerm r rr q i j)))
-  unfolding noiseOf product productAt productTerm transpose transposeAt disturbanceTerm
+  unfolding noiseOf product productAt productTerm transpose transposeAt disturbanceTerm broughtAt
   by-disturbances z =
       ap (symmetrise m)
       (matrix-cong m m (productAt r m (product m r r rr q) (transpose m r rr)) (λ i j. sumTo r (disturbanceTerm r rr q i j)) z

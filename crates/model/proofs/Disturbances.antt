@@ -9,7 +9,7 @@ use Rattle.definition.specs.Num.{_⊕_, _⊗_, 0ᶠ, tabulate, matrix, zeros, a
 use Rattle.definition.specs.Dense.{axpy, axpyAt, symmetrise}
 use Rattle.definition.specs.Inputs.{noiseOf}
 use Rattle.laws.specs.Lists.{vector-at, matrix-at, matrix-cong, sum-next}
-use Rattle.laws.specs.Noise.{disturbanceTerm, by-disturbances}
+use Rattle.laws.specs.Noise.{broughtAt, disturbanceTerm, by-disturbances}
 use Rattle.dense.specs.Views.{vec, mat}
 use Rattle.dense.specs.Columns.{outerMoreAt}
 use Rattle.dense.proofs.Laws.{vec-zeros, zeros-tab}
@@ -18,7 +18,7 @@ use Rattle.model.specs.Noise.{NoiseGiven, moreAt}
 -- an outer product of column l, scaled, and column l
 pub more : (m r l : ℕ) (rr a b p out : List Float) (q : Float) → 0 < m → m ≤ 8 → vec m a ≡ tabulate m (λ i. ent r rr i l) → vec m b ≡ axpy m (vec m (replicate 8 0ᶠ)) q (vec m a)
     → mat m out ≡ matrix m m (outerMoreAt m (vec m b) (vec m a) (mat m p)) → mat m out ≡ matrix m m (moreAt m r rr q l (mat m p))
-unfolding outerMoreAt moreAt axpy axpyAt
+unfolding outerMoreAt moreAt broughtAt axpy axpyAt
 more m r l rr a b p out q z m8 ea eb e =
     e ∙ matrix-cong m m (outerMoreAt m (vec m b) (vec m a) (mat m p)) (moreAt m r rr q l (mat m p)) z
     (λ i j hi hj. ap₂ (λ (x y : Float). ent m (mat m p) i j ⊕ x ⊗ y) (scaled i hi) (column j hj))
@@ -46,9 +46,9 @@ module _ (m r : ℕ) (rr q : List Float) where
   next l p out x z ex e h =
       h ∙ matrix-cong m m (moreAt m r rr x l (mat m p)) (λ i j. sumTo (l + 1) (disturbanceTerm r rr q i j)) z
       (λ i j hi hj.
-      sum-next (disturbanceTerm r rr q i j) l (ent m (mat m p) i j) ((0ᶠ ⊕ x ⊗ ent r rr i l) ⊗ ent r rr j l)
+      sum-next (disturbanceTerm r rr q i j) l (ent m (mat m p) i j) (broughtAt r rr x l i j)
       (ap (λ (a : List Float). ent m a i j) e ∙ matrix-at m m i j (λ i j. sumTo l (disturbanceTerm r rr q i j)) hi hj)
-      (ap (λ (v : Float). (0ᶠ ⊕ v ⊗ ent r rr i l) ⊗ ent r rr j l) ex))
+      (ap (λ (v : Float). broughtAt r rr v l i j) ex))
 
   -- all of them, symmetrised
   pub whole : (l : ℕ) (p out : List Float) → NoiseGiven m r rr q → l ≤ r → r ≤ l → Summed l p → mat m out ≡ symmetrise m (mat m p) → mat m out ≡ noiseOf m r rr q

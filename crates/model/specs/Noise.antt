@@ -5,8 +5,9 @@ use mathlib.Core.Bool.{false}
 use mathlib.Core.List.{List}
 use lib.ListN.{length}
 use lib.Ieee.{Float}
-use Rattle.definition.specs.Num.{_⊕_, _⊗_, 0ᶠ, ent}
+use Rattle.definition.specs.Num.{_⊕_, ent}
 use Rattle.definition.specs.Refusals.{notFinite, offDiagonal}
+use Rattle.laws.specs.Noise.{broughtAt}
 use Rattle.model.specs.Places.{NoiseFits}
 
 -- column l of a matrix of m rows, at most 8, and r columns
@@ -24,4 +25,4 @@ pub record NoiseGiven (m r : ℕ) (rr q : List Float) : Type 0 where
 
 -- entry (i, j) of P with what disturbance l brings, of variance q
 unfoldable pub moreAt : ℕ → ℕ → List Float → Float → ℕ → List Float → ℕ → ℕ → Float
-moreAt m r rr q l p i j = ent m p i j ⊕ (0ᶠ ⊕ q ⊗ ent r rr i l) ⊗ ent r rr j l
+moreAt m r rr q l p i j = ent m p i j ⊕ broughtAt r rr q l i j

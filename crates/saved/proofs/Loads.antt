@@ -31,18 +31,14 @@ module _ (m q : ℕ) (a b c d e rest : List Float) (la : length a ≡ m) (lb : l
   past4 : drop (m + q + q + q) after ≡ e ++ rest
   past4 = sym (drop-drop q (m + q + q) after) ∙ ap (drop q) past3 ∙ drop-at d _ q ld
 
-  past : drop (m + q + q + q + q) after ≡ rest
-  past = sym (drop-drop q (m + q + q + q) after) ∙ ap (drop q) past4 ∙ drop-at e _ q le
-
-  pub parts : (before : List Float) → rest ≡ drop (m + q + q + q + q) before → Parts m q a b c d e before after
-  parts before kept =
+  pub parts : Parts m q a b c d e after
+  parts =
       record {
         mean = ap (take m) flat ∙ take-at a _ m la;
         star = ap (take q) past1 ∙ take-at b _ q lb;
         pinf = ap (take q) past2 ∙ take-at c _ q lc;
         root = ap (take q) past3 ∙ take-at d _ q ld;
         unres = ap (take q) past4 ∙ take-at e _ q le;
-        rest = past ∙ kept;
       }
 
 -- the floats of a row
@@ -54,7 +50,7 @@ floats-length k at bs = length-map (numbersAt k at bs) float ∙ rows.row-length
 
 module _ {m star pinf root unres loglik tallies end : ℕ} (s : Starts m star pinf root unres loglik tallies end) (bs : List ℕ) where
   pub loads : (s0 s1 s2 s3 s4 s5 : List Float) → m + m * m + m * m + m * m + m * m ≤ length s0 → s1 ≡ putAt 0 (floatsAt m 40 bs) s0 → s2 ≡ putAt m (floatsAt (m * m) (star + 4) bs) s1 → s3 ≡ putAt (m + m * m) (floatsAt (m * m) (pinf + 4) bs) s2 → s4 ≡ putAt (m + m * m + m * m) (floatsAt (m * m) (root + 4) bs) s3 → s5 ≡ putAt (m + m * m + m * m + m * m) (floatsAt (m * m) (unres + 4) bs) s4
-      → LoadedState m bs s0 s5
+      → LoadedState m bs s5
   loads s0 s1 s2 s3 s4 s5 room e1 e2 e3 e4 e5 =
       let q = m * m in
       let a = floatsAt m 40 bs in
@@ -73,14 +69,13 @@ module _ {m star pinf root unres loglik tallies end : ℕ} (s : Starts m star pi
       let u4 : Put 0 (m + q + q + q) (a ++ b ++ c ++ d) s0 s4 = put-next d (m + q + q + q) (m + q + q) u3 (omega arith) (omega arith) e4 (ap (λ (i : ℕ). m + q + q + i) ld) in
       let u5 : Put 0 (m + q + q + q + q) (a ++ b ++ c ++ d ++ e) s0 s5 = put-next e (m + q + q + q + q) (m + q + q + q) u4 (omega arith) (omega arith) e5 (ap (λ (i : ℕ). m + q + q + q + i) le) in
       let w = put-all (a ++ b ++ c ++ d ++ e) u5 refl in
-      let n : length (a ++ b ++ c ++ d ++ e) ≡ m + q + q + q + q = u5 .long in
-      rw (rows.mean-row m bs, rows.star-row s bs, rows.pinf-row s bs, rows.root-row s bs, rows.unres-row s bs) (parts m q a b c d e _ la lb lc ld le s5 w s0 (ap (λ (i : ℕ). drop i s0) n))
+      rw (rows.mean-row m bs, rows.star-row s bs, rows.pinf-row s bs, rows.root-row s bs, rows.unres-row s bs) (parts m q a b c d e _ la lb lc ld le s5 w)
 
 -- refused before a float is loaded
-pub none-loaded : {p m r n : ℕ} {bs : List ℕ} {s : List Float} → true ≡ badSaved p m r n bs → Loaded p m r n bs s s true
+pub none-loaded : {p m r n : ℕ} {bs : List ℕ} {s : List Float} → true ≡ badSaved p m r n bs → Loaded p m r n bs s true
 none-loaded e = record { refused = e; state = λ f. absurd (true≢false f) }
 
 -- with the tallies, what is carried
-pub carried-loaded : (m : ℕ) (bs : List ℕ) (before after : List Float) (t : Tallies) → LoadedState m bs before after → LoadedTallies (numbersIn (widths m) bs) t → carriedOf m after t ≡ loaded m bs
+pub carried-loaded : (m : ℕ) (bs : List ℕ) (s : List Float) (t : Tallies) → LoadedState m bs s → LoadedTallies (numbersIn (widths m) bs) t → carriedOf m s t ≡ loaded m bs
 unfolding loadedPast loadedMean
-carried-loaded m bs before after t h g = cc
+carried-loaded m bs s t h g = cc

@@ -11,17 +11,13 @@ use lib.Ieee.Bits.{nanBits-is, nanBits-above}
 use borrow.Author.Tests.{lt-ltb, le-ltb, ltb-true, ltb-false, eq-eqb, ne-eqb}
 use Rattle.definition.specs.Run.{anyOf, chunks}
 use Rattle.definition.specs.Saved.{otherNan, lengthOf, widths, savedNeed, wrongCount, numbersIn, numberAt, doneIn, badSizes, badTallies, badFloats, badSaved}
-use Rattle.laws.specs.Any.{either-false, or-false}
+use Rattle.laws.specs.Any.{either-false, or-false, or-true}
 use Rattle.saved.specs.Places.{bytesAt, numbersAt, whole, Starts}
 use Rattle.saved.proofs.Rows as rows
 
 pub need-is : (m : ℕ) → savedNeed m ≡ whole m
 unfolding widths lengthOf
 need-is m = omega arith
-
-or-true : (b : Bool) → (b || true) ≡ true
-or-true true = refl
-or-true false = refl
 
 pub nan-is : (k : ℕ) → (ltb 0x7ff0000000000000 (k % 0x8000000000000000) && not (eqb k 0x7ff8000000000000)) ≡ otherNan k
 unfolding otherNan

@@ -28,20 +28,19 @@ pastOf m s t =
 abbrev pub carriedOf : ℕ → List Float → Tallies → Carried
 carriedOf m s t = record { past = pastOf m s t; mean = record { a = take m s; loglik = t .answer .loglik } }
 
--- a state's parts, of m and four times q numbers; past them nothing has changed
-pub record Parts (m q : ℕ) (a b c d e before after : List Float) : Type 0 where
-  pub mean : take m after ≡ a
-  pub star : take q (drop m after) ≡ b
-  pub pinf : take q (drop (m + q) after) ≡ c
-  pub root : take q (drop (m + q + q) after) ≡ d
-  pub unres : take q (drop (m + q + q + q) after) ≡ e
-  pub rest : drop (m + q + q + q + q) after ≡ drop (m + q + q + q + q) before
+-- a state's parts, of m and four times q numbers
+pub record Parts (m q : ℕ) (a b c d e s : List Float) : Type 0 where
+  pub mean : take m s ≡ a
+  pub star : take q (drop m s) ≡ b
+  pub pinf : take q (drop (m + q) s) ≡ c
+  pub root : take q (drop (m + q + q) s) ≡ d
+  pub unres : take q (drop (m + q + q + q) s) ≡ e
 
 -- they are the floats of the bytes bs
-abbrev pub LoadedState : ℕ → List ℕ → List Float → List Float → Type 0
-LoadedState m bs before after =
+abbrev pub LoadedState : ℕ → List ℕ → List Float → Type 0
+LoadedState m bs s =
     let part : ℕ → List Float = λ k. map float (sectionAt (numbersIn (widths m) bs) k) in
-    Parts m (m * m) (part 1) (part 2) (part 3) (part 4) (part 5) before after
+    Parts m (m * m) (part 1) (part 2) (part 3) (part 4) (part 5) s
 
 pub record LoadedTallies (ns : List (List ℕ)) (t : Tallies) : Type 0 where
   pub done : t .done ≡ doneIn ns
@@ -52,6 +51,6 @@ pub record LoadedTallies (ns : List (List ℕ)) (t : Tallies) : Type 0 where
   pub news : t .answer .news ≡ newsIn ns
 
 -- the bytes bs are bad, or their floats are the state's
-pub record Loaded (p m r n : ℕ) (bs : List ℕ) (before after : List Float) (bad : Bool) : Type 0 where
+pub record Loaded (p m r n : ℕ) (bs : List ℕ) (s : List Float) (bad : Bool) : Type 0 where
   pub refused : bad ≡ badSaved p m r n bs
-  pub state : bad ≡ false → LoadedState m bs before after
+  pub state : bad ≡ false → LoadedState m bs s

@@ -152,7 +152,7 @@ fn load_floats(saved: &[u8], at: usize, k: usize, state: &mut [f64], to: usize) 
 fn load_state(saved: &[u8], m: usize, state: &mut [f64]) -> bool
     requires { ⌜ (m ≤ 8) × (length (now saved) ≡ whole m) × (m + m * m + m * m + m * m + m * m ≤ length (now state)) ⌝ }
     ensures { λ r. ⌜ (r ≡ badFloats (numbersIn (widths m) (now (saved .entry))))
-        × LoadedState m (now (saved .entry)) (now (state .entry)) (now (state .exit)) ⌝ }
+        × LoadedState m (now (saved .entry)) (now (state .exit)) ⌝ }
 {
     let at = places_of(m);
     let mm = m * m;
@@ -169,7 +169,7 @@ fn load_state(saved: &[u8], m: usize, state: &mut [f64]) -> bool
 // they are not refused, the state holds what was saved, the mean, P*, P∞, its root, the unresolved matrix.
 pub fn load(saved: &[u8], p: usize, m: usize, r: usize, n: usize, state: &mut [f64]) -> bool
     requires { ⌜ (p ≤ 8) × (m ≤ 8) × (m + m * m + m * m + m * m + m * m ≤ length (now state)) ⌝ }
-    ensures { λ b. ⌜ Loaded p m r n (now (saved .entry)) (now (state .entry)) (now (state .exit)) b ⌝ }
+    ensures { λ b. ⌜ Loaded p m r n (now (saved .entry)) (now (state .exit)) b ⌝ }
 {
     let long = saved.len();
     let end = places_of(m).end;

@@ -1,17 +1,16 @@
 -- The passes back, between the filter's call that wrote what they read and the outcome's smoothed moments.
 use mathlib.Core.Path.{_≡_, refl, ap, _∙_}
 use Prim.Native.Nat.{ℕ, _*_}
-use mathlib.Core.Bool.{Bool, true, false, _&&_}
 use mathlib.Core.List.{List, map}
 use lib.ListN.{length, length-map}
-use lib.Dec.{leb}
 use lib.Ieee.{Float}
 use Rattle.definition.specs.Run.{join, count, lay}
 use Rattle.definition.specs.Smooth.{smoothCov, smoothMean}
 use Rattle.definition.specs.Parts.{CovPart, MeanPart, predCov, predInf, fStar, fInf, mStar, mInf, predMean, innovations}
 use Rattle.definition.specs.Inputs.{Model, Offsets, classOf, frameOf}
-use Rattle.definition.specs.Outcome.{CovParts, MeanParts, answered, numberOf, after, countsIn, kindsWritten, covWritten, meanWritten, smoothedCovNeed, smoothedMeanNeed, roomy, roomySmoothed, covOf, meanOf, countsOf, covOutcome, meanOutcome}
+use Rattle.definition.specs.Outcome.{CovParts, MeanParts, answered, numberOf, after, countsIn, kindsWritten, covWritten, meanWritten, smoothedCovNeed, smoothedMeanNeed, roomySmoothed, covOf, meanOf, countsOf, covOutcome, meanOutcome}
 use Rattle.laws.specs.Accepted.{Accepted, RoomySmoothed, room-smoothed, as-long}
+use Rattle.laws.specs.Any.{both-true}
 use Rattle.laws.specs.Flat.{flatIn, Flat, lookOf, meanLookOf, looks, meanLooks}
 use Rattle.laws.specs.Passes.{Laid}
 use Rattle.blank.specs.Stretches.{SmoothedRoom}
@@ -26,10 +25,6 @@ use Rattle.laws.specs.Looked as cov-looked
 use Rattle.mean_back.specs.Call as mean-call
 use Rattle.mean_back.specs.Looked as mean-looked
 use Rattle.backward.specs.View.{ReadyBack, Back}
-
-first : (a b c : Bool) → (a && b && c) ≡ true → a ≡ true
-first true b c e = refl
-first false b c e = e
 
 -- ---- past refusals 1 to 11
 
@@ -46,7 +41,7 @@ module _ {x : Model} {o : Offsets} {y : ℕ} {w : CovParts} {w′ : MeanParts} {
 
   pub fit : Fit x o y w w′
   unfolding roomySmoothed
-  fit = record { accepted = record { sizes = f .sizes; inputs = f .inputs; readings = f .readings; roomy = first (roomy x w w′) (leb (smoothedCovNeed x) (length sc)) (leb (smoothedMeanNeed x) (length sm)) (f .roomy) } }
+  fit = record { accepted = record { sizes = f .sizes; inputs = f .inputs; readings = f .readings; roomy = both-true _ _ (both-true _ _ (f .roomy) .0) .0 } }
 
   pub smoothed-room : {lm lc : ℕ} → lm ≡ length sm → lc ≡ length sc → SmoothedRoom (x .p) (x .m) (x .n) lm lc
   unfolding smoothedCovNeed smoothedMeanNeed

@@ -1,5 +1,5 @@
 -- The call's steps: what each may rely on, and what they come to.
-use mathlib.Core.Path.{_≡_, refl, sym, ap, ap₂, subst, _∙_}
+use mathlib.Core.Path.{_≡_, sym, ap, ap₂, subst, _∙_}
 use Prim.Native.Nat.{ℕ, _+_, _-_, _*_, _/_, _≤_, _<_, min}
 use native.Mathlib.Omega.{arith}
 use mathlib.Core.Bool.{Bool, true, false, _&&_, _||_, not, cond}
@@ -77,17 +77,13 @@ module _ (x : Model) (o : Offsets) (y : List Float) (begins : Bool) (saved : Lis
     room = room-to-save x last w w′ save (inputs .2)
 
     -- from what the checks have made of the state
-    pub may-enter : {before state : List Float} → length state ≡ 264 → (k ≡ 0 → begins ≡ false → LoadedState (x .m) saved before state)
-        → Starts (x .m) (length (o .a1)) (length (x .pStar)) (length (x .flags)) (length state) × (begins ≡ false → (length saved ≡ savedNeed (x .m)) × LoadedState (x .m) saved state state)
+    pub may-enter : {state : List Float} → length state ≡ 264 → (k ≡ 0 → begins ≡ false → LoadedState (x .m) saved state)
+        → Starts (x .m) (length (o .a1)) (length (x .pStar)) (length (x .flags)) (length state) × (begins ≡ false → (length saved ≡ savedNeed (x .m)) × LoadedState (x .m) saved state)
     may-enter e loads =
         let i = inputs .0 in
         let s = sizes in (
           record { m0 = s .m0; m8 = s .m8; mean = i .a1; star = i .pStar; flagged = i .flags; room = state-fits (s .m8) e },
-          λ b.
-              let l = loads (omega arith) b in (
-                entered.long-enough x begins saved good b,
-                record { mean = l .mean; star = l .star; pinf = l .pinf; root = l .root; unres = l .unres; rest = refl },
-              ),
+          λ b. (entered.long-enough x begins saved good b, loads (omega arith) b),
         )
 
     -- where the run stands: t, over the state s

@@ -8,7 +8,7 @@ use Rattle.definition.specs.Inputs.{noiseOf}
 use Rattle.dense.specs.Views.{mat}
 use Rattle.saved.specs.Loaded.{LoadedState}
 
-pub record Checks (k : ℕ) (refusal m r : ℕ) (rr q rqr : List Float) (begins : Bool) (saved : List ℕ) (s s′ : List Float) : Type 0 where
+pub record Checks (k : ℕ) (refusal m r : ℕ) (rr q rqr : List Float) (begins : Bool) (saved : List ℕ) (s : List Float) : Type 0 where
   pub number : k ≡ refusal
   pub noise : k ≡ 0 → mat m rqr ≡ noiseOf m r rr q
-  pub state : k ≡ 0 → begins ≡ false → LoadedState m saved s s′
+  pub state : k ≡ 0 → begins ≡ false → LoadedState m saved s

@@ -33,7 +33,7 @@ fn of_saved(
 ) -> u8
     requires { ⌜ InRange p m r n × (m + m * m + m * m + m * m + m * m ≤ length (now state)) ⌝ }
     ensures { λ k. ⌜ (k ≡ firstOf ((15, cond begins (not (eqb (length (now (saved .entry))) 0)) (badSaved p m r n (now (saved .entry)))) ∷ []))
-        × (k ≡ 0 → begins ≡ false → LoadedState m (now (saved .entry)) (now (state .entry)) (now (state .exit))) ⌝ }
+        × (k ≡ 0 → begins ≡ false → LoadedState m (now (saved .entry)) (now (state .exit))) ⌝ }
 {
     if begins {
         return if saved.len() == 0 { 0 } else { 15 };
@@ -97,7 +97,7 @@ fn refusal(
         (length (now (y .entry))) (anyOf isInfinity (map classOf (now (y .entry))))
         (rooms p m n «pred_mean» «pred_cov» «pred_inf» «filt_mean» «filt_cov» kinds v «f_star» «f_inf» «m_star» «m_inf» && (last || leb (savedNeed m) save))
         (cond begins (not (eqb (length (now (saved .entry))) 0)) (badSaved p m r n (now (saved .entry)))))
-        m r (now (rr .entry)) (now (q .entry)) (now (rqr .exit)) begins (now (saved .entry)) (now (state .entry)) (now (state .exit)) ⌝ }
+        m r (now (rr .entry)) (now (q .entry)) (now (rqr .exit)) begins (now (saved .entry)) (now (state .exit)) ⌝ }
 {
     let sizes = model::refusals::of_stretch_sizes(p, m, r, n);
     if sizes != 0 {
@@ -194,7 +194,7 @@ fn enter(
     state: &mut [f64],
 ) -> saved::Tallies
     requires { ⌜ Starts m (length (now a1)) (length (now «p_star»)) (length (now flags)) (length (now state))
-        × (begins ≡ false → (length (now saved) ≡ savedNeed m) × LoadedState m (now saved) (now state) (now state)) ⌝ }
+        × (begins ≡ false → (length (now saved) ≡ savedNeed m) × LoadedState m (now saved) (now state)) ⌝ }
     ensures { λ t. ⌜ carriedOf m (now (state .exit)) t
         ≡ cond begins (begunOf m (now (a1 .entry)) (now («p_star» .entry)) (now (flags .entry))) (loaded m (now (saved .entry))) ⌝ }
 {
