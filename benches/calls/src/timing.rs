@@ -28,7 +28,8 @@ fn once(call: impl FnOnce() -> u32) -> f64 {
     took
 }
 
-/// What one call in a hundred stays under. The least of all would be a slip of the clock now and then, by which one call seems shorter than any is.
+/// What one call in a hundred stays under; of fewer than a hundred, the least. The least of many would be a slip of the clock now and then, by which
+/// one call seems shorter than any is.
 fn low(mut took: Vec<f64>) -> f64 {
     took.sort_by(f64::total_cmp);
     took[took.len() / 100]
