@@ -75,8 +75,9 @@
  *
  * A reading can be heard and be no news: it tells only what is known already, as when one radio check arrives on two inputs. It moves nothing.
  *
- * The values of readings reach no covariance, kind, variance or count. Only which of them are gaps does. So accuracy tables can be drawn up before
- * there is any reading, with 0 for each reading that will come and NaN for each gap.
+ * The values of readings reach no covariance, kind, variance or count. Only which of them are gaps does. Nor do a1, c and d reach any of these, or
+ * refusal 12: what they can bring about is refusal 2, 6 or 7. So accuracy tables can be drawn up before there is any reading, and before it is known
+ * where the states will start: with 0 for each reading that will come, NaN for each gap, and zeros for a1, c and d.
  *
  * A RUN IN STRETCHES
  *

@@ -1,13 +1,14 @@
-//! Demand 3, tried on the oracle itself, filter and smoother.
+//! Demand 3 and request k, tried on the oracle itself, filter and smoother;
+//! and the other readings and offsets that they are tried with.
 
 use parts::Outcome;
 
-use crate::case::{run, same_answer, Case, Expected};
+use crate::case::{run, same_answer, writes, Case, Expected};
 use crate::gen::Cases;
 use crate::rng::Rng;
 
-/// Parts that the values of finite readings must not reach: covariances,
-/// kinds, variances, gain vectors.
+/// Parts that neither the values of finite readings nor the offsets must
+/// reach: covariances, kinds, variances, gain vectors.
 const BLIND: [usize; 9] = [1, 2, 4, 5, 7, 8, 9, 10, 12];
 
 /// What was looked at.
@@ -17,10 +18,13 @@ pub struct Looked {
     pub first: u64,
     /// Skipped finite readings, each tried with another number and a gap.
     pub second: u64,
+    /// Calls with other offsets, whose means moved.
+    pub offsets: u64,
 }
 
-/// Another finite number, of any size.
-fn other(rng: &mut Rng, x: f64) -> f64 {
+/// Another finite number: any at all, the same with the other sign, 0, or
+/// one close by.
+pub fn other(rng: &mut Rng, x: f64) -> f64 {
     loop {
         let y = match rng.below(4) {
             0 => rng.finite(),
@@ -34,6 +38,35 @@ fn other(rng: &mut Rng, x: f64) -> f64 {
     }
 }
 
+/// The case with other values of finite readings: of all of them, or of
+/// some.
+pub fn other_values(rng: &mut Rng, case: &Case) -> Case {
+    let mut changed = case.clone();
+    let all = rng.chance(1, 2);
+    for y in changed.y.iter_mut().filter(|y| y.is_finite()) {
+        if all || rng.chance(1, 2) {
+            *y = other(rng, *y);
+        }
+    }
+    changed
+}
+
+/// The case with other c, d and a1, and often with other values of finite
+/// readings too. Of a state with a flag a1 stays zero, of the other sign.
+pub fn other_offsets(rng: &mut Rng, case: &Case) -> Case {
+    let mut changed = match rng.chance(1, 2) {
+        true => other_values(rng, case),
+        false => case.clone(),
+    };
+    for x in changed.c.iter_mut().chain(&mut changed.d) {
+        *x = other(rng, *x);
+    }
+    for (x, flag) in changed.a1.iter_mut().zip(&case.flags) {
+        *x = if *flag == 0 { other(rng, *x) } else { -*x };
+    }
+    changed
+}
+
 fn same_counts(a: &Outcome, b: &Outcome, less_heard: usize) -> bool {
     match (a, b) {
         (Ok(a), Ok(b)) => {
@@ -44,13 +77,13 @@ fn same_counts(a: &Outcome, b: &Outcome, less_heard: usize) -> bool {
     }
 }
 
-/// First half: other values of finite readings.
-fn first_half(a: &Expected, b: &Expected) -> Result<(), String> {
+/// First half: other values of finite readings. Request k: other offsets.
+fn blind(a: &Expected, b: &Expected, what: &str) -> Result<(), String> {
     if !same_counts(&a.filter, &b.filter, 0) || !same_counts(&a.smooth, &b.smooth, 0) {
-        return Err("first half: refusal or counts".into());
+        return Err(format!("{what}: refusal or counts"));
     }
     match BLIND.iter().find(|&&k| a.written[k] != b.written[k]) {
-        Some(k) => Err(format!("first half: part {k}")),
+        Some(k) => Err(format!("{what}: part {k}")),
         None => Ok(()),
     }
 }
@@ -83,19 +116,19 @@ fn one_less(a: &Expected, b: &Expected) -> Result<(), String> {
     Ok(())
 }
 
-/// Both halves on one case.
+/// Both halves on one case, and request k.
 pub fn try_case(rng: &mut Rng, case: &Case, looked: &mut Looked) -> Result<(), String> {
     let e = run(case);
     if case.y.iter().any(|x| x.is_finite()) {
-        let mut changed = case.clone();
-        let all = rng.chance(1, 2);
-        for y in changed.y.iter_mut().filter(|y| y.is_finite()) {
-            if all || rng.chance(1, 2) {
-                *y = other(rng, *y);
-            }
-        }
-        first_half(&e, &run(&changed))?;
+        blind(&e, &run(&other_values(rng, case)), "first half")?;
         looked.first += 1;
+    }
+    // The offsets may bring about refusals 2, 6 and 7: of a call past 1 to
+    // 11 they are changed so that they do not.
+    if writes(&e.filter) {
+        let found = run(&other_offsets(rng, case));
+        blind(&e, &found, "request k")?;
+        looked.offsets += u64::from(found.written[0] != e.written[0]);
     }
     if !matches!(e.filter, Ok(a) if a.news > 0) {
         return Ok(());
@@ -122,8 +155,8 @@ pub fn command(seed: u64, count: u64) -> Result<(), String> {
         try_case(&mut rng, &case, &mut looked).map_err(|e| format!("case {k}: {e}\n{case:?}"))?;
     }
     println!(
-        "demand 3: {count} cases, {} calls with other readings, {} skipped readings: nothing found",
-        looked.first, looked.second
+        "demand 3: {count} cases, {} calls with other readings, {} skipped readings, {} calls with other offsets: nothing found",
+        looked.first, looked.second, looked.offsets
     );
     Ok(())
 }

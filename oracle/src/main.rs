@@ -8,7 +8,7 @@ const USAGE: &str = "usage:
   oracle replay FILE           run a file's cases and compare
   oracle small SEED COUNT      print small cases as text
   oracle stretches SEED        print small stretches as text
-  oracle demand3 SEED COUNT    try demand 3
+  oracle demand3 SEED COUNT    try demand 3 and request k
   oracle time                  ns per period";
 
 fn number(s: &str) -> Result<u64, String> {

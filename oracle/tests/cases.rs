@@ -1,4 +1,4 @@
-//! The made cases: branches, the fixed list, the reader, demand 3.
+//! The made cases: branches, the fixed list, the reader, demand 3, request k.
 
 use oracle::case::{probe_hits, run};
 use oracle::gen::{check_scene, Cases};
@@ -98,13 +98,16 @@ fn the_reader_finds_wrong_versions() {
 }
 
 #[test]
-fn demand_three_holds() {
+fn demand_three_and_request_k_hold() {
     let mut looked = demand3::Looked::default();
     let mut rng = Rng::new(5);
     for (_, case) in Cases::new(9).take(3_000) {
         demand3::try_case(&mut rng, &case, &mut looked).unwrap();
     }
-    assert!(looked.first > 1_000 && looked.second > 1_000, "{looked:?}");
+    let enough = [looked.first, looked.second, looked.offsets]
+        .iter()
+        .all(|&n| n > 1_000);
+    assert!(enough, "{looked:?}");
 }
 
 /// The branches that each pointed case is made to take.

@@ -1,5 +1,5 @@
-//! The comparison at scale: fresh cases of the oracle's generator through both calls of the library and of the oracle, demand 3 by pairs of calls,
-//! wild calls; and each case's run in stretches. Case k of a seed is the same in every run, whatever the count and the threads.
+//! The comparison at scale: fresh cases of the oracle's generator through both calls of the library and of the oracle, demand 3 and request k by pairs
+//! of calls, wild calls; and each case's run in stretches. Case k of a seed is the same in every run, whatever the count and the threads.
 
 use oracle::case::Case;
 use oracle::gen::Cases;
@@ -47,7 +47,7 @@ fn long_case(rng: &mut Rng) -> Case {
 }
 
 /// A case's run in stretches; and where the case is refused, as a stretch.
-fn stretches(rng: &mut Rng, case: &Case, k: u64, name: &str, tally: &mut Tally) {
+fn stretches(rng: &mut Rng, offset_rng: &mut Rng, case: &Case, k: u64, name: &str, tally: &mut Tally) {
     // As the filter's call sees it, with the lengths that the case lends.
     let refusal = Lent::of(case, 0).oracle(Call::Filter);
     match Run::of(case) {
@@ -56,6 +56,7 @@ fn stretches(rng: &mut Rng, case: &Case, k: u64, name: &str, tally: &mut Tally) 
             altered::try_run(rng, &run, name, tally);
             altered::try_bits(rng, &run, k, name, tally);
             values::try_stretch(rng, &run, name, tally);
+            values::try_stretch_offsets(offset_rng, &run, name, tally);
         }
         _ => altered::try_refused(rng, case, refusal, name, tally),
     }
@@ -68,8 +69,9 @@ fn one_case(cases: &Cases, seed: u64, k: u64, tally: &mut Tally) {
     let mut rng = Rng::new(seed.wrapping_mul(0x9E37_79B9).wrapping_add(k));
     // Of its own, so that the wild call does not go by what demand 3 found in the library's answers.
     let mut wild_rng = Rng::new(rng.word());
-    // Of their own too, so that the cases before them are as they were before there were stretches.
+    // Of their own too, so that what was tried before there were stretches, and before request k, is tried as it was.
     let mut stretch_rng = Rng::new(wild_rng.clone().word() ^ rng.clone().word());
+    let mut offset_rng = Rng::new(stretch_rng.clone().word() ^ rng.clone().word());
     let fill = rng.word();
     for which in CALLS {
         let (outcome, difference) = against_oracle(which, &case, fill);
@@ -78,7 +80,8 @@ fn one_case(cases: &Cases, seed: u64, k: u64, tally: &mut Tally) {
         line.count(&format!("{name}, {}", which.name()), difference);
     }
     values::try_case(&mut rng, &case, &name, tally);
-    stretches(&mut stretch_rng, &case, k, &name, tally);
+    values::try_offsets(&mut offset_rng, &case, &name, tally);
+    stretches(&mut stretch_rng, &mut offset_rng, &case, k, &name, tally);
     wild::try_case(&mut wild_rng, &mut stretch_rng, case, &name, tally);
     if k % LONG_EVERY == 0 {
         let case = long_case(&mut wild_rng);

@@ -15,6 +15,9 @@ const PARTS: usize = INPUTS + OUTPUTS + 4 + 2;
 const ANSWER_NAMES: [&str; 4] = ["the log-likelihood", "d_diffuse", "heard", "news"];
 
 /// Numbers of parts, the inputs first, then the outputs, then the answer's places, then a stretch's bytes.
+pub const C: usize = 6;
+pub const D: usize = 7;
+pub const A1: usize = 8;
 pub const FLAGS: usize = 10;
 pub const Y: usize = 11;
 pub const PRED_MEAN: usize = 12;

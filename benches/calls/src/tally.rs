@@ -44,6 +44,7 @@ pub struct Tally {
     pub other_values: Line,
     pub other_number: Line,
     pub gap: Line,
+    pub other_offsets: Line,
     pub wild_sizes: Line,
     pub wild_lengths: Line,
     pub wild_claims: Line,
@@ -58,11 +59,12 @@ pub struct Tally {
     pub each_bit: Line,
     pub stretch_refused: Line,
     pub stretch_values: Line,
+    pub stretch_offsets: Line,
     pub stretch_wild: Line,
 }
 
 impl Tally {
-    fn lines(&mut self) -> [(&'static str, &mut Line); 19] {
+    fn lines(&mut self) -> [(&'static str, &mut Line); 21] {
         [
             ("filter against the oracle", &mut self.filter),
             ("smoother against the oracle", &mut self.smooth),
@@ -70,6 +72,7 @@ impl Tally {
             ("demand 3: other values of finite readings", &mut self.other_values),
             ("demand 3: another number for a reading that is no news", &mut self.other_number),
             ("demand 3: a gap for a reading that is no news", &mut self.gap),
+            ("request k: other a1, c and d", &mut self.other_offsets),
             ("wild calls: sizes", &mut self.wild_sizes),
             ("wild calls: lengths", &mut self.wild_lengths),
             ("wild calls: lengths claimed that nothing has", &mut self.wild_claims),
@@ -82,6 +85,7 @@ impl Tally {
             ("stretches from saved bytes, each bit flipped in turn", &mut self.each_bit),
             ("stretches that refusals 1 to 11 are for, and 15 too", &mut self.stretch_refused),
             ("demand 3 in a stretch", &mut self.stretch_values),
+            ("request k in a stretch", &mut self.stretch_offsets),
             ("wild calls of a stretch", &mut self.stretch_wild),
         ]
     }
@@ -113,7 +117,8 @@ impl Tally {
     pub fn stretches(&self) -> (u64, u64) {
         let altered = self.altered.compared + self.each_bit.compared;
         let cut = self.cut_once.compared + self.cut_each.compared + self.cut_anywhere.compared;
-        (cut + altered + self.stretch_refused.compared + self.stretch_values.compared + self.stretch_wild.compared, altered)
+        let blind = self.stretch_values.compared + self.stretch_offsets.compared;
+        (cut + altered + blind + self.stretch_refused.compared + self.stretch_wild.compared, altered)
     }
 
     /// Prints the table. How many comparisons were made, and how many differ.

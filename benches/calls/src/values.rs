@@ -1,17 +1,22 @@
-//! Demand 3, tried on the library by pairs of calls: the values of finite readings reach no covariance, decision, variance, gain vector, count or
-//! refusal; and a reading judged no news is no news. The oracle is not asked.
+//! Demand 3 and request k, tried on the library by pairs of calls: the values of finite readings reach no covariance, decision, variance, gain vector,
+//! count or refusal, nor do the offsets past refusals 1 to 11; and a reading judged no news is no news. The oracle is not asked.
+
+use std::ops::Range;
 
 use oracle::case::Case;
+use oracle::demand3::{other, other_offsets, other_values};
 use oracle::rng::Rng;
 
 use crate::altered::{float, number, some_periods, LIKELIHOOD, MEAN, TALLIES};
 use crate::cuts::{self, set};
-use crate::lent::{Ask, Lent, FILT_MEAN, HEARD, KINDS, LOGLIK, NEWS, PRED_MEAN, SAVE, SAVED, SM_MEAN, V, Y};
+use crate::lent::{Ask, Lent, A1, C, D, FILT_MEAN, HEARD, KINDS, LOGLIK, NEWS, PRED_MEAN, SAVE, SAVED, SM_MEAN, V, Y};
 use crate::library::{Call, CALLS};
 use crate::tally::Tally;
 
-/// What the values of finite readings may move in a call that is answered: the means, v and the log-likelihood.
-const MOVED: [usize; 6] = [Y, PRED_MEAN, FILT_MEAN, V, SM_MEAN, LOGLIK];
+/// The inputs that a pair of calls may differ in.
+const HANDED: [usize; 5] = [C, D, A1, Y, SAVED];
+/// What they may move in a call that is answered: the means, v and the log-likelihood. A refused call has none of these to move.
+const MOVED: [usize; 5] = [PRED_MEAN, FILT_MEAN, V, SM_MEAN, LOGLIK];
 /// How many readings of a run that were judged no news are tried.
 const READINGS: usize = 3;
 
@@ -36,34 +41,10 @@ fn moved(a: &Run, b: &Run, free: &[usize]) -> Option<String> {
     b.lent.difference(&a.lent, a.which, a.refusal, free)
 }
 
-/// Another finite number: any at all, the same with the other sign, 0, or one close by.
-fn other(rng: &mut Rng, x: f64) -> f64 {
-    loop {
-        let y = match rng.below(4) {
-            0 => rng.finite(),
-            1 => -x,
-            2 => 0.0,
-            _ => x + rng.plain(),
-        };
-        if y.is_finite() && y.to_bits() != x.to_bits() {
-            return y;
-        }
-    }
-}
-
-/// First half: other values of finite readings, of all of them or of some.
-fn other_values(rng: &mut Rng, before: &Run, case: &Case, fill: u64, tally: &mut Tally, name: &str) {
-    let mut changed = case.clone();
-    let all = rng.chance(1, 2);
-    for y in changed.y.iter_mut().filter(|y| y.is_finite()) {
-        if all || rng.chance(1, 2) {
-            *y = other(rng, *y);
-        }
-    }
-    let after = run(before.which, &changed, fill);
-    // A refused call has no mean to move.
-    let free: &[usize] = if before.refusal == 0 { &MOVED } else { &[Y] };
-    tally.other_values.count(&format!("{name}, other values"), moved(before, &after, free));
+/// The first difference that demand 3's first half and request k do not allow.
+fn seen(before: &Run, after: &Run) -> Option<String> {
+    let means: &[usize] = if before.refusal == 0 { &MOVED } else { &[] };
+    moved(before, after, &[&HANDED, means].concat())
 }
 
 /// Second half, for one reading: another number there moves nothing, a gap there only `heard`, by one.
@@ -89,7 +70,8 @@ pub fn try_case(rng: &mut Rng, case: &Case, name: &str, tally: &mut Tally) {
         let name = format!("demand 3, {name}, {}", which.name());
         let before = run(which, case, fill);
         if case.y.iter().any(|y| y.is_finite()) {
-            other_values(rng, &before, case, fill, tally, &name);
+            let after = run(which, &other_values(rng, case), fill);
+            tally.other_values.count(&format!("{name}, other values"), seen(&before, &after));
         }
         if before.refusal != 0 || before.lent.word(NEWS, 0) == 0 {
             continue;
@@ -102,56 +84,132 @@ pub fn try_case(rng: &mut Rng, case: &Case, name: &str, tally: &mut Tally) {
     }
 }
 
-/// The same in a stretch that goes on from saved bytes. Their mean and likelihood may differ too; then those that are saved may.
-pub fn try_stretch(rng: &mut Rng, run: &cuts::Run<'_>, name: &str, tally: &mut Tally) {
-    let Case { p, m, n, .. } = *run.case;
-    let (from, to) = some_periods(rng, n);
-    let bytes = run.bytes(rng.within(0, n));
-    let last = if rng.chance(1, 4) { set(rng) } else { 0 };
-    let saves = last == 0;
-    let (lent, fill) = (cuts::room(rng, p, m, to - from), rng.word());
-    let call = |y: &[f64], saved: &[u8]| {
-        let mut i = cuts::periods(run.case, from, to);
-        i.y = y;
-        let mut lent = Lent::new(&i, &lent, &Ask { begins: 0, saved, last, room: oracle::saved_len(m) }, fill);
+/// Request k on one case past refusals 1 to 11, for both calls.
+pub fn try_offsets(rng: &mut Rng, case: &Case, name: &str, tally: &mut Tally) {
+    let fill = rng.word();
+    for which in CALLS {
+        let before = run(which, case, fill);
+        if matches!(before.refusal, 0 | 12) {
+            let after = run(which, &other_offsets(rng, case), fill);
+            tally.other_offsets.count(&format!("request k, {name}, {}, other offsets", which.name()), seen(&before, &after));
+        }
+    }
+}
+
+/// A stretch of a run, to be made with the readings, the offsets and the bytes that it has, and with others.
+struct Piece {
+    from: usize,
+    to: usize,
+    begins: u8,
+    /// It goes on from what is saved after so many periods.
+    done: usize,
+    last: u8,
+    room: [usize; 13],
+    fill: u64,
+}
+
+impl Piece {
+    fn of(rng: &mut Rng, case: &Case, begins: u8) -> Self {
+        let (from, to) = some_periods(rng, case.n);
+        let done = rng.within(0, case.n);
+        let last = if rng.chance(1, 4) { set(rng) } else { 0 };
+        Piece { from, to, begins, done, last, room: cuts::room(rng, case.p, case.m, to - from), fill: rng.word() }
+    }
+
+    fn readings(&self, p: usize) -> Range<usize> {
+        self.from * p..self.to * p
+    }
+
+    fn saved(&self, run: &cuts::Run<'_>) -> Vec<u8> {
+        if self.begins == 0 {
+            run.bytes(self.done)
+        } else {
+            Vec::new()
+        }
+    }
+
+    fn run(&self, case: &Case, saved: &[u8]) -> Run {
+        let ask = Ask { begins: self.begins, saved, last: self.last, room: oracle::saved_len(case.m) };
+        let mut lent = Lent::new(&cuts::periods(case, self.from, self.to), &self.room, &ask, self.fill);
         let refusal = lent.library(Call::Stretch);
         Run { which: Call::Stretch, refusal, lent }
-    };
-    let y = &run.case.y[from * p..to * p];
-    let mut before = call(y, &bytes);
-    let written = saves && before.refusal == 0;
-
-    let mut changed = y.to_vec();
-    changed.iter_mut().filter(|y| y.is_finite()).for_each(|y| *y = other(rng, *y));
-    let mut saved = bytes.clone();
-    let means: Vec<_> = (0..m).map(|k| number(m, MEAN, k)).chain([number(m, LIKELIHOOD, 0)]).collect();
-    for place in &means {
-        saved[place.clone()].copy_from_slice(&float(rng).to_bits().to_be_bytes());
     }
-    let mut after = call(&changed, &saved);
-    for place in means.iter().filter(|_| written && after.refusal == 0) {
-        let own = before.lent.bytes_mut(SAVE)[place.clone()].to_vec();
-        after.lent.bytes_mut(SAVE)[place.clone()].copy_from_slice(&own);
-    }
-    let free: &[usize] = if before.refusal == 0 { &[Y, SAVED, PRED_MEAN, FILT_MEAN, V, LOGLIK] } else { &[Y, SAVED] };
-    let name = format!("demand 3, {name}, a stretch of periods {from} to {to}");
-    tally.stretch_values.count(&format!("{name}, other values"), moved(&before, &after, free));
 
-    let silent: Vec<usize> = (0..y.len()).filter(|&k| y[k].is_finite() && before.lent.word(KINDS, k) == 0).collect();
+    /// Whether both have saved a run.
+    fn written(&self, before: &Run, after: &Run) -> bool {
+        self.last == 0 && before.refusal == 0 && after.refusal == 0
+    }
+
+    /// As `seen`; of what is saved the mean and the likelihood may move.
+    fn seen(&self, before: &mut Run, mut after: Run, m: usize) -> Option<String> {
+        if self.written(before, &after) {
+            for place in means(m) {
+                after.lent.bytes_mut(SAVE)[place.clone()].copy_from_slice(&before.lent.bytes_mut(SAVE)[place]);
+            }
+        }
+        seen(before, &after)
+    }
+
+    fn name(&self, tried: &str, name: &str) -> String {
+        format!("{tried}, {name}, a stretch of periods {} to {}", self.from, self.to)
+    }
+}
+
+/// Where a saved run has its mean and its likelihood.
+fn means(m: usize) -> impl Iterator<Item = Range<usize>> {
+    (0..m).map(move |k| number(m, MEAN, k)).chain([number(m, LIKELIHOOD, 0)])
+}
+
+/// The bytes with another mean and likelihood, where there are any.
+fn other_means(rng: &mut Rng, bytes: &[u8], m: usize) -> Vec<u8> {
+    let mut saved = bytes.to_vec();
+    for place in means(m).filter(|_| !bytes.is_empty()) {
+        saved[place].copy_from_slice(&float(rng).to_bits().to_be_bytes());
+    }
+    saved
+}
+
+/// Request k in a stretch that begins a run, or goes on from saved bytes with another mean and likelihood.
+pub fn try_stretch_offsets(rng: &mut Rng, run: &cuts::Run<'_>, name: &str, tally: &mut Tally) {
+    let m = run.case.m;
+    let begins = if rng.chance(1, 2) { set(rng) } else { 0 };
+    let piece = Piece::of(rng, run.case, begins);
+    let saved = piece.saved(run);
+    let mut before = piece.run(run.case, &saved);
+    let after = piece.run(&other_offsets(rng, run.case), &other_means(rng, &saved, m));
+    let name = piece.name("request k", name);
+    tally.stretch_offsets.count(&format!("{name}, other offsets"), piece.seen(&mut before, after, m));
+}
+
+/// Demand 3 in a stretch that goes on from saved bytes. Their mean and likelihood may differ too.
+pub fn try_stretch(rng: &mut Rng, run: &cuts::Run<'_>, name: &str, tally: &mut Tally) {
+    let Case { p, m, .. } = *run.case;
+    let piece = Piece::of(rng, run.case, 0);
+    let saved = piece.saved(run);
+    let mut before = piece.run(run.case, &saved);
+    let name = piece.name("demand 3", name);
+
+    let mut changed = run.case.clone();
+    changed.y[piece.readings(p)].iter_mut().filter(|y| y.is_finite()).for_each(|y| *y = other(rng, *y));
+    let after = piece.run(&changed, &other_means(rng, &saved, m));
+    tally.stretch_values.count(&format!("{name}, other values"), piece.seen(&mut before, after, m));
+
+    let first = piece.readings(p).start;
+    let silent: Vec<usize> = piece.readings(p).filter(|&k| run.case.y[k].is_finite() && before.lent.word(KINDS, k - first) == 0).collect();
     if before.refusal != 0 || silent.is_empty() {
         return;
     }
     let k = rng.pick(&silent);
-    let mut changed = y.to_vec();
-    changed[k] = other(rng, y[k]);
-    let after = call(&changed, &bytes);
+    let mut changed = run.case.clone();
+    changed.y[k] = other(rng, run.case.y[k]);
+    let after = piece.run(&changed, &saved);
     tally.stretch_values.count(&format!("{name}, another number for reading {k}"), moved(&before, &after, &[Y]));
 
-    changed[k] = rng.gap();
-    let mut after = call(&changed, &bytes);
+    changed.y[k] = rng.gap();
+    let mut after = piece.run(&changed, &saved);
     let heard = |run: &Run| run.lent.word(HEARD, 0);
     let less = (heard(&after).wrapping_add(1) != heard(&before)).then(|| format!("heard is {}, before the gap {}", heard(&after), heard(&before)));
-    if written && after.refusal == 0 {
+    if piece.written(&before, &after) {
         // What is saved tells as many heard as the answer.
         let told = heard(&before).to_be_bytes();
         let place = number(m, TALLIES, 1);

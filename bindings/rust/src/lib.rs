@@ -29,8 +29,31 @@
 //! # Ok::<(), goxundar::Refusal>(())
 //! ```
 //!
-//! The values of readings reach no covariance, variance or count, nor which readings are used. So accuracy tables can be drawn up before there is
-//! any reading.
+//! The values of readings reach no covariance, variance or count, nor which readings are used; and neither do `a1`, `c` and `d`, of a call that is not
+//! refused for them. So accuracy tables can be drawn up before there is any reading, and before it is known where the states will start:
+//!
+//! ```
+//! use goxundar::{smooth, Design, Model};
+//!
+//! let (gap, to_come) = (f64::NAN, 0.0);
+//! let plan = Model {
+//!     design: Design::Constant(vec![1.0]),
+//!     h: vec![1.0],
+//!     t: vec![1.0],
+//!     rr: vec![1.0],
+//!     q: vec![0.5],
+//!     p_star: vec![4.0],
+//!     ..Model::zeros(1, 1, 1)
+//! };
+//! let table = smooth(&plan, 3, &[to_come, gap, to_come])?;
+//! // A year later: it started at 1200, and these were read.
+//! let panel = Model { a1: vec![1200.0], ..plan };
+//! let run = smooth(&panel, 3, &[1199.0, gap, 1203.0])?;
+//! for t in 0..3 {
+//!     assert_eq!(table.smoothed(t).cov, run.smoothed(t).cov);
+//! }
+//! # Ok::<(), goxundar::Refusal>(())
+//! ```
 //!
 //! A run can be cut after any period, and carried over a power cycle as bytes: [`begin`], then [`Saved::resume`] and [`Saved::finish`].
 //!

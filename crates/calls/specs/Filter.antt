@@ -1,5 +1,5 @@
--- The three demands, of the filter's call. `Called x o y w w′ r b b′`: with the inputs x, o and y and the parts lent as w and w′ it came back with r,
--- and left b and b′ in them. That every call does so is the contract of filter::filter_univariate, which asks nothing of the caller.
+-- The three demands and request k, of the filter's call. `Called x o y w w′ r b b′`: with the inputs x, o and y and the parts lent as w and w′ it came
+-- back with r, and left b and b′ in them. That every call does so is the contract of filter::filter_univariate, which asks nothing of the caller.
 use mathlib.Core.Path.{_≡_, refl, sym, subst}
 use mathlib.Core.Logic.{_↔_}
 use Prim.Native.Nat.{ℕ, _<_}
@@ -15,6 +15,7 @@ use Rattle.demands.specs.Conditions.{Room, table, First}
 use Rattle.demands.specs.Refusals as refusals
 use Rattle.demands.specs.Totals.{totals}
 use Rattle.demands.specs.Values as demand
+use Rattle.demands.specs.Offsets as offset
 use Rattle.promise.specs.declared.Outcome.{Outcome}
 use Rattle.promise.specs.Calls.{Promise}
 use Rattle.calls.specs.Seen as seen
@@ -47,6 +48,10 @@ module _ (x : Model) (o : Offsets) (y : List Float) (w : CovParts) (w′ : MeanP
   -- demand 3: the values of finite readings reach no refusal, no count, no decision and no covariance
   pub values : (y′ : List Float) → demand.Alike y y′ → {s : Outcome} {c : CovParts} {c′ : MeanParts} → Called x o y′ w w′ s c c′ → seen.Blind r s b c
   values y′ alike other = seen.blind call other (by-classes x o y y′ (demand.alike-classes y y′ alike) w w′)
+
+  -- request k: nor do the offsets, of calls past refusals 1 to 11. The parts lent to the means may be others too
+  pub offsets : (o′ : Offsets) (y′ : List Float) → demand.Alike y y′ → (v′ : MeanParts) → {s : Outcome} {c : CovParts} {c′ : MeanParts} → Called x o′ y′ w v′ s c c′ → seen.Admitted r → seen.Admitted s → seen.Blind r s b c
+  offsets o′ y′ alike v′ other h h′ = seen.blind call other (offset.offsets x o o′ y y′ alike w w′ v′ (seen.admitted call h) (seen.admitted other h′))
 
   -- and a finite reading judged no news changes nothing: another finite number in its place leaves all as it was, a gap all but the count heard
   module _ (k : ℕ) (h : seen.NoNews y r b k) where

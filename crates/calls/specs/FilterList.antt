@@ -1,5 +1,5 @@
--- The three demands, and the counts, of the filter's call with a list of records: the list is one part more. That every call keeps the promise `WithRecords`
--- is the contract of records::filter_records, which asks nothing of the caller.
+-- The three demands, the counts and request k, of the filter's call with a list of records: the list is one part more. That every call keeps the
+-- promise `WithRecords` is the contract of records::filter_records, which asks nothing of the caller.
 use mathlib.Core.Path.{_≡_, refl, sym, ap, _∙_, subst}
 use mathlib.Core.Logic.{_↔_}
 use Prim.Native.Nat.{ℕ, _<_}
@@ -24,7 +24,7 @@ use Rattle.promise.specs.Records.{skippedRecord}
 use Rattle.promise.specs.WithRecords.{outcomeWithRecords, WithRecords}
 use Rattle.calls.specs.Seen as seen
 use Rattle.calls.specs.Filter as filter
-use Rattle.calls.specs.Lists.{RoomList, Short, SameVariances, with-room, short-so, short-blind, short-not, short-deaf, either-way, refuses-list, list-keeps, list-blanked, list-same, list-blind}
+use Rattle.calls.specs.Lists.{RoomList, Short, SameVariances, with-room, short-so, short-blind, short-not, short-out, short-deaf, either-way, refuses-list, list-keeps, list-blanked, list-same, list-blind}
 
 -- where the list has room, it is the filter's call
 module _ {x : Model} {o : Offsets} {y : List Float} {w : CovParts} {w′ : MeanParts} {old : List Record} {r : Outcome} {b : CovParts} {b′ : MeanParts} {new : List Record} (call : WithRecords x o y w w′ old r b b′ new) where
@@ -61,11 +61,16 @@ module _ (x : Model) (o : Offsets) (y : List Float) (w : CovParts) (w′ : MeanP
   pub counts : seen.refusalOf r ≡ 0 → seen.Totals x y r b
   counts e = either-way x old (λ t. filter.counts x o y w w′ (enough call t) e) (λ t. absurd (short-not 0 (short call t) e (λ l h. omega arith)))
 
+  with-list : {o′ : Offsets} {y′ : List Float} {v′ : MeanParts} {s : Outcome} {c : CovParts} {c′ : MeanParts} {also : List Record} → WithRecords x o′ y′ w v′ old s c c′ also → seen.Blind r s b c → seen.Blind r s b c × SameVariances new also
+  with-list other z = (z, list-blind (call .promise) _ old (call .told) (other .promise) (other .told) (z .refusals) (z .parts))
+
   -- demand 3: the values of finite readings reach no kind and no variance of the list's records
   pub values : (y′ : List Float) → demand.Alike y y′ → {s : Outcome} {c : CovParts} {c′ : MeanParts} {also : List Record} → WithRecords x o y′ w w′ old s c c′ also → seen.Blind r s b c × SameVariances new also
-  values y′ alike other =
-      let z = either-way x old (λ t. filter.values x o y w w′ (enough call t) y′ alike (enough other t)) (λ t. short-blind (short call t) (short other t)) in
-      (z, list-blind (call .promise) _ old (call .told) (other .promise) (other .told) (z .refusals) (z .parts))
+  values y′ alike other = with-list other (either-way x old (λ t. filter.values x o y w w′ (enough call t) y′ alike (enough other t)) (λ t. short-blind (short call t) (short other t)))
+
+  -- request k
+  pub offsets : (o′ : Offsets) (y′ : List Float) → demand.Alike y y′ → (v′ : MeanParts) → {s : Outcome} {c : CovParts} {c′ : MeanParts} {also : List Record} → WithRecords x o′ y′ w v′ old s c c′ also → seen.Admitted r → seen.Admitted s → seen.Blind r s b c × SameVariances new also
+  offsets o′ y′ alike v′ other h h′ = with-list other (either-way x old (λ t. filter.offsets x o y w w′ (enough call t) o′ y′ alike v′ (enough other t) h h′) (λ t. absurd (short-out (short call t) h)))
 
   -- and no news changes no record of it
   module _ (k : ℕ) (h : seen.NoNews y r b k) where

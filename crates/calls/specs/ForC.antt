@@ -2,7 +2,7 @@
 -- That every call keeps the promise is the contract of `c_filter::goxundar_filter`, `c_smooth::goxundar_smooth` and `c_stretch::goxundar_stretch`.
 use mathlib.Core.Path.{_≡_, sym, ap, _∙_}
 use Prim.Native.Nat.{ℕ}
-use Rattle.definition.specs.Outcome.{CovParts, MeanParts, CovOutcome, MeanOutcome}
+use Rattle.definition.specs.Outcome.{CovOutcome, MeanOutcome}
 use Rattle.promise.specs.Lent.{Given, Lent, LentSmooth, GivenStretch, LentStretch}
 use Rattle.promise.specs.Calls.{refusalOf, Promise}
 use Rattle.promise.specs.declared.Outcome.{Outcome}

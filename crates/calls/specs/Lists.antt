@@ -6,7 +6,7 @@ use Prim.Native.Nat.{ℕ, zero, suc, min, _≤_, _<_}
 use native.Mathlib.Omega.{arith}
 use mathlib.Core.Bool.{Bool, true, false, _&&_, cond}
 use mathlib.Core.List.{List, [], _∷_, _++_, map, map-append}
-use lib.ListN.{length, drop, replicate, length-replicate}
+use lib.ListN.{length, drop, length-replicate}
 use lib.Dec.{leb, eqb}
 use lib.Ieee.{Float}
 use borrow.Author.Tests.{leb-true, leb-false, lt-leb, ne-eqb}
@@ -109,6 +109,9 @@ low false = (omega arith, omega arith)
 
 pub short-not : {x : Model} {w b : CovParts} {w′ b′ : MeanParts} {r : Outcome} (k : ℕ) → Short x w b w′ b′ r → seen.refusalOf r ≡ k → (0 < k → k < 12 → ⊥) → ⊥
 short-not {x} k h e f = let l = low (outside (x .p) (x .m) (x .r) (x .n)) in let s = sym (h .refusals) ∙ e in f (subst (λ (n : ℕ). 0 < n) s (l .0)) (subst (λ (n : ℕ). n < 12) s (l .1))
+
+pub short-out : {x : Model} {w b : CovParts} {w′ b′ : MeanParts} {r : Outcome} → Short x w b w′ b′ r → seen.Admitted r → ⊥
+short-out {r = r} h a = short-not (seen.refusalOf r) h refl (λ l g. ⊎-elim (λ e. omega arith) (λ e. omega arith) a)
 
 -- and nothing was judged
 pub short-deaf : {x : Model} {w b : CovParts} {w′ b′ : MeanParts} {r : Outcome} {y : List Float} {k : ℕ} → Short x w b w′ b′ r → seen.NoNews y r b k → ⊥

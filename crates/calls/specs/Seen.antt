@@ -16,6 +16,7 @@ use Rattle.definition.specs.Inputs.{Model}
 use Rattle.definition.specs.Outcome.{CovParts, MeanParts, Counts, CovOutcome, MeanOutcome, kindsNeed, covNeed, meanNeed}
 use Rattle.demands.specs.Refusals.{Blanked, Blank}
 use Rattle.demands.specs.Values as values
+use Rattle.demands.specs.Offsets as offset
 use Rattle.demands.specs.Unheard.{noPeriod}
 use Rattle.demands.specs.Totals as total
 use Rattle.demands.specs.Totals.{periodsOf}
@@ -35,6 +36,10 @@ abbrev pub loglikOf : Outcome → Float
 loglikOf (Refused k) = 0ᶠ
 loglikOf (Answered a) = a .loglik
 
+-- request k: the call got past refusals 1 to 11
+abbrev pub Admitted : Outcome → Type 0
+Admitted r = offset.Admitted (refusalOf r)
+
 -- ---- what stands in the parts afterwards, of two calls: b and b′ of the first, c and c′ of the second
 
 -- the parts that only the covariances reach
@@ -52,7 +57,7 @@ pub record BlankParts (x : Model) (w b : CovParts) (w′ b′ : MeanParts) : Typ
   pub covs : (q : CovPart) → Blanked (covNeed x q) 0ᶠ (w .part q) (b .part q)
   pub means : (q : MeanPart) → Blanked (meanNeed x q) 0ᶠ (w′ q) (b′ q)
 
--- demand 3, first half: the same refusal or the same counts, and the same decisions, variances and covariances
+-- demand 3, first half, and request k: the same refusal or the same counts, and the same decisions, variances and covariances
 pub record Blind (r s : Outcome) (b c : CovParts) : Type 0 where
   pub refusals : refusalOf r ≡ refusalOf s
   pub counts : countsOf r ≡ countsOf s
@@ -111,6 +116,9 @@ news-by (suc n) k h = absurd (omega arith)
 module _ {u : CovOutcome × MeanOutcome} {r : Outcome} {b : CovParts} {b′ : MeanParts} (p : Promise u r b b′) where
   pub refusal-is : refusalOf r ≡ u .0 .refused
   refusal-is = ap refusalOf (p .answer) ∙ refusal-by (u .0 .refused) _
+
+  pub admitted : Admitted r → offset.Admitted (u .0 .refused)
+  admitted = subst offset.Admitted refusal-is
 
   pub counts-are : countsOf r ≡ countsBy (u .0 .refused) (u .0 .counts)
   counts-are = ap countsOf (p .answer) ∙ counts-by (u .0 .refused) (u .0 .counts) (u .1 .loglik)

@@ -1,5 +1,5 @@
--- The three demands, of the smoother's call: the filter's eleven parts and the two smoothed ones. `Called` is as in Filter, with the smoothed parts
--- lent as sm and sc and left as sm′ and sc′. That every call does so is the contract of smoother::smooth_univariate.
+-- The three demands and request k, of the smoother's call: the filter's eleven parts and the two smoothed ones. `Called` is as in Filter, with the
+-- smoothed parts lent as sm and sc and left as sm′ and sc′. That every call does so is the contract of smoother::smooth_univariate.
 use mathlib.Core.Path.{_≡_, refl, sym, ap, _∙_, subst}
 use mathlib.Core.Logic.{_↔_}
 use Prim.Native.Nat.{ℕ, _<_}
@@ -16,6 +16,7 @@ use Rattle.demands.specs.Refusals as refusals
 use Rattle.demands.specs.Refusals.{Blanked}
 use Rattle.demands.specs.Totals.{totals-smooth}
 use Rattle.demands.specs.Values as demand
+use Rattle.demands.specs.Offsets as offset
 use Rattle.promise.specs.declared.Outcome.{Outcome}
 use Rattle.promise.specs.Calls.{PromiseSmooth}
 use Rattle.calls.specs.Seen as seen
@@ -39,6 +40,13 @@ same p q e =
       mean = p .mean ∙ ap (λ (z : SmoothedCov × SmoothedMean). z .1 .smoothed) e ∙ sym (q .mean);
       cov = p .cov ∙ ap (λ (z : SmoothedCov × SmoothedMean). z .0 .smoothed) e ∙ sym (q .cov);
     }
+
+-- of one covariance half
+blind : {u v : SmoothedCov × SmoothedMean} {r s : Outcome} {b c : CovParts} {b′ c′ : MeanParts} {sm sm′ sc sc′ : List Float} → PromiseSmooth u r b b′ sm sc → PromiseSmooth v s c c′ sm′ sc′ → u .0 ≡ v .0 → seen.Blind r s b c × (sc ≡ sc′)
+blind p q e = (
+  seen.blind (p .filter) (q .filter) (ap (λ (z : SmoothedCov). z .filter) e),
+  p .cov ∙ ap (λ (z : SmoothedCov). z .smoothed) e ∙ sym (q .cov),
+)
 
 module _ (x : Model) (o : Offsets) (y : List Float) (w : CovParts) (w′ : MeanParts) (sm sc : List Float) {r : Outcome} {b : CovParts} {b′ : MeanParts} {sm′ sc′ : List Float} (call : Called x o y w w′ sm sc r b b′ sm′ sc′) where
   -- demand 1
@@ -64,11 +72,11 @@ module _ (x : Model) (o : Offsets) (y : List Float) (w : CovParts) (w′ : MeanP
 
   -- demand 3: the values of finite readings reach no smoothed covariance either
   pub values : (y′ : List Float) → demand.Alike y y′ → {s : Outcome} {c : CovParts} {c′ : MeanParts} {sm″ sc″ : List Float} → Called x o y′ w w′ sm sc s c c′ sm″ sc″ → seen.Blind r s b c × (sc′ ≡ sc″)
-  values y′ alike other =
-      let e = smooth-by-classes x o y y′ (demand.alike-classes y y′ alike) w w′ sm sc in (
-        seen.blind (call .filter) (other .filter) (ap (λ (z : SmoothedCov). z .filter) e),
-        call .cov ∙ ap (λ (z : SmoothedCov). z .smoothed) e ∙ sym (other .cov),
-      )
+  values y′ alike other = blind call other (smooth-by-classes x o y y′ (demand.alike-classes y y′ alike) w w′ sm sc)
+
+  -- request k
+  pub offsets : (o′ : Offsets) (y′ : List Float) → demand.Alike y y′ → (v′ : MeanParts) (sn : List Float) → {s : Outcome} {c : CovParts} {c′ : MeanParts} {sm″ sc″ : List Float} → Called x o′ y′ w v′ sn sc s c c′ sm″ sc″ → seen.Admitted r → seen.Admitted s → seen.Blind r s b c × (sc′ ≡ sc″)
+  offsets o′ y′ alike v′ sn other h h′ = blind call other (offset.offsets-smooth x o o′ y y′ alike w w′ v′ sm sn sc (seen.admitted (call .filter) h) (seen.admitted (other .filter) h′))
 
   -- and no news changes none of the thirteen parts
   module _ (k : ℕ) (h : seen.NoNews y r b k) where

@@ -1,5 +1,5 @@
--- The three demands, and the counts, of the smoother's call with a list of records. That every call keeps the promise `WithRecordsSmooth` is the contract of
--- records::smooth_records, which asks nothing of the caller.
+-- The three demands, the counts and request k, of the smoother's call with a list of records. That every call keeps the promise `WithRecordsSmooth` is
+-- the contract of records_smooth::smooth_records, which asks nothing of the caller.
 use mathlib.Core.Path.{_≡_, refl, sym, ap, _∙_, subst}
 use mathlib.Core.Logic.{_↔_}
 use Prim.Native.Nat.{ℕ, _<_}
@@ -20,10 +20,10 @@ use Rattle.promise.specs.declared.Outcome.{Outcome}
 use Rattle.promise.specs.Calls.{PromiseSmooth}
 use Rattle.promise.specs.declared.Record.{Record}
 use Rattle.promise.specs.Records.{skippedRecord}
-use Rattle.promise.specs.WithRecords.{endingWithRecords, smoothOutcomeWithRecords, WithRecordsSmooth}
+use Rattle.promise.specs.WithRecords.{smoothOutcomeWithRecords, WithRecordsSmooth}
 use Rattle.calls.specs.Seen as seen
 use Rattle.calls.specs.Smooth as smooth
-use Rattle.calls.specs.Lists.{RoomList, Short, SameVariances, with-room, without-room, short-so, short-blind, short-not, short-deaf, either-way, refuses-list, list-keeps, list-blanked, list-same, list-blind}
+use Rattle.calls.specs.Lists.{RoomList, Short, SameVariances, with-room, without-room, short-so, short-blind, short-not, short-out, short-deaf, either-way, refuses-list, list-keeps, list-blanked, list-same, list-blind}
 
 -- where the list has room, it is the smoother's call; else all is as it was
 module _ {x : Model} {o : Offsets} {y : List Float} {w : CovParts} {w′ : MeanParts} {sm sc : List Float} {old : List Record} {r : Outcome} {b : CovParts} {b′ : MeanParts} {sm′ sc′ : List Float} {new : List Record} (call : WithRecordsSmooth x o y w w′ sm sc old r b b′ sm′ sc′ new) where
@@ -73,14 +73,24 @@ module _ (x : Model) (o : Offsets) (y : List Float) (w : CovParts) (w′ : MeanP
   pub counts : seen.refusalOf r ≡ 0 → seen.Totals x y r b
   counts e = either-way x old (λ t. smooth.counts x o y w w′ sm sc (enough call t) e) (λ t. absurd (short-not 0 (short call t) e (λ l h. omega arith)))
 
+  with-list : {o′ : Offsets} {y′ : List Float} {v′ : MeanParts} {sn : List Float} {s : Outcome} {c : CovParts} {c′ : MeanParts} {sm″ sc″ : List Float} {also : List Record}
+      → WithRecordsSmooth x o′ y′ w v′ sn sc old s c c′ sm″ sc″ also → seen.Blind r s b c × (sc′ ≡ sc″) → seen.Blind r s b c × (sc′ ≡ sc″) × SameVariances new also
+  with-list other z = (z .0, z .1, list-blind (call .promise .filter) _ old (call .told) (other .promise .filter) (other .told) (z .0 .refusals) (z .0 .parts))
+
   -- demand 3
   pub values : (y′ : List Float) → demand.Alike y y′ → {s : Outcome} {c : CovParts} {c′ : MeanParts} {sm″ sc″ : List Float} {also : List Record}
       → WithRecordsSmooth x o y′ w w′ sm sc old s c c′ sm″ sc″ also → seen.Blind r s b c × (sc′ ≡ sc″) × SameVariances new also
   values y′ alike other =
-      let z =
-      either-way x old (λ t. smooth.values x o y w w′ sm sc (enough call t) y′ alike (enough other t))
-      (λ t. (short-blind (short call t) (short other t), short-smoothed call t .1 ∙ sym (short-smoothed other t .1))) in
-      (z .0, z .1, list-blind (call .promise .filter) _ old (call .told) (other .promise .filter) (other .told) (z .0 .refusals) (z .0 .parts))
+      with-list other
+      (either-way x old (λ t. smooth.values x o y w w′ sm sc (enough call t) y′ alike (enough other t))
+      (λ t. (short-blind (short call t) (short other t), short-smoothed call t .1 ∙ sym (short-smoothed other t .1))))
+
+  -- request k
+  pub offsets : (o′ : Offsets) (y′ : List Float) → demand.Alike y y′ → (v′ : MeanParts) (sn : List Float) → {s : Outcome} {c : CovParts} {c′ : MeanParts} {sm″ sc″ : List Float} {also : List Record}
+      → WithRecordsSmooth x o′ y′ w v′ sn sc old s c c′ sm″ sc″ also → seen.Admitted r → seen.Admitted s → seen.Blind r s b c × (sc′ ≡ sc″) × SameVariances new also
+  offsets o′ y′ alike v′ sn other h h′ =
+      with-list other
+      (either-way x old (λ t. smooth.offsets x o y w w′ sm sc (enough call t) o′ y′ alike v′ sn (enough other t) h h′) (λ t. absurd (short-out (short call t) h)))
 
   module _ (k : ℕ) (h : seen.NoNews y r b k) where
     pub number : (v : Float) → T (isFinite v) → {s : Outcome} {c : CovParts} {c′ : MeanParts} {sm″ sc″ : List Float} {also : List Record}

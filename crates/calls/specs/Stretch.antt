@@ -1,6 +1,6 @@
--- The three demands, of a stretch's call, and that a run in stretches is the run. `Called` is as in Filter, with where the stretch goes on from (w),
--- whether it is the last, and the part to save in, lent as save and left as save′. That every call does so is the contract of stretch::stretch. `Ready` asks
--- that numbers are doubles and saved numbers bytes, as those of a caller always are.
+-- The three demands and request k, of a stretch's call, and that a run in stretches is the run. `Called` is as in Filter, with where the stretch goes on
+-- from (w), whether it is the last, and the part to save in, lent as save and left as save′. That every call does so is the contract of
+-- stretch::stretch. `Ready` asks that numbers are doubles and saved numbers bytes, as those of a caller always are.
 use mathlib.Core.Path.{_≡_, refl, sym, ap, ap₂, _∙_, subst}
 use mathlib.Core.Logic.{_⊎_, _↔_}
 use Prim.Native.Nat.{ℕ, _+_, _*_, _<_}
@@ -33,10 +33,11 @@ use Rattle.demands.specs.Cuts.{Piece, allLong, allReadings}
 use Rattle.demands.specs.Cuts as many
 use Rattle.demands.specs.StretchConditions.{RoomToo, stretchTable}
 use Rattle.demands.specs.StretchRefusals as refusals
-use Rattle.demands.specs.StretchValues.{Akin}
+use Rattle.demands.specs.StretchValues.{Akin, from}
 use Rattle.demands.specs.StretchValues as blind
 use Rattle.demands.specs.StretchUnheard.{SavedLess}
 use Rattle.demands.specs.StretchUnheard as unheard
+use Rattle.demands.specs.Offsets as offset
 use Rattle.promise.specs.declared.Outcome.{Outcome}
 use Rattle.promise.specs.Calls.{PromiseStretch}
 use Rattle.calls.specs.Seen as seen
@@ -98,21 +99,28 @@ module _ (x : Model) (o : Offsets) (w : From) (last : Bool) (y : List Float) (v 
   pub determined : {s : Outcome} {c : CovParts} {c′ : MeanParts} {save″ : List ℕ} → Called x o w last y v v′ save s c c′ save″ → Same r s b c b′ c′ save′ save″
   determined other = same call other refl
 
-  -- demand 3: the values of finite readings, and of the saved mean and likelihood, reach no refusal, no count, no decision and no covariance
-  module _ (bs : List ℕ) (akin : Akin (x .p) (x .m) (x .r) (x .n) (w .saved) bs) (y′ : List Float) (alike : Alike y y′) {s : Outcome} {c : CovParts} {c′ : MeanParts} {save″ : List ℕ} (other : Called x o (record { begins = w .begins; saved = bs }) last y′ v v′ save s c c′ save″) where
+  -- request k: of calls past refusals 1 to 11, the offsets, the values of finite readings, and of the saved mean and likelihood, reach no later refusal,
+  -- no count, no decision and no covariance. The parts lent to the means, and the part to save in, may be others too
+  module _ (o′ : Offsets) (bs : List ℕ) (akin : Akin (x .p) (x .m) (x .r) (x .n) (w .saved) bs) (y′ : List Float) (alike : Alike y y′) (u′ : MeanParts) (also : List ℕ) {s : Outcome} {c : CovParts} {c′ : MeanParts} {save″ : List ℕ} (other : Called x o′ (from (w .begins) bs) last y′ v u′ also s c c′ save″) where
+    pub offsets : seen.Admitted r → seen.Admitted s → seen.Blind r s b c
+    offsets h h′ =
+        seen.blind (call .filter) (other .filter)
+        (offset.offsets-stretch x o o′ y y′ alike v v′ u′ (w .begins) last (w .saved) bs akin save also (seen.admitted (call .filter) h) (seen.admitted (other .filter) h′))
+
+    -- and what is saved differs in those two sections alone: a stretch of any length may follow
+    pub offsets-saved : last ≡ false → Ready x o w → Ready x o′ (from (w .begins) bs) → seen.refusalOf r ≡ 0 → seen.refusalOf s ≡ 0 → (n : ℕ) → Akin (x .p) (x .m) (x .r) n (take (savedNeed (x .m)) save′) (take (savedNeed (x .m)) save″)
+    offsets-saved z ready ready′ e e′ n =
+        rw (call .save, other .save)
+        (blind.values-saved x (w .begins) (w .saved) bs akin o o′ last y y′ alike v v′ u′ save also z ready ready′ (number-is 0 e) (sym (seen.refusal-is (other .filter)) ∙ e′) n)
+
+  -- demand 3: with the same offsets, no refusal at all
+  module _ (bs : List ℕ) (akin : Akin (x .p) (x .m) (x .r) (x .n) (w .saved) bs) (y′ : List Float) (alike : Alike y y′) {s : Outcome} {c : CovParts} {c′ : MeanParts} {save″ : List ℕ} (other : Called x o (from (w .begins) bs) last y′ v v′ save s c c′ save″) where
     pub values : seen.Blind r s b c
     values = seen.blind (call .filter) (other .filter) (blind.values x (w .begins) (w .saved) bs akin o last y y′ alike v v′ save)
 
-    -- and what is saved differs in those two sections alone: a stretch of any length may follow
     pub values-saved : last ≡ false → Ready x o w → AllOf Byte bs → seen.refusalOf r ≡ 0 → (n : ℕ) → Akin (x .p) (x .m) (x .r) n (take (savedNeed (x .m)) save′) (take (savedNeed (x .m)) save″)
-    values-saved z ready bytes e n =
-        let w′ : From = record { begins = w .begins; saved = bs } in
-        let saves : Bool → From → List Float → List ℕ = λ last w y. take (savedNeed (x .m)) (stretchOutcome x o w last y v v′ save .save) in
-        let ready′ : Ready x o w′ = record { pStar = ready .pStar; a1 = ready .a1; bytes = bytes } in
-        let e′ = subst (λ (last : Bool). stretchOutcome x o w last y v v′ save .cov .refused ≡ 0) z (number-is 0 e) in
-        let known = subst (λ (last : Bool). Akin (x .p) (x .m) (x .r) n (saves last w y) (saves last w′ y′)) (sym z) (blind.values-saved x (w .begins) (w .saved) bs akin o y y′ alike v v′ save ready ready′ e′ n) in
-        subst (λ (l : List ℕ). Akin (x .p) (x .m) (x .r) n (take (savedNeed (x .m)) l) (take (savedNeed (x .m)) save″)) (sym (call .save))
-        (subst (λ (l : List ℕ). Akin (x .p) (x .m) (x .r) n (saves last w y) (take (savedNeed (x .m)) l)) (sym (other .save)) known)
+    values-saved z ready bytes e =
+        offsets-saved o bs akin y′ alike v′ save other z ready (record { pStar = ready .pStar; a1 = ready .a1; bytes = bytes }) e (sym (values .refusals) ∙ e)
 
   -- and a finite reading judged no news changes nothing: another finite number in its place leaves all as it was, the saved bytes too
   module _ (k : ℕ) (h : NoNews y last r b k) where

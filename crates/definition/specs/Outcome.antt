@@ -1,5 +1,5 @@
 -- A call's whole outcome: the answer, and every lent part afterwards, tails included. It has two halves; the covariance half is worked out from
--- the readings' kinds alone. The smoother's call is the filter's with two outputs more.
+-- the readings' classes alone. The smoother's call is the filter's with two outputs more.
 use Prim.Native.Nat.{ℕ, zero, suc, _+_, _*_}
 use mathlib.Core.Bool.{Bool, true, false, not, _&&_}
 use mathlib.Core.List.{List, _++_, map}

@@ -1,19 +1,22 @@
--- The two tracks apart, and a skip that moves nothing: the facts of the definition on which demand 3 and the counts rest.
+-- The two tracks apart, and a skip that moves nothing: the facts of the definition on which demand 3, request k and the counts rest.
 use mathlib.Core.Path.{_≡_, refl, ap, ap₂}
 use Prim.Native.Nat.{ℕ, _+_}
 use mathlib.Core.Bool.{Bool, not, cond}
 use mathlib.Core.List.{List, [], _∷_, map}
+use lib.ListN.{length}
 use lib.Dec.{T}
 use lib.Ieee.{Float, nan, inf, fin, isNan}
 use Rattle.definition.specs.Num.{0ᶠ, isFinite}
-use Rattle.definition.specs.Run.{count}
+use Rattle.definition.specs.Run.{anyOf, count}
 use Rattle.definition.specs.Cov.{Inner, CovPeriod, skipped, apply}
 use Rattle.definition.specs.Mean.{Mean, vOf, heed, hear}
 use Rattle.definition.specs.Smooth.{Ns, Rs, backN, backR}
-use Rattle.definition.specs.Inputs.{Model, Offsets, Class, finite, classOf, isGap}
-use Rattle.definition.specs.Outcome.{CovParts, MeanParts, countsOf, outcome, outcomeAt, smoothOutcome, smoothOutcomeAt}
+use Rattle.definition.specs.Inputs.{Model, Offsets, Class, finite, classOf, isGap, isInfinity}
+use Rattle.definition.specs.Refusals.{refusal}
+use Rattle.definition.specs.Outcome.{CovParts, MeanParts, countsOf, ending, roomy, roomySmoothed, outcome, outcomeAt, smoothOutcome, smoothOutcomeAt}
+use Rattle.definition.specs.Stretch.{From, badFrom, stretchRefusal, roomyStretch, stretchEnding, stretchOutcome}
 
--- ---- the covariance half goes by the readings' kinds, and finite readings are of one kind
+-- ---- the covariance half goes by the readings' classes, and finite readings are of one class
 
 pub finite-class : (v : Float) → T (isFinite v) → classOf v ≡ finite
 unfolding isFinite classOf
@@ -29,6 +32,30 @@ module _ (x : Model) (o : Offsets) (y y′ : List Float) (alike : map classOf y 
   pub smooth-by-classes : (sm sc : List Float) → smoothOutcome x o y b b′ sm sc .0 ≡ smoothOutcome x o y′ b b′ sm sc .0
   unfolding smoothOutcome smoothOutcomeAt
   smooth-by-classes sm sc = ap (λ (ks : List Class). smoothOutcomeAt x o ks y b b′ sm sc .0) alike
+
+-- ---- and not by the offsets: of a1, c and d, and of the parts lent to the means, it sees which refusal they bring about, and no more
+
+module _ (x : Model) (o o′ : Offsets) (y : List Float) (b : CovParts) (b′ c′ : MeanParts) where
+  -- the refusal, 1 to 11, of a call with this much room
+  abbrev early : Offsets → Bool → ℕ
+  early o room = refusal x o (length (map classOf y)) (anyOf isInfinity (map classOf y)) room
+
+  pub by-refusal : early o (roomy x b b′) ≡ early o′ (roomy x b c′) → outcome x o y b b′ .0 ≡ outcome x o′ y b c′ .0
+  unfolding outcome outcomeAt ending
+  by-refusal e = rw e refl
+
+  pub smooth-by-refusal : (sm sm′ sc : List Float) → early o (roomySmoothed x b b′ sm sc) ≡ early o′ (roomySmoothed x b c′ sm′ sc) → smoothOutcome x o y b b′ sm sc .0 ≡ smoothOutcome x o′ y b c′ sm′ sc .0
+  unfolding smoothOutcome smoothOutcomeAt ending
+  smooth-by-refusal sm sm′ sc e = rw e refl
+
+  -- of a stretch, 1 to 11 or 15
+  module _ (w : From) (last : Bool) (save save′ : List ℕ) where
+    abbrev earlyIn : Offsets → Bool → ℕ
+    earlyIn o room = stretchRefusal x o (length (map classOf y)) (anyOf isInfinity (map classOf y)) room (badFrom x w)
+
+    pub stretch-by-refusal : earlyIn o (roomyStretch x last b b′ save) ≡ earlyIn o′ (roomyStretch x last b c′ save′) → stretchOutcome x o w last y b b′ save .cov ≡ stretchOutcome x o′ w last y b c′ save′ .cov
+    unfolding stretchOutcome stretchEnding
+    stretch-by-refusal e = rw e refl
 
 -- ---- skipped: nothing moves (document 01, "One period forward"), neither forward nor back, and its v is +0.0 whatever was read
 

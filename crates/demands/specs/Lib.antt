@@ -16,3 +16,5 @@ pub mod StretchValues
 pub mod StretchUnheard
 pub mod StretchCall
 pub mod Stretches
+-- tables that ignore the offsets too
+pub mod Offsets

@@ -1,6 +1,6 @@
 -- Demand 3 of a stretch, the first half: the values of finite readings, and of the mean and the likelihood that were saved, reach no refusal, count,
 -- decision, variance, gain or covariance; and what is saved differs in no section but those two.
-use mathlib.Core.Path.{_≡_, refl, sym, ap, ap₂, _∙_, subst}
+use mathlib.Core.Path.{_≡_, refl, sym, ap, ap₂, _∙_}
 use mathlib.Core.Logic.{inl}
 use Prim.Native.Nat.{ℕ, zero, suc, _+_}
 use native.Mathlib.Omega.{arith}
@@ -14,7 +14,7 @@ use Rattle.definition.specs.Inputs.{Model, Offsets, Class, classOf}
 use Rattle.definition.specs.Outcome.{CovParts, MeanParts, CovOutcome}
 use Rattle.definition.specs.Carried.{Past, Carried, begunPast, pastOn, went}
 use Rattle.definition.specs.Saved.{numbersIn, widths, sectionAt, sections, savedOf, savedNeed, badSaved, loadedPast}
-use Rattle.definition.specs.Stretch.{From, pastIn, carriedIn, badFrom, roomyStretch, stretchEnding, covStretch, stretchOutcome}
+use Rattle.definition.specs.Stretch.{From, StretchOutcome, pastIn, carriedIn, badFrom, roomyStretch, stretchEnding, covStretch, stretchOutcome}
 use Rattle.laws.specs.SavedBack.{Savable, loaded, read, saved-length, bad-is}
 use Rattle.laws.specs.AcceptedStretch.{Ready}
 use Rattle.laws.specs.AcceptedStretch as stretch
@@ -37,7 +37,7 @@ akin-past p m r n bs bs′ a =
     let s7 = a .others 7 (λ q. omega arith) (λ q. omega arith) in
     cc
 
-abbrev from : Bool → List ℕ → From
+abbrev pub from : Bool → List ℕ → From
 from b bs = record { begins = b; saved = bs }
 
 module _ (x : Model) (begins : Bool) (bs bs′ : List ℕ) (akin : Akin (x .p) (x .m) (x .r) (x .n) bs bs′) where
@@ -86,22 +86,23 @@ akin-saved p m r s s′ n a b e =
           ∙ sym (ap (λ (ns : List (List ℕ)). sectionAt ns j) rd′);
     }
 
-module _ (x : Model) (begins : Bool) (bs bs′ : List ℕ) (akin : Akin (x .p) (x .m) (x .r) (x .n) bs bs′) (o : Offsets) (y y′ : List Float) (alike : Alike y y′) (b : CovParts) (b′ : MeanParts) (save : List ℕ) where
-  -- what two such stretches save is akin again: so the runs may be cut anywhere
-  pub values-saved : Ready x o (from begins bs) → Ready x o (from begins bs′) → stretchOutcome x o (from begins bs) false y b b′ save .cov .refused ≡ 0 → (k : ℕ)
-      → Akin (x .p) (x .m) (x .r) k (take (savedNeed (x .m)) (stretchOutcome x o (from begins bs) false y b b′ save .save)) (take (savedNeed (x .m)) (stretchOutcome x o (from begins bs′) false y′ b b′ save .save))
+module _ (x : Model) (begins : Bool) (bs bs′ : List ℕ) (akin : Akin (x .p) (x .m) (x .r) (x .n) bs bs′) (o o′ : Offsets) (last : Bool) (y y′ : List Float) (alike : Alike y y′) (b : CovParts) (b′ c′ : MeanParts) (save save′ : List ℕ) where
+  abbrev first : StretchOutcome
+  first = stretchOutcome x o (from begins bs) last y b b′ save
+
+  abbrev second : StretchOutcome
+  second = stretchOutcome x o′ (from begins bs′) last y′ b c′ save′
+
+  -- what two such stretches save is akin again, whatever their offsets: so the runs may be cut anywhere
+  pub values-saved : last ≡ false → Ready x o (from begins bs) → Ready x o′ (from begins bs′) → first .cov .refused ≡ 0 → second .cov .refused ≡ 0 → (k : ℕ)
+      → Akin (x .p) (x .m) (x .r) k (take (savedNeed (x .m)) (first .save)) (take (savedNeed (x .m)) (second .save))
   unfolding went
-  values-saved ready ready′ e k =
+  values-saved z ready ready′ e e′ k =
       let w = from begins bs in
       let w′ = from begins bs′ in
-      let ok = stretch.free x o w false y b b′ save (inl e) in
-      let same = values x begins bs bs′ akin o false y y′ alike b b′ save in
-      let ok′ = stretch.free x o w′ false y′ b b′ save (inl (sym (ap (λ (c : CovOutcome). c .refused) same) ∙ e)) in
-      ap₂-akin (stretch.saved-is x o w false y b b′ save ready ok refl) (stretch.saved-is x o w′ false y′ b b′ save ready′ ok′ refl)
-      (akin-saved (x .p) (x .m) (x .r) _ _ k (stretch.ended x o w false y b b′ save ready ok) (stretch.ended x o w′ false y′ b b′ save ready′ ok′) same-past)
-    where
-      ap₂-akin : {c c′ d d′ : List ℕ} → c ≡ d → c′ ≡ d′ → Akin (x .p) (x .m) (x .r) k d d′ → Akin (x .p) (x .m) (x .r) k c c′
-      ap₂-akin {c} {c′} {d} {d′} p q a = subst (λ (z : List ℕ). Akin (x .p) (x .m) (x .r) k z c′) (sym p) (subst (λ (z : List ℕ). Akin (x .p) (x .m) (x .r) k d z) (sym q) a)
-
-      same-past : went x o (carriedIn x o (from begins bs)) y .past ≡ went x o (carriedIn x o (from begins bs′)) y′ .past
-      same-past = ap₂ (pastOn x) (akin-pasts x begins bs bs′ akin) (alike-classes y y′ alike)
+      let ok = stretch.free x o w last y b b′ save (inl e) in
+      let ok′ = stretch.free x o′ w′ last y′ b c′ save′ (inl e′) in
+      let pasts : went x o (carriedIn x o w) y .past ≡ went x o′ (carriedIn x o′ w′) y′ .past =
+      ap₂ (pastOn x) (akin-pasts x begins bs bs′ akin) (alike-classes y y′ alike) in
+      rw (stretch.saved-is x o w last y b b′ save ready ok z, stretch.saved-is x o′ w′ last y′ b c′ save′ ready′ ok′ z)
+      (akin-saved (x .p) (x .m) (x .r) _ _ k (stretch.ended x o w last y b b′ save ready ok) (stretch.ended x o′ w′ last y′ b c′ save′ ready′ ok′) pasts)
