@@ -13,9 +13,7 @@ use crate::lent::{Ask, Lent, A1, C, D, FILT_MEAN, HEARD, KINDS, LOGLIK, NEWS, PR
 use crate::library::{Call, CALLS};
 use crate::tally::Tally;
 
-/// The inputs that a pair of calls may differ in.
-const HANDED: [usize; 5] = [C, D, A1, Y, SAVED];
-/// What they may move in a call that is answered: the means, v and the log-likelihood. A refused call has none of these to move.
+/// What other readings and offsets may move in a call that is answered: the means, v and the log-likelihood. A refused call has none to move.
 const MOVED: [usize; 5] = [PRED_MEAN, FILT_MEAN, V, SM_MEAN, LOGLIK];
 /// How many readings of a run that were judged no news are tried.
 const READINGS: usize = 3;
@@ -41,10 +39,10 @@ fn moved(a: &Run, b: &Run, free: &[usize]) -> Option<String> {
     b.lent.difference(&a.lent, a.which, a.refusal, free)
 }
 
-/// The first difference that demand 3's first half and request k do not allow.
-fn seen(before: &Run, after: &Run) -> Option<String> {
+/// The first difference that demand 3's first half and request k do not allow, of calls that differ in the inputs `handed`.
+fn seen(before: &Run, after: &Run, handed: &[usize]) -> Option<String> {
     let means: &[usize] = if before.refusal == 0 { &MOVED } else { &[] };
-    moved(before, after, &[&HANDED, means].concat())
+    moved(before, after, &[handed, means].concat())
 }
 
 /// Second half, for one reading: another number there moves nothing, a gap there only `heard`, by one.
@@ -71,7 +69,7 @@ pub fn try_case(rng: &mut Rng, case: &Case, name: &str, tally: &mut Tally) {
         let before = run(which, case, fill);
         if case.y.iter().any(|y| y.is_finite()) {
             let after = run(which, &other_values(rng, case), fill);
-            tally.other_values.count(&format!("{name}, other values"), seen(&before, &after));
+            tally.other_values.count(&format!("{name}, other values"), seen(&before, &after, &[Y]));
         }
         if before.refusal != 0 || before.lent.word(NEWS, 0) == 0 {
             continue;
@@ -91,7 +89,8 @@ pub fn try_offsets(rng: &mut Rng, case: &Case, name: &str, tally: &mut Tally) {
         let before = run(which, case, fill);
         if matches!(before.refusal, 0 | 12) {
             let after = run(which, &other_offsets(rng, case), fill);
-            tally.other_offsets.count(&format!("request k, {name}, {}, other offsets", which.name()), seen(&before, &after));
+            let name = format!("request k, {name}, {}, other offsets", which.name());
+            tally.other_offsets.count(&name, seen(&before, &after, &[C, D, A1, Y]));
         }
     }
 }
@@ -141,13 +140,13 @@ impl Piece {
     }
 
     /// As `seen`; of what is saved the mean and the likelihood may move.
-    fn seen(&self, before: &mut Run, mut after: Run, m: usize) -> Option<String> {
+    fn seen(&self, before: &mut Run, mut after: Run, handed: &[usize], m: usize) -> Option<String> {
         if self.written(before, &after) {
             for place in means(m) {
                 after.lent.bytes_mut(SAVE)[place.clone()].copy_from_slice(&before.lent.bytes_mut(SAVE)[place]);
             }
         }
-        seen(before, &after)
+        seen(before, &after, handed)
     }
 
     fn name(&self, tried: &str, name: &str) -> String {
@@ -178,7 +177,7 @@ pub fn try_stretch_offsets(rng: &mut Rng, run: &cuts::Run<'_>, name: &str, tally
     let mut before = piece.run(run.case, &saved);
     let after = piece.run(&other_offsets(rng, run.case), &other_means(rng, &saved, m));
     let name = piece.name("request k", name);
-    tally.stretch_offsets.count(&format!("{name}, other offsets"), piece.seen(&mut before, after, m));
+    tally.stretch_offsets.count(&format!("{name}, other offsets"), piece.seen(&mut before, after, &[C, D, A1, Y, SAVED], m));
 }
 
 /// Demand 3 in a stretch that goes on from saved bytes. Their mean and likelihood may differ too.
@@ -192,7 +191,7 @@ pub fn try_stretch(rng: &mut Rng, run: &cuts::Run<'_>, name: &str, tally: &mut T
     let mut changed = run.case.clone();
     changed.y[piece.readings(p)].iter_mut().filter(|y| y.is_finite()).for_each(|y| *y = other(rng, *y));
     let after = piece.run(&changed, &other_means(rng, &saved, m));
-    tally.stretch_values.count(&format!("{name}, other values"), piece.seen(&mut before, after, m));
+    tally.stretch_values.count(&format!("{name}, other values"), piece.seen(&mut before, after, &[Y, SAVED], m));
 
     let first = piece.readings(p).start;
     let silent: Vec<usize> = piece.readings(p).filter(|&k| run.case.y[k].is_finite() && before.lent.word(KINDS, k - first) == 0).collect();

@@ -46,7 +46,7 @@
 //!     ..Model::zeros(1, 1, 1)
 //! };
 //! let table = smooth(&plan, 3, &[to_come, gap, to_come])?;
-//! // A year later: it started at 1200, and these were read.
+//! // Later: it started at 1200, and these were read.
 //! let panel = Model { a1: vec![1200.0], ..plan };
 //! let run = smooth(&panel, 3, &[1199.0, gap, 1203.0])?;
 //! for t in 0..3 {
