@@ -89,6 +89,7 @@ fn one_case(cases: &Cases, seed: u64, k: u64, tally: &mut Tally) {
             let difference = against_oracle(which, &case, fill).1;
             tally.long.count(&format!("long run after {name}, {}", which.name()), difference);
         }
+        values::try_offsets(&mut offset_rng, &case, &format!("long run after {name}"), tally);
         let run = Run::of(&case).expect("a long run starts");
         cuts::try_long(&mut stretch_rng, &run, &format!("long run after {name}"), tally);
     }

@@ -173,7 +173,11 @@ pub fn try_stretch_offsets(rng: &mut Rng, run: &cuts::Run<'_>, name: &str, tally
     let m = run.case.m;
     let begins = if rng.chance(1, 2) { set(rng) } else { 0 };
     let piece = Piece::of(rng, run.case, begins);
-    let saved = piece.saved(run);
+    let mut saved = piece.saved(run);
+    // The diffuse state is the last number, 0 or 1. With another one both calls are refused 15.
+    if let Some(state) = saved.last_mut().filter(|_| rng.chance(1, 8)) {
+        *state = 2;
+    }
     let mut before = piece.run(run.case, &saved);
     let after = piece.run(&other_offsets(rng, run.case), &other_means(rng, &saved, m));
     let name = piece.name("request k", name);
