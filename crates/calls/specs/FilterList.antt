@@ -1,7 +1,7 @@
 -- The three demands, the counts and request k, of the filter's call with a list of records: the list is one part more. That every call keeps the
 -- promise `WithRecords` is the contract of records::filter_records, which asks nothing of the caller.
 use mathlib.Core.Path.{_≡_, refl, sym, ap, _∙_, subst}
-use mathlib.Core.Logic.{_↔_}
+use mathlib.Core.Logic.{_↔_, inl, inr}
 use Prim.Native.Nat.{ℕ, _<_}
 use native.Mathlib.Omega.{arith}
 use mathlib.Core.Bool.{true, false}
@@ -24,7 +24,7 @@ use Rattle.promise.specs.Records.{skippedRecord}
 use Rattle.promise.specs.WithRecords.{outcomeWithRecords, WithRecords}
 use Rattle.calls.specs.Seen as seen
 use Rattle.calls.specs.Filter as filter
-use Rattle.calls.specs.Lists.{RoomList, Short, SameVariances, with-room, short-so, short-blind, short-not, short-out, short-deaf, either-way, refuses-list, list-keeps, list-blanked, list-same, list-blind}
+use Rattle.calls.specs.Lists.{RoomList, Short, SameVariances, with-room, short-so, short-blind, short-not, short-deaf, either-way, refuses-list, list-keeps, list-blanked, list-same, list-blind}
 
 -- where the list has room, it is the filter's call
 module _ {x : Model} {o : Offsets} {y : List Float} {w : CovParts} {w′ : MeanParts} {old : List Record} {r : Outcome} {b : CovParts} {b′ : MeanParts} {new : List Record} (call : WithRecords x o y w w′ old r b b′ new) where
@@ -52,14 +52,14 @@ module _ (x : Model) (o : Offsets) (y : List Float) (w : CovParts) (w′ : MeanP
   blanked e =
       either-way x old
       (λ t. let z = filter.blanked x o y w w′ (enough call t) e in (z, list-blanked (call .promise) _ old (call .told) _ (z .kinds) e (leb-true _ _ t)))
-      (λ t. absurd (short-not 12 (short call t) e (λ l h. omega arith)))
+      (λ t. absurd (short-not (short call t) (inr (omega (arith, e)))))
 
   -- demand 2: no room is left
   pub determined : {s : Outcome} {c : CovParts} {c′ : MeanParts} {also : List Record} → WithRecords x o y w w′ old s c c′ also → seen.Same r s b c b′ c′ × (new ≡ also)
   determined again = (seen.same (call .promise) (again .promise) refl, call .records ∙ sym (again .records))
 
   pub counts : seen.refusalOf r ≡ 0 → seen.Totals x y r b
-  counts e = either-way x old (λ t. filter.counts x o y w w′ (enough call t) e) (λ t. absurd (short-not 0 (short call t) e (λ l h. omega arith)))
+  counts e = either-way x old (λ t. filter.counts x o y w w′ (enough call t) e) (λ t. absurd (short-not (short call t) (inl e)))
 
   with-list : {o′ : Offsets} {y′ : List Float} {v′ : MeanParts} {s : Outcome} {c : CovParts} {c′ : MeanParts} {also : List Record} → WithRecords x o′ y′ w v′ old s c c′ also → seen.Blind r s b c → seen.Blind r s b c × SameVariances new also
   with-list other z = (z, list-blind (call .promise) _ old (call .told) (other .promise) (other .told) (z .refusals) (z .parts))
@@ -70,7 +70,7 @@ module _ (x : Model) (o : Offsets) (y : List Float) (w : CovParts) (w′ : MeanP
 
   -- request k
   pub offsets : (o′ : Offsets) (y′ : List Float) → demand.Alike y y′ → (v′ : MeanParts) → {s : Outcome} {c : CovParts} {c′ : MeanParts} {also : List Record} → WithRecords x o′ y′ w v′ old s c c′ also → seen.Admitted r → seen.Admitted s → seen.Blind r s b c × SameVariances new also
-  offsets o′ y′ alike v′ other h h′ = with-list other (either-way x old (λ t. filter.offsets x o y w w′ (enough call t) o′ y′ alike v′ (enough other t) h h′) (λ t. absurd (short-out (short call t) h)))
+  offsets o′ y′ alike v′ other h h′ = with-list other (either-way x old (λ t. filter.offsets x o y w w′ (enough call t) o′ y′ alike v′ (enough other t) h h′) (λ t. absurd (short-not (short call t) h)))
 
   -- and no news changes no record of it
   module _ (k : ℕ) (h : seen.NoNews y r b k) where

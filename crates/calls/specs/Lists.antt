@@ -29,6 +29,7 @@ use Rattle.promise.specs.declared.Record.{Record}
 use Rattle.promise.specs.Records.{skippedRecord, kindFrom, recordAt, recordsOf, filled}
 use Rattle.record.specs.Written.{records-blank, filled-all}
 use Rattle.promise.specs.WithRecords.{endingWithRecords, toTell, toldBy}
+use Rattle.demands.specs.Offsets as offset
 use Rattle.calls.specs.Seen as seen
 
 -- ---- the list's room
@@ -102,16 +103,13 @@ short-blind h g =
           };
     }
 
--- neither an answer nor refusal 12
-low : (t : Bool) → (0 < cond t 1 2) × (cond t 1 2 < 12)
-low true = (omega arith, omega arith)
-low false = (omega arith, omega arith)
+-- not past refusals 1 to 11
+low : (t : Bool) → offset.Admitted (cond t 1 2) → ⊥
+low true = ⊎-elim (λ e. omega arith) (λ e. omega arith)
+low false = ⊎-elim (λ e. omega arith) (λ e. omega arith)
 
-pub short-not : {x : Model} {w b : CovParts} {w′ b′ : MeanParts} {r : Outcome} (k : ℕ) → Short x w b w′ b′ r → seen.refusalOf r ≡ k → (0 < k → k < 12 → ⊥) → ⊥
-short-not {x} k h e f = let l = low (outside (x .p) (x .m) (x .r) (x .n)) in let s = sym (h .refusals) ∙ e in f (subst (λ (n : ℕ). 0 < n) s (l .0)) (subst (λ (n : ℕ). n < 12) s (l .1))
-
-pub short-out : {x : Model} {w b : CovParts} {w′ b′ : MeanParts} {r : Outcome} → Short x w b w′ b′ r → seen.Admitted r → ⊥
-short-out {r = r} h a = short-not (seen.refusalOf r) h refl (λ l g. ⊎-elim (λ e. omega arith) (λ e. omega arith) a)
+pub short-not : {x : Model} {w b : CovParts} {w′ b′ : MeanParts} {r : Outcome} → Short x w b w′ b′ r → seen.Admitted r → ⊥
+short-not {x} h a = low (outside (x .p) (x .m) (x .r) (x .n)) (subst offset.Admitted (h .refusals) a)
 
 -- and nothing was judged
 pub short-deaf : {x : Model} {w b : CovParts} {w′ b′ : MeanParts} {r : Outcome} {y : List Float} {k : ℕ} → Short x w b w′ b′ r → seen.NoNews y r b k → ⊥

@@ -1,7 +1,7 @@
 -- The three demands, the counts and request k, of the smoother's call with a list of records. That every call keeps the promise `WithRecordsSmooth` is
 -- the contract of records_smooth::smooth_records, which asks nothing of the caller.
 use mathlib.Core.Path.{_≡_, refl, sym, ap, _∙_, subst}
-use mathlib.Core.Logic.{_↔_}
+use mathlib.Core.Logic.{_↔_, inl, inr}
 use Prim.Native.Nat.{ℕ, _<_}
 use native.Mathlib.Omega.{arith}
 use mathlib.Core.Bool.{true, false}
@@ -23,7 +23,7 @@ use Rattle.promise.specs.Records.{skippedRecord}
 use Rattle.promise.specs.WithRecords.{smoothOutcomeWithRecords, WithRecordsSmooth}
 use Rattle.calls.specs.Seen as seen
 use Rattle.calls.specs.Smooth as smooth
-use Rattle.calls.specs.Lists.{RoomList, Short, SameVariances, with-room, without-room, short-so, short-blind, short-not, short-out, short-deaf, either-way, refuses-list, list-keeps, list-blanked, list-same, list-blind}
+use Rattle.calls.specs.Lists.{RoomList, Short, SameVariances, with-room, without-room, short-so, short-blind, short-not, short-deaf, either-way, refuses-list, list-keeps, list-blanked, list-same, list-blind}
 
 -- where the list has room, it is the smoother's call; else all is as it was
 module _ {x : Model} {o : Offsets} {y : List Float} {w : CovParts} {w′ : MeanParts} {sm sc : List Float} {old : List Record} {r : Outcome} {b : CovParts} {b′ : MeanParts} {sm′ sc′ : List Float} {new : List Record} (call : WithRecordsSmooth x o y w w′ sm sc old r b b′ sm′ sc′ new) where
@@ -64,14 +64,14 @@ module _ (x : Model) (o : Offsets) (y : List Float) (w : CovParts) (w′ : MeanP
       (λ t.
       let z = smooth.blanked x o y w w′ sm sc (enough call t) e in
       (z .0, z .1, z .2, list-blanked (call .promise .filter) _ old (call .told) _ (z .0 .kinds) e (leb-true _ _ t)))
-      (λ t. absurd (short-not 12 (short call t) e (λ l h. omega arith)))
+      (λ t. absurd (short-not (short call t) (inr (omega (arith, e)))))
 
   -- demand 2: no room is left
   pub determined : {s : Outcome} {c : CovParts} {c′ : MeanParts} {sm″ sc″ : List Float} {also : List Record} → WithRecordsSmooth x o y w w′ sm sc old s c c′ sm″ sc″ also → smooth.Same r s b c b′ c′ sm′ sm″ sc′ sc″ × (new ≡ also)
   determined again = (smooth.same (call .promise) (again .promise) refl, call .records ∙ sym (again .records))
 
   pub counts : seen.refusalOf r ≡ 0 → seen.Totals x y r b
-  counts e = either-way x old (λ t. smooth.counts x o y w w′ sm sc (enough call t) e) (λ t. absurd (short-not 0 (short call t) e (λ l h. omega arith)))
+  counts e = either-way x old (λ t. smooth.counts x o y w w′ sm sc (enough call t) e) (λ t. absurd (short-not (short call t) (inl e)))
 
   with-list : {o′ : Offsets} {y′ : List Float} {v′ : MeanParts} {sn : List Float} {s : Outcome} {c : CovParts} {c′ : MeanParts} {sm″ sc″ : List Float} {also : List Record}
       → WithRecordsSmooth x o′ y′ w v′ sn sc old s c c′ sm″ sc″ also → seen.Blind r s b c × (sc′ ≡ sc″) → seen.Blind r s b c × (sc′ ≡ sc″) × SameVariances new also
@@ -90,7 +90,7 @@ module _ (x : Model) (o : Offsets) (y : List Float) (w : CovParts) (w′ : MeanP
       → WithRecordsSmooth x o′ y′ w v′ sn sc old s c c′ sm″ sc″ also → seen.Admitted r → seen.Admitted s → seen.Blind r s b c × (sc′ ≡ sc″) × SameVariances new also
   offsets o′ y′ alike v′ sn other h h′ =
       with-list other
-      (either-way x old (λ t. smooth.offsets x o y w w′ sm sc (enough call t) o′ y′ alike v′ sn (enough other t) h h′) (λ t. absurd (short-out (short call t) h)))
+      (either-way x old (λ t. smooth.offsets x o y w w′ sm sc (enough call t) o′ y′ alike v′ sn (enough other t) h h′) (λ t. absurd (short-not (short call t) h)))
 
   module _ (k : ℕ) (h : seen.NoNews y r b k) where
     pub number : (v : Float) → T (isFinite v) → {s : Outcome} {c : CovParts} {c′ : MeanParts} {sm″ sc″ : List Float} {also : List Record}

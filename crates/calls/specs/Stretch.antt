@@ -108,10 +108,10 @@ module _ (x : Model) (o : Offsets) (w : From) (last : Bool) (y : List Float) (v 
         (offset.offsets-stretch x o o′ y y′ alike v v′ u′ (w .begins) last (w .saved) bs akin save also (seen.admitted (call .filter) h) (seen.admitted (other .filter) h′))
 
     -- and what is saved differs in those two sections alone: a stretch of any length may follow
-    pub offsets-saved : last ≡ false → Ready x o w → Ready x o′ (from (w .begins) bs) → seen.refusalOf r ≡ 0 → seen.refusalOf s ≡ 0 → (n : ℕ) → Akin (x .p) (x .m) (x .r) n (take (savedNeed (x .m)) save′) (take (savedNeed (x .m)) save″)
-    offsets-saved z ready ready′ e e′ n =
+    pub offsets-saved : last ≡ false → Ready x o w → Ready x o′ (from (w .begins) bs) → seen.refusalOf r ≡ 0 → seen.Admitted s → (n : ℕ) → Akin (x .p) (x .m) (x .r) n (take (savedNeed (x .m)) save′) (take (savedNeed (x .m)) save″)
+    offsets-saved z ready ready′ e h n =
         rw (call .save, other .save)
-        (blind.values-saved x (w .begins) (w .saved) bs akin o o′ last y y′ alike v v′ u′ save also z ready ready′ (number-is 0 e) (sym (seen.refusal-is (other .filter)) ∙ e′) n)
+        (offset.offsets-saved x o o′ y y′ alike v v′ u′ (w .begins) last (w .saved) bs akin save also z ready ready′ (number-is 0 e) (seen.admitted (other .filter) h) n)
 
   -- demand 3: with the same offsets, no refusal at all
   module _ (bs : List ℕ) (akin : Akin (x .p) (x .m) (x .r) (x .n) (w .saved) bs) (y′ : List Float) (alike : Alike y y′) {s : Outcome} {c : CovParts} {c′ : MeanParts} {save″ : List ℕ} (other : Called x o (from (w .begins) bs) last y′ v v′ save s c c′ save″) where
@@ -119,8 +119,9 @@ module _ (x : Model) (o : Offsets) (w : From) (last : Bool) (y : List Float) (v 
     values = seen.blind (call .filter) (other .filter) (blind.values x (w .begins) (w .saved) bs akin o last y y′ alike v v′ save)
 
     pub values-saved : last ≡ false → Ready x o w → AllOf Byte bs → seen.refusalOf r ≡ 0 → (n : ℕ) → Akin (x .p) (x .m) (x .r) n (take (savedNeed (x .m)) save′) (take (savedNeed (x .m)) save″)
-    values-saved z ready bytes e =
-        offsets-saved o bs akin y′ alike v′ save other z ready (record { pStar = ready .pStar; a1 = ready .a1; bytes = bytes }) e (sym (values .refusals) ∙ e)
+    values-saved z ready bytes e n =
+        rw (call .save, other .save)
+        (blind.values-saved x (w .begins) (w .saved) bs akin o last y y′ alike v v′ save z ready (record { pStar = ready .pStar; a1 = ready .a1; bytes = bytes }) (number-is 0 e) n)
 
   -- and a finite reading judged no news changes nothing: another finite number in its place leaves all as it was, the saved bytes too
   module _ (k : ℕ) (h : NoNews y last r b k) where

@@ -1,18 +1,21 @@
 -- Request k of document 02: tables that also ignore the offsets. Two calls that differ in a1, c and d, besides the values of finite readings, and both
 -- get past refusals 1 to 11 agree in the covariance half. That is all that demand 3 lists, refusal 12 with it: `Same` of Values spells it out.
-use mathlib.Core.Path.{_≡_, refl, sym, _∙_, subst}
-use mathlib.Core.Logic.{_⊎_, ⊎-elim}
+use mathlib.Core.Path.{_≡_, refl, sym, ap, _∙_, subst}
+use mathlib.Core.Logic.{_⊎_, inl, ⊎-elim}
 use Prim.Native.Nat.{ℕ, zero, suc, _≤_, _<_}
 use native.Mathlib.Omega.{arith}
-use mathlib.Core.Bool.{Bool}
+use mathlib.Core.Bool.{Bool, false}
 use mathlib.Core.List.{List, [], _∷_, _++_}
+use lib.ListN.{take}
 use lib.Dec.{T, leb, leb→le}
 use lib.Ieee.{Float}
 use Rattle.definition.specs.Inputs.{Model, Offsets}
 use Rattle.definition.specs.Refusals.{firstOf, ofInputs, tests, refusal}
 use Rattle.definition.specs.Outcome.{CovParts, MeanParts, CovOutcome, SmoothedCov, endingOf, numberOf, ending, covOutcome, outcome, outcomeAt, smoothOutcome, smoothOutcomeAt}
-use Rattle.definition.specs.Stretch.{outsideStretch, stretchTests, stretchRefusal, stretchEnding, covStretch, stretchOutcome}
+use Rattle.definition.specs.Saved.{savedNeed}
+use Rattle.definition.specs.Stretch.{StretchOutcome, outsideStretch, stretchTests, stretchRefusal, stretchEnding, covStretch, stretchOutcome}
 use Rattle.definition.specs.Tracks.{by-classes, smooth-by-classes, by-refusal, smooth-by-refusal, stretch-by-refusal}
+use Rattle.laws.specs.AcceptedStretch.{Ready}
 use Rattle.laws.specs.Numbered.{numbers, numbered, first-passes, orElse, joined}
 use Rattle.demands.specs.Values.{Alike, alike-classes}
 use Rattle.demands.specs.StretchValues.{Akin, from}
@@ -64,12 +67,24 @@ module _ (x : Model) (o o′ : Offsets) (y y′ : List Float) (alike : Alike y y
       let g = subst (λ (c : SmoothedCov). Admitted (c .filter .refused)) e h in
       e ∙ smooth-by-refusal x o o′ y′ b b′ c′ sm sm′ sc (admitted x o _ _ _ _ g ∙ sym (admitted x o′ _ _ _ _ h′))
 
-  -- of a stretch, from saved bytes that are akin or from the run's start; what it saves is akin again, by StretchValues.values-saved
-  pub offsets-stretch : (begins last : Bool) (bs bs′ : List ℕ) → Akin (x .p) (x .m) (x .r) (x .n) bs bs′ → (save save′ : List ℕ)
-      → Admitted (stretchOutcome x o (from begins bs) last y b b′ save .cov .refused) → Admitted (stretchOutcome x o′ (from begins bs′) last y′ b c′ save′ .cov .refused)
-      → stretchOutcome x o (from begins bs) last y b b′ save .cov ≡ stretchOutcome x o′ (from begins bs′) last y′ b c′ save′ .cov
-  unfolding stretchOutcome stretchEnding covStretch
-  offsets-stretch begins last bs bs′ akin save save′ h h′ =
-      let e = stretch.values x begins bs bs′ akin o last y y′ alike b b′ save in
-      let g = subst (λ (c : CovOutcome). Admitted (c .refused)) e h in
-      e ∙ stretch-by-refusal x o o′ y′ b b′ c′ (from begins bs′) last save save′ (admitted-stretch x o _ _ _ _ _ g ∙ sym (admitted-stretch x o′ _ _ _ _ _ h′))
+  -- of a stretch, from saved bytes that are akin or from the run's start
+  module _ (begins last : Bool) (bs bs′ : List ℕ) (akin : Akin (x .p) (x .m) (x .r) (x .n) bs bs′) (save save′ : List ℕ) where
+    abbrev first : StretchOutcome
+    first = stretchOutcome x o (from begins bs) last y b b′ save
+
+    abbrev second : StretchOutcome
+    second = stretchOutcome x o′ (from begins bs′) last y′ b c′ save′
+
+    pub offsets-stretch : Admitted (first .cov .refused) → Admitted (second .cov .refused) → first .cov ≡ second .cov
+    unfolding stretchOutcome stretchEnding covStretch
+    offsets-stretch h h′ =
+        let e = stretch.values x begins bs bs′ akin o last y y′ alike b b′ save in
+        let g = subst (λ (c : CovOutcome). Admitted (c .refused)) e h in
+        e ∙ stretch-by-refusal x o o′ y′ b b′ c′ (from begins bs′) last save save′ (admitted-stretch x o _ _ _ _ _ g ∙ sym (admitted-stretch x o′ _ _ _ _ _ h′))
+
+    -- and what it saves is akin again: so the runs may be cut anywhere
+    pub offsets-saved : last ≡ false → Ready x o (from begins bs) → Ready x o′ (from begins bs′) → first .cov .refused ≡ 0 → Admitted (second .cov .refused) → (k : ℕ)
+        → Akin (x .p) (x .m) (x .r) k (take (savedNeed (x .m)) (first .save)) (take (savedNeed (x .m)) (second .save))
+    offsets-saved z ready ready′ e h =
+        stretch.saved-akin x begins bs bs′ akin o o′ last y y′ alike b b′ c′ save save′ z ready ready′ e
+        (ap (λ (c : CovOutcome). c .refused) (sym (offsets-stretch (inl e) h)) ∙ e)

@@ -94,10 +94,10 @@ module _ (x : Model) (begins : Bool) (bs bs′ : List ℕ) (akin : Akin (x .p) (
   second = stretchOutcome x o′ (from begins bs′) last y′ b c′ save′
 
   -- what two such stretches save is akin again, whatever their offsets: so the runs may be cut anywhere
-  pub values-saved : last ≡ false → Ready x o (from begins bs) → Ready x o′ (from begins bs′) → first .cov .refused ≡ 0 → second .cov .refused ≡ 0 → (k : ℕ)
+  pub saved-akin : last ≡ false → Ready x o (from begins bs) → Ready x o′ (from begins bs′) → first .cov .refused ≡ 0 → second .cov .refused ≡ 0 → (k : ℕ)
       → Akin (x .p) (x .m) (x .r) k (take (savedNeed (x .m)) (first .save)) (take (savedNeed (x .m)) (second .save))
   unfolding went
-  values-saved z ready ready′ e e′ k =
+  saved-akin z ready ready′ e e′ k =
       let w = from begins bs in
       let w′ = from begins bs′ in
       let ok = stretch.free x o w last y b b′ save (inl e) in
@@ -106,3 +106,11 @@ module _ (x : Model) (begins : Bool) (bs bs′ : List ℕ) (akin : Akin (x .p) (
       ap₂ (pastOn x) (akin-pasts x begins bs bs′ akin) (alike-classes y y′ alike) in
       rw (stretch.saved-is x o w last y b b′ save ready ok z, stretch.saved-is x o′ w′ last y′ b c′ save′ ready′ ok′ z)
       (akin-saved (x .p) (x .m) (x .r) _ _ k (stretch.ended x o w last y b b′ save ready ok) (stretch.ended x o′ w′ last y′ b c′ save′ ready′ ok′) pasts)
+
+-- with the same offsets the second answers where the first does
+module _ (x : Model) (begins : Bool) (bs bs′ : List ℕ) (akin : Akin (x .p) (x .m) (x .r) (x .n) bs bs′) (o : Offsets) (last : Bool) (y y′ : List Float) (alike : Alike y y′) (b : CovParts) (b′ : MeanParts) (save : List ℕ) where
+  pub values-saved : last ≡ false → Ready x o (from begins bs) → Ready x o (from begins bs′) → stretchOutcome x o (from begins bs) last y b b′ save .cov .refused ≡ 0 → (k : ℕ)
+      → Akin (x .p) (x .m) (x .r) k (take (savedNeed (x .m)) (stretchOutcome x o (from begins bs) last y b b′ save .save)) (take (savedNeed (x .m)) (stretchOutcome x o (from begins bs′) last y′ b b′ save .save))
+  values-saved z ready ready′ e =
+      saved-akin x begins bs bs′ akin o o last y y′ alike b b′ b′ save save z ready ready′ e
+      (ap (λ (c : CovOutcome). c .refused) (sym (values x begins bs bs′ akin o last y y′ alike b b′ save)) ∙ e)
