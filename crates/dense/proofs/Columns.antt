@@ -1,5 +1,5 @@
 -- M x and P - a b' column by column: from what one column does to the first j, and to all.
-use Prim.Native.Nat.{ℕ, zero, suc, _+_, _*_, _≤_, _<_}
+use Prim.Native.Nat.{ℕ, _+_, _*_, _≤_, _<_}
 use mathlib.Core.Path.{_≡_, refl, ap, _∙_}
 use mathlib.Core.Bool.{Bool, true, false, cond}
 use mathlib.Core.List.{List}
@@ -10,10 +10,10 @@ use lib.Dec.{eqb}
 use lib.Ieee.{Float}
 use lib.ListN.{length, replicate}
 use borrow.Author.Tests.{eqb-true, eq-eqb, ne-eqb, lt-ltb, le-ltb}
-use Rattle.definition.specs.Num.{0ᶠ, isZero, tabFrom, tabulate, matrix, at, ent, sumBut}
+use Rattle.definition.specs.Num.{0ᶠ, isZero, tabulate, matrix, at, ent, sumBut}
 use Rattle.definition.specs.Dense.{zeroAt, matVecAt, matVec, lessOf, outerSubAt, outerSub}
 use Rattle.laws.specs.Lists.{vector-at, matrix-at, tab-cong, matrix-cong}
-use Rattle.dense.specs.Views.{vec, mat, rect}
+use Rattle.dense.specs.Views.{vec, mat}
 use Rattle.dense.specs.Columns.{moreAt, moreKeptAt, matVecTo, lessAt, columnLess, columnKept, outerSubTo}
 use Rattle.dense.proofs.Laws.{lt-or-le, vec-self, vec-zeros, zeros-tab, rect-self}
 
@@ -54,7 +54,7 @@ module _ (m : ℕ) (a b : List Float) (j : ℕ) (hj : j < m) where
   unfolding columnKept outerSubAt zeroAt
   less-none l h z =
       rect-self m m l h
-      ∙ matrix-cong m m (λ i k. ent m (mat m l) i k) (columnKept m (mat m l) a b j) (omega arith) (λ i k hi hk. by-test i k (eqb k j) refl)
+      ∙ matrix-cong m m (λ i k. ent m (mat m l) i k) (columnKept m (mat m l) a b j) (λ i k hi hk. by-test i k (eqb k j) refl)
     where
       by-test : (i k : ℕ) (t : Bool) → eqb k j ≡ t → ent m (mat m l) i k ≡ cond t (lessOf (ent m (mat m l) i k) (at a i) (at b k)) (ent m (mat m l) i k)
       by-test i k true e = zero-less (ent m (mat m l) i k) (at a i) (at b k) (ap (λ (n : ℕ). isZero (at b n)) (eqb-true k j e) ∙ z)
@@ -62,7 +62,7 @@ module _ (m : ℕ) (a b : List Float) (j : ℕ) (hj : j < m) where
 
   pub less-kept : (p out : List Float) → zeroAt b j ≡ false → out ≡ matrix m m (columnLess m p a b j) → out ≡ matrix m m (columnKept m p a b j)
   unfolding columnKept columnLess outerSubAt lessOf lessAt zeroAt
-  less-kept p out z e = e ∙ matrix-cong m m (columnLess m p a b j) (columnKept m p a b j) (omega arith) (λ i k hi hk. by-test i k (eqb k j) refl)
+  less-kept p out z e = e ∙ matrix-cong m m (columnLess m p a b j) (columnKept m p a b j) (λ i k hi hk. by-test i k (eqb k j) refl)
     where
       by-test : (i k : ℕ) (t : Bool) → eqb k j ≡ t → cond t (lessAt m p a b j i) (ent m p i k) ≡ cond t (outerSubAt m p a b i k) (ent m p i k)
       by-test i k true e = let s = eqb-true k j e in rw (s, z)
@@ -72,7 +72,7 @@ module _ (m : ℕ) (a b : List Float) (j : ℕ) (hj : j < m) where
   unfolding columnKept outerSubTo outerSubAt
   less-next p q out e h =
       h
-      ∙ matrix-cong m m (columnKept m q a b j) (outerSubTo m p a b (j + 1)) (omega arith)
+      ∙ matrix-cong m m (columnKept m q a b j) (outerSubTo m p a b (j + 1))
       (λ i k hi hk.
       let s : ent m q i k ≡ outerSubTo m p a b j i k = ap (λ (l : List Float). ent m l i k) e ∙ matrix-at m m i k (outerSubTo m p a b j) hi hk in
       ⊎-elim
@@ -85,16 +85,11 @@ module _ (m : ℕ) (a b : List Float) (j : ℕ) (hj : j < m) where
       (lt-or-le k j))
 
 pub less-start : (m : ℕ) (l a b : List Float) → m * m ≤ length l → mat m l ≡ matrix m m (outerSubTo m (mat m l) a b 0)
-unfolding outerSubTo tabFrom rect
-less-start zero l a b h = refl
-less-start (suc c) l a b h =
-    let m = suc c in
+unfolding outerSubTo
+less-start m l a b h =
     rect-self m m l h
-    ∙ matrix-cong m m (λ i k. ent m (mat m l) i k) (outerSubTo m (mat m l) a b 0) (omega arith) (λ i k hi hk. rw (le-ltb k 0 (omega arith)))
+    ∙ matrix-cong m m (λ i k. ent m (mat m l) i k) (outerSubTo m (mat m l) a b 0) (λ i k hi hk. rw (le-ltb k 0 (omega arith)))
 
 pub less-all : (m : ℕ) (p a b : List Float) {j : ℕ} (out : List Float) → out ≡ matrix m m (outerSubTo m p a b j) → j ≤ m → m ≤ j → out ≡ outerSub m p a b
-unfolding outerSubTo outerSub tabFrom
-less-all zero p a b out e u v = e
-less-all (suc c) p a b {j} out e u v =
-    let m = suc c in
-    e ∙ matrix-cong m m (outerSubTo m p a b j) (outerSubAt m p a b) (omega arith) (λ i k hi hk. rw (lt-ltb k j (omega arith)))
+unfolding outerSubTo outerSub
+less-all m p a b {j} out e u v = e ∙ matrix-cong m m (outerSubTo m p a b j) (outerSubAt m p a b) (λ i k hi hk. rw (lt-ltb k j (omega arith)))

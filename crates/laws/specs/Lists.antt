@@ -1,7 +1,7 @@
 -- Laws of lists: going through one with a state, one place changed, cut in parts and joined; tables, matrices and sums by their entries; a running sum.
 use mathlib.Core.Path.{_≡_, refl, sym, ap, ap₂, _∙_}
 use Prim.Native.Nat.{ℕ, zero, suc, _+_, _*_, _/_, _%_, _≤_, _<_}
-use native.Mathlib.Nat.{mul-le-mul-right, mod-lt, div-lt-iff-lt-mul, mul-add-div-right, div-eq-of-lt, mul-add-mod-self-right, mod-eq-of-lt, zero-mul, zero-add, add-zero, add-suc, suc-add, not-suc-le-zero, le-of-suc-le-suc}
+use native.Mathlib.Nat.{mul-le-mul-right, mod-lt, div-lt-iff-lt-mul, mul-add-div-right, div-eq-of-lt, mul-add-mod-self-right, mod-eq-of-lt, zero-mul, mul-zero, zero-add, add-zero, add-suc, suc-add, not-suc-le-zero, le-of-suc-le-suc}
 use native.Mathlib.Numerals.{add-one}
 use native.Mathlib.Omega.{arith}
 use mathlib.Core.Bool.{Bool, true, false, _||_}
@@ -193,8 +193,12 @@ unfolding tabFrom
 tab-cong zero k f g h = refl
 tab-cong (suc n) k f g h = ap₂ (λ (a : _) (l : List _). a ∷ l) (h k (omega arith) (omega arith)) (tab-cong n (suc k) f g (λ i u v. h i (omega arith) (omega arith)))
 
-pub matrix-cong : (r c : ℕ) (f g : ℕ → ℕ → Float) → 0 < c → ((i j : ℕ) → i < r → j < c → f i j ≡ g i j) → matrix r c f ≡ matrix r c g
-matrix-cong r c f g z h = tab-cong (r * c) 0 (λ k. f (k / c) (k % c)) (λ k. g (k / c) (k % c)) (λ k u v. h (k / c) (k % c) ((div-lt-iff-lt-mul z) .1 (omega arith)) (mod-lt k z))
+pub matrix-cong : (r c : ℕ) (f g : ℕ → ℕ → Float) → ((i j : ℕ) → i < r → j < c → f i j ≡ g i j) → matrix r c f ≡ matrix r c g
+matrix-cong r c f g h = tab-cong (r * c) 0 (λ k. f (k / c) (k % c)) (λ k. g (k / c) (k % c)) (λ k u v. let z : 0 < c = some-column c k (omega arith) in h (k / c) (k % c) ((div-lt-iff-lt-mul z) .1 (omega arith)) (mod-lt k z))
+  where
+    some-column : (c k : ℕ) → k < r * c → 0 < c
+    some-column zero k v = absurd (omega (arith, mul-zero r))
+    some-column (suc c) k v = omega arith
 
 pub sumTo-cong : (k : ℕ) (f g : ℕ → Float) → ((i : ℕ) → i < k → f i ≡ g i) → sumTo k f ≡ sumTo k g
 unfolding sumTo

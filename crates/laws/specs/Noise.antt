@@ -39,11 +39,11 @@ module _ (m r : ℕ) (rr q : List Float) (long : length rr ≡ m * r) (finite : 
       (λ k hk d. times-zero (ent r rr i k) (ent r q k l) (finite-at rr (i * r + k) finite (omega (arith, place-lt m r i k hi hk))) (off-zero r q k l diagonal hk hl d))
       ∙ ap (λ (v : Float). 0ᶠ ⊕ v) (mul-swap binary64 (ent r rr i l) (ent r q l l))
 
-  pub by-disturbances : 0 < m → noiseOf m r rr q ≡ symmetrise m (matrix m m (λ i j. sumTo r (disturbanceTerm r rr q i j)))
+  pub by-disturbances : noiseOf m r rr q ≡ symmetrise m (matrix m m (λ i j. sumTo r (disturbanceTerm r rr q i j)))
   unfolding noiseOf product productAt productTerm transpose transposeAt disturbanceTerm broughtAt
-  by-disturbances z =
+  by-disturbances =
       ap (symmetrise m)
-      (matrix-cong m m (productAt r m (product m r r rr q) (transpose m r rr)) (λ i j. sumTo r (disturbanceTerm r rr q i j)) z
+      (matrix-cong m m (productAt r m (product m r r rr q) (transpose m r rr)) (λ i j. sumTo r (disturbanceTerm r rr q i j))
       (λ i j hi hj.
       sumTo-cong r (productTerm r m (product m r r rr q) (transpose m r rr) i j) (disturbanceTerm r rr q i j)
       (λ l hl. ap₂ _⊗_ (scaled-column i l hi hl) (matrix-at r m l j (transposeAt r rr) hl hj))))

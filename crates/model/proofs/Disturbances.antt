@@ -16,11 +16,11 @@ use Rattle.dense.proofs.Laws.{vec-zeros, zeros-tab}
 use Rattle.model.specs.Noise.{NoiseGiven, moreAt}
 
 -- an outer product of column l, scaled, and column l
-pub more : (m r l : ℕ) (rr a b p out : List Float) (q : Float) → 0 < m → m ≤ 8 → vec m a ≡ tabulate m (λ i. ent r rr i l) → vec m b ≡ axpy m (vec m (replicate 8 0ᶠ)) q (vec m a)
+pub more : (m r l : ℕ) (rr a b p out : List Float) (q : Float) → m ≤ 8 → vec m a ≡ tabulate m (λ i. ent r rr i l) → vec m b ≡ axpy m (vec m (replicate 8 0ᶠ)) q (vec m a)
     → mat m out ≡ matrix m m (outerMoreAt m (vec m b) (vec m a) (mat m p)) → mat m out ≡ matrix m m (moreAt m r rr q l (mat m p))
 unfolding outerMoreAt moreAt broughtAt axpy axpyAt
-more m r l rr a b p out q z m8 ea eb e =
-    e ∙ matrix-cong m m (outerMoreAt m (vec m b) (vec m a) (mat m p)) (moreAt m r rr q l (mat m p)) z
+more m r l rr a b p out q m8 ea eb e =
+    e ∙ matrix-cong m m (outerMoreAt m (vec m b) (vec m a) (mat m p)) (moreAt m r rr q l (mat m p))
     (λ i j hi hj. ap₂ (λ (x y : Float). ent m (mat m p) i j ⊕ x ⊗ y) (scaled i hi) (column j hj))
   where
     column : (i : ℕ) → i < m → at (vec m a) i ≡ ent r rr i l
@@ -41,10 +41,10 @@ module _ (m r : ℕ) (rr q : List Float) where
   unfolding sumTo
   none out e = e ∙ zeros-tab (m * m) 0
 
-  pub next : (l : ℕ) (p out : List Float) (x : Float) → 0 < m → x ≡ ent r q l l → Summed l p → mat m out ≡ matrix m m (moreAt m r rr x l (mat m p)) → Summed (l + 1) out
+  pub next : (l : ℕ) (p out : List Float) (x : Float) → x ≡ ent r q l l → Summed l p → mat m out ≡ matrix m m (moreAt m r rr x l (mat m p)) → Summed (l + 1) out
   unfolding moreAt disturbanceTerm
-  next l p out x z ex e h =
-      h ∙ matrix-cong m m (moreAt m r rr x l (mat m p)) (λ i j. sumTo (l + 1) (disturbanceTerm r rr q i j)) z
+  next l p out x ex e h =
+      h ∙ matrix-cong m m (moreAt m r rr x l (mat m p)) (λ i j. sumTo (l + 1) (disturbanceTerm r rr q i j))
       (λ i j hi hj.
       sum-next (disturbanceTerm r rr q i j) l (ent m (mat m p) i j) (broughtAt r rr x l i j)
       (ap (λ (a : List Float). ent m a i j) e ∙ matrix-at m m i j (λ i j. sumTo l (disturbanceTerm r rr q i j)) hi hj)
@@ -55,4 +55,4 @@ module _ (m r : ℕ) (rr q : List Float) where
   whole l p out g a b e h =
       let k : l ≡ r = omega arith in
       h ∙ ap (symmetrise m) (e ∙ ap (λ (n : ℕ). matrix m m (λ i j. sumTo n (disturbanceTerm r rr q i j))) k)
-      ∙ sym (by-disturbances m r rr q (g .fits .rr) (g .finite) (g .diagonal) (g .some))
+      ∙ sym (by-disturbances m r rr q (g .fits .rr) (g .finite) (g .diagonal))

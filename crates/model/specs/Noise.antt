@@ -19,7 +19,6 @@ pub record Column (m r l size : ℕ) : Type 0 where
 -- R and Q past refusals 1 to 5
 pub record NoiseGiven (m r : ℕ) (rr q : List Float) : Type 0 where
   pub fits : NoiseFits m r (length rr) (length q)
-  pub some : 0 < m
   pub finite : notFinite rr ≡ false
   pub diagonal : offDiagonal r q ≡ false
 

@@ -41,4 +41,4 @@ module _ {x : Model} {o : Offsets} (sizes : InRange (x .p) (x .m) (x .r) (x .n))
       let s = first-none (ofSystem x) tt e in
       let before = notFinite (x .zOnce) || notFinite (x .zList) || notFinite (x .h) || notFinite (x .t) in
       let a = either-false (before || notFinite (x .rr)) (notFinite (x .q)) (s .0) in
-      record { fits = noise-fits; some = sizes .m0; finite = either-false before (notFinite (x .rr)) (a .0) .1; diagonal = s .1 .1 .0 }
+      record { fits = noise-fits; finite = either-false before (notFinite (x .rr)) (a .0) .1; diagonal = s .1 .1 .0 }

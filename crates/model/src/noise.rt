@@ -1,7 +1,6 @@
 // R Q R', symmetrised, of a Q that is diagonal: each disturbance adds an outer product of its column of R. laws Noise has why this is document 01's
 // (R Q) R' to the bit.
 ghost use mathlib.Core.Path.{_≡_};
-ghost use Prim.Native.Nat.{_<_};
 ghost use lib.ListN.{length};
 ghost use Rattle.definition.specs.Num.{tabulate, matrix, ent};
 ghost use Rattle.definition.specs.Inputs.{noiseOf};
@@ -22,7 +21,7 @@ fn column(a: &[f64], m: usize, r: usize, l: usize) -> [f64; 8]
 
 // P and what disturbance l brings, of variance q. The sum in R Q starts from +0.0, so no entry of it is -0.0.
 fn add_disturbance(out: &mut [f64; 64], rr: &[f64], q: f64, m: usize, r: usize, l: usize)
-    requires { ⌜ Column m r l (length (now rr)) × (0 < m) ⌝ }
+    requires { ⌜ Column m r l (length (now rr)) ⌝ }
     ensures { λ _. ⌜ mat m (now (out .exit)) ≡ matrix m m (moreAt m r (now (rr .entry)) q l (mat m (now (out .entry)))) ⌝ }
 {
     let a = column(rr, m, r, l);
@@ -33,7 +32,7 @@ fn add_disturbance(out: &mut [f64; 64], rr: &[f64], q: f64, m: usize, r: usize, 
 
 // The same. In the frequent sizes the compiler knows the size.
 fn add_sized(out: &mut [f64; 64], rr: &[f64], q: f64, m: usize, r: usize, l: usize)
-    requires { ⌜ Column m r l (length (now rr)) × (0 < m) ⌝ }
+    requires { ⌜ Column m r l (length (now rr)) ⌝ }
     ensures { λ _. ⌜ mat m (now (out .exit)) ≡ matrix m m (moreAt m r (now (rr .entry)) q l (mat m (now (out .entry)))) ⌝ }
 {
     match m {

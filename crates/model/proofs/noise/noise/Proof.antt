@@ -37,12 +37,12 @@ shared-slice-read-add-sized : tie.Need-shared-slice-read-add-sized Inv-loop μ-l
 shared-slice-read-add-sized c = place (c .before .before)
 
 add-sized-requires : tie.Need-add-sized-requires Inv-loop μ-loop
-add-sized-requires c κs = (record { m8 = c .before .before .before .before .before .before .before .before .pre .fits .m8; whole = c .before .before .before .before .before .before .before .before .pre .fits .rr; column = c .before .before .loop-test .taken }, c .before .before .before .before .before .before .before .before .pre .some)
+add-sized-requires c κs = record { m8 = c .before .before .before .before .before .before .before .before .pre .fits .m8; whole = c .before .before .before .before .before .before .before .before .pre .fits .rr; column = c .before .before .loop-test .taken }
 
 loop-again : tie.Need-loop-again Inv-loop μ-loop
 loop-again c =
     let a = c .before .before .before .before .before .before .before .before .before .args in
-    (omega arith, sums.next (a .m) (a .r) (a .rr .now) (a .q .now) (c .before .before .before .before .loop .l) _ _ _ (c .before .before .before .before .before .before .before .before .before .pre .some) refl (c .before .before .before .before .loop .inv .1) (c .add-sized .ensures))
+    (omega arith, sums.next (a .m) (a .r) (a .rr .now) (a .q .now) (c .before .before .before .before .loop .l) _ _ _ refl (c .before .before .before .before .loop .inv .1) (c .add-sized .ensures))
 
 symmetrize-in-place-requires : tie.Need-symmetrize-in-place-requires Inv-loop μ-loop
 symmetrize-in-place-requires c κs = c .before .before .before .before .before .before .before .pre .fits .m8
