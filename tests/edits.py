@@ -1,7 +1,7 @@
 """edits.py: whether every edit that must fail, tried by the gate or not, fits the text that it changes, as `rt must-fail` wants it.
 
 Each 'old:' text stands in its file exactly once, the earlier pairs of the edit applied. The first line is '# Wrong WHAT: words', and WHAT is what the
-edit changes: the program (src/), the promise (a contract in src/, or the specs that it cites), the definition, or a theorem (crates/demands).
+edit changes: the program (src/), the promise (a contract in src/, or the specs that it cites), the definition, or a theorem (crates/laws, crates/demands).
 """
 import re
 import sys
@@ -15,7 +15,7 @@ def kind(crate, file, text, at):
     if file.startswith("src/"):
         # a contract's facts stand between corners
         return "promise" if text.count("⌜", 0, at) > text.count("⌝", 0, at) else "program"
-    return {"definition": "definition", "demands": "theorem"}.get(crate.name, "promise")
+    return {"definition": "definition", "laws": "theorem", "demands": "theorem"}.get(crate.name, "promise")
 
 
 def fault(path):

@@ -1,8 +1,9 @@
 -- For theorems by computation: every definition of this crate opened at once (such a theorem says `unfolding opened`), and rows of numbers compared.
 use Prim.Native.Nat.{ℕ}
 use mathlib.Core.Bool.{Bool, true, false, _&&_}
-use mathlib.Core.List.{List, [], _∷_}
+use mathlib.Core.List.{List, [], _∷_, map}
 use lib.Dec.{eqb}
+use lib.IntN.{pos}
 use Rattle.definition.specs.Num
 use Rattle.definition.specs.Run
 use Rattle.definition.specs.Dense
@@ -16,7 +17,14 @@ use Rattle.definition.specs.Inputs
 use Rattle.definition.specs.Refusals
 use Rattle.definition.specs.Parts
 use Rattle.definition.specs.Outcome
-use lib.Ieee.{add, sub, mul, div, neg, lt, le, eq, ne, ofInt, ofBits, toBits, size, round, units}
+use lib.Ieee.{Float, binary64, add, sub, mul, div, neg, lt, le, eq, ne, ofInt, ofBits, toBits, size, round, units}
+
+-- a whole number, and doubles by their bits
+abbrev pub num : ℕ → Float
+num k = ofInt binary64 (pos k)
+
+abbrev pub bits : List Float → List ℕ
+bits a = map (toBits binary64) a
 
 -- rows of what was worked out and what it should be
 abbrev pub same : List ℕ → List ℕ → Bool

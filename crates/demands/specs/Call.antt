@@ -10,6 +10,7 @@ use lib.Ieee.{Float, binary64, ofBits, toBits}
 use Rattle.definition.specs.Inputs.{Model, Offsets}
 use Rattle.definition.specs.Parts.{CovPart, predCov, predInf, filtCov, fStar, fInf, mStar, mInf, MeanPart, predMean, filtMean, innovations}
 use Rattle.definition.specs.Outcome.{CovParts, MeanParts, CovOutcome, MeanOutcome, outcome, smoothOutcome}
+use Rattle.definition.specs.Computed.{bits}
 
 -- an output: how long it is lent, and what the call writes from its start
 pub record Lent : Type 0 where
@@ -118,9 +119,6 @@ answerBy (suc k) l c = suc k ∷ []
 
 abbrev pub answerOf : CovOutcome → MeanOutcome → List ℕ
 answerOf c s = answerBy (c .refused) (s .loglik) c
-
-abbrev bits : List Float → List ℕ
-bits a = map (toBits binary64) a
 
 -- a call that is refused writes nothing, but for refusal 12
 abbrev pub writes : List ℕ → Bool

@@ -5,8 +5,7 @@ use mathlib.Core.Bool.{true, false}
 use mathlib.Core.List.{List, [], _∷_, map}
 use lib.Dec.{T}
 use lib.ListN.{length, getD, replicate}
-use lib.IntN.{pos}
-use lib.Ieee.{Float, nan, inf, binary64, ofInt, toBits}
+use lib.Ieee.{Float, nan, inf}
 use Rattle.definition.specs.Num.{_⊘_, 0ᶠ, 1ᶠ, at}
 use Rattle.definition.specs.Log.{lnOf}
 use Rattle.definition.specs.Dense.{matVec}
@@ -16,17 +15,11 @@ use Rattle.definition.specs.Refusals.{refusal}
 use Rattle.definition.specs.Parts.{predCov, predInf, filtCov, fStar, fInf, predMean, filtMean, innovations, kindNo}
 use Rattle.definition.specs.Outcome.{CovParts, MeanParts, CovOutcome, MeanOutcome, SmoothedCov, SmoothedMean, kindsNeed, covNeed, meanNeed, smoothedCovNeed, smoothedMeanNeed, covOf, decisionsOf, outcome, smoothOutcome}
 use Rattle.definition.specs.Run.{join}
-use Rattle.definition.specs.Computed.{hold, opened}
+use Rattle.definition.specs.Computed.{num, bits, hold, opened}
 
--- a whole number, and a quarter of one
-abbrev num : ℕ → Float
-num k = ofInt binary64 (pos k)
-
+-- so many quarters
 abbrev quarters : ℕ → Float
 quarters k = num k ⊘ num 4
-
-abbrev bits : List Float → List ℕ
-bits = map (toBits binary64)
 
 -- ---- a bench run: one state, Z = R = 1, Q = 2, a1 = 0; the rest as the figure says
 

@@ -1,4 +1,4 @@
--- Nothing cites these yet: Halves waits for request l of document 02, `scanBack-append` of Lists for i.
+-- Nothing cites this yet: `scanBack-append` of Lists waits for request i of document 02.
 
 -- lists, and going through them
 pub mod Lists
@@ -18,6 +18,7 @@ pub mod Signs
 pub mod Zeros
 pub mod Noise
 pub mod Squares
+pub mod Transposes
 pub mod RootLaws
 -- the run: its shapes, and what it wrote read back
 pub mod Flat

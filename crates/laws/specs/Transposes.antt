@@ -1,0 +1,83 @@
+-- Transposes, to the bit and with every NaN as one: that of a product is the product of the transposes in the other order; a symmetrised matrix is its
+-- own; and to symmetrise twice is to symmetrise once. For every size; infinities, overflow, subnormals and zeros of both signs included.
+-- Document 02, request l. Assumes nothing.
+use mathlib.Core.Path.{_≡_, refl, sym, ap, ap₂, _∙_}
+use Prim.Native.Nat.{ℕ, _<_}
+use native.Mathlib.Omega.{arith}
+use mathlib.Core.Bool.{Bool, true, false, not, cond}
+use mathlib.Core.List.{List}
+use lib.Dec.{T, ltb, ltb→lt, nltb→le}
+use lib.Ieee.{Float, binary64, ofBits}
+use Rattle.definition.specs.Num.{_⊕_, _⊗_, half, ent}
+use Rattle.definition.specs.Dense.{productTerm, productAt, product, transposeAt, transpose, symAt, symmetrise}
+use Rattle.laws.specs.Lists.{matrix-at, matrix-cong, sumTo-cong}
+use Rattle.laws.specs.Swap.{mul-swap}
+use Rattle.laws.specs.Halves as halves
+
+-- ---- a product
+
+module _ (r k c : ℕ) (a b : List Float) where
+  term : (i j l : ℕ) → i < c → j < r → l < k → productTerm k c a b j i l ≡ productTerm k r (transpose k c b) (transpose r k a) i j l
+  unfolding productTerm transpose transposeAt
+  term i j l hi hj hl = mul-swap binary64 (ent k a j l) (ent c b l i) ∙ sym (ap₂ _⊗_ (matrix-at c k i l (transposeAt c b) hi hl) (matrix-at k r l j (transposeAt k a) hl hj))
+
+  entry : (i j : ℕ) → i < c → j < r → transposeAt c (product r k c a b) i j ≡ productAt k r (transpose k c b) (transpose r k a) i j
+  unfolding transposeAt product productAt
+  entry i j hi hj =
+      matrix-at r c j i (productAt k c a b) hj hi ∙ sumTo-cong k (productTerm k c a b j i) (productTerm k r (transpose k c b) (transpose r k a) i j) (λ l hl. term i j l hi hj hl)
+
+  -- (A B)' = B' A', of an A of r rows and k columns and a B of k rows and c columns
+  pub transpose-product : transpose r c (product r k c a b) ≡ product c k r (transpose k c b) (transpose r k a)
+  unfolding transpose product
+  transpose-product = matrix-cong c r (transposeAt c (product r k c a b)) (productAt k r (transpose k c b) (transpose r k a)) entry
+
+-- of three factors: one that groups from the left is turned into one that groups from the right. So ((A N) B)' is B' (N' A'), and need not be (B' N') A'
+pub transpose-three : (r k l c : ℕ) (a n b : List Float) → transpose r c (product r l c (product r k l a n) b) ≡ product c l r (transpose l c b) (product l k r (transpose k l n) (transpose r k a))
+transpose-three r k l c a n b = transpose-product r l c (product r k l a n) b ∙ ap (product c l r (transpose l c b)) (transpose-product r k l a n)
+
+-- ---- symmetrising
+
+-- an entry of a symmetrised matrix by the entry x and the mirrored one y: above the diagonal, below it, on it
+abbrev paired : Bool → Bool → Float → Float → Float
+paired above below x y = cond above (half ⊗ (x ⊕ y)) (cond below (half ⊗ (y ⊕ x)) x)
+
+half-again : (x y : Float) → half ⊗ (half ⊗ (x ⊕ y) ⊕ half ⊗ (x ⊕ y)) ≡ half ⊗ (x ⊕ y)
+unfolding ofBits
+half-again x y = halves.symmetrised binary64 x y
+
+module _ (m : ℕ) (a : List Float) where
+  module _ (i j : ℕ) (hi : i < m) (hj : j < m) where
+    apart : T (ltb i j) → T (ltb j i) → ⊥
+    apart h g = let a = ltb→lt i j h in let b = ltb→lt j i g in omega arith
+
+    met : T (not (ltb i j)) → T (not (ltb j i)) → ent m a i j ≡ ent m a j i
+    met h g = let a = nltb→le i j h in let b = nltb→le j i g in let e : i ≡ j = omega arith in cc
+
+    again : symAt m (symmetrise m a) i j ≡ symAt m a i j
+    unfolding symAt symmetrise
+    again = rw (matrix-at m m i j (symAt m a) hi hj, matrix-at m m j i (symAt m a) hj hi) (go (ltb i j) (ltb j i) (ent m a i j) (ent m a j i) apart)
+      where
+        go : (p q : Bool) (x y : Float) → (T p → T q → ⊥) → paired p q (paired p q x y) (paired q p y x) ≡ paired p q x y
+        go true true x y h = absurd (h tt tt)
+        go true false x y h = half-again x y
+        go false true x y h = half-again y x
+        go false false x y h = refl
+
+    mirrored : transposeAt m (symmetrise m a) i j ≡ symAt m a i j
+    unfolding transposeAt symmetrise symAt
+    mirrored = matrix-at m m j i (symAt m a) hj hi ∙ go (ltb i j) (ltb j i) (ent m a i j) (ent m a j i) apart met
+      where
+        go : (p q : Bool) (x y : Float) → (T p → T q → ⊥) → (T (not p) → T (not q) → x ≡ y) → paired q p y x ≡ paired p q x y
+        go true true x y h e = absurd (h tt tt)
+        go true false x y h e = refl
+        go false true x y h e = refl
+        go false false x y h e = sym (e tt tt)
+
+  pub symmetrise-twice : symmetrise m (symmetrise m a) ≡ symmetrise m a
+  unfolding symmetrise
+  symmetrise-twice = matrix-cong m m (symAt m (symmetrise m a)) (symAt m a) again
+
+  -- it equals its transpose
+  pub symmetrise-mirrored : transpose m m (symmetrise m a) ≡ symmetrise m a
+  unfolding transpose symmetrise
+  symmetrise-mirrored = matrix-cong m m (transposeAt m (symmetrise m a)) (symAt m a) mirrored
