@@ -1,6 +1,7 @@
 // The proved kernels against the same plain loops in Rust, on the same inputs in one run: the bits of every result (all NaNs as one), then
-// nanoseconds a call and their ratio.
+// nanoseconds a call and their ratio. And document 02's request l: two ways to a matrix, by the proved kernels and by plain loops, give one.
 use std::hint::black_box;
+use std::num::FpCategory;
 use std::time::Instant;
 
 type V = [f64; 8];
@@ -17,6 +18,9 @@ extern "C" {
     fn leaf_frob_sq(a: &M, m: usize) -> f64;
     fn leaf_symmetrize(p: &mut M, m: usize);
     fn leaf_add(p: &mut M, q: &M, m: usize);
+    fn leaf_transposed_product(a: &M, b: &M, r: usize, k: usize, c: usize, one: &mut M, other: &mut M);
+    fn leaf_transposed_mul(a: &M, b: &M, m: usize, one: &mut M, other: &mut M);
+    fn leaf_symmetrize_twice(p: &mut M, m: usize);
 }
 
 // The plain loops: dense.rs over arrays, with document 01's rules for the products.
@@ -65,15 +69,27 @@ mod plain {
         }
     }
 
-    pub fn product(a: &M, b: &M, m: usize) -> M {
+    // Inlined, so that what is timed knows that the three sizes are one.
+    #[inline(always)]
+    pub fn product(a: &M, b: &M, r: usize, k: usize, c: usize) -> M {
         let mut out = [0.0; 64];
-        for i in 0..m {
-            for j in 0..m {
+        for i in 0..r {
+            for j in 0..c {
                 let mut s = 0.0;
-                for l in 0..m {
-                    s += a[i * m + l] * b[l * m + j];
+                for l in 0..k {
+                    s += a[i * k + l] * b[l * c + j];
                 }
-                out[i * m + j] = s;
+                out[i * c + j] = s;
+            }
+        }
+        out
+    }
+
+    pub fn transpose(a: &M, r: usize, c: usize) -> M {
+        let mut out = [0.0; 64];
+        for i in 0..c {
+            for j in 0..r {
+                out[i * r + j] = a[j * c + i];
             }
         }
         out
@@ -94,7 +110,7 @@ mod plain {
     }
 
     pub fn sandwich(t: &M, p: &M, m: usize) -> M {
-        product_t(&product(t, p, m), t, m)
+        product_t(&product(t, p, m, m, m), t, m)
     }
 
     pub fn abs_quad_form(z: &V, a: &M, m: usize) -> f64 {
@@ -173,7 +189,7 @@ extern "C" fn rust_outer_sub(p: &mut M, a: &V, b: &V, m: usize) {
 #[inline(never)]
 extern "C" fn rust_product(a: &M, b: &M, m: usize, out: &mut M) {
     if m <= 8 {
-        *out = plain::product(a, b, m);
+        *out = plain::product(a, b, m, m, m);
     }
 }
 
@@ -374,6 +390,70 @@ fn check() -> (u64, u64) {
     (compared, differ)
 }
 
+// How many matrices were compared, how many differ, and what their entries were.
+#[derive(Default)]
+struct Ways {
+    compared: u64,
+    differ: u64,
+    kinds: [u64; 6],
+}
+
+const KINDS: [&str; 6] = ["NaN", "infinite", "subnormal", "+0.0", "-0.0", "other"];
+
+fn kind(x: f64) -> usize {
+    match x.classify() {
+        FpCategory::Nan => 0,
+        FpCategory::Infinite => 1,
+        FpCategory::Subnormal => 2,
+        FpCategory::Zero => 3 + x.is_sign_negative() as usize,
+        FpCategory::Normal => 5,
+    }
+}
+
+impl Ways {
+    fn compare(&mut self, places: usize, x: &M, y: &M) {
+        self.compared += 1;
+        self.differ += !(0..places).all(|k| same(x[k], y[k])) as u64;
+        for &v in &x[..places] {
+            self.kinds[kind(v)] += 1;
+        }
+    }
+}
+
+// Document 02's request l: the transpose of a product against the product of the transposes in the other order, by the general kernels, by those of
+// the way back and by plain loops; and symmetrised twice against once. Every size from 0 to 8, any bits.
+fn two_ways() -> Ways {
+    let mut random = Random(3);
+    let mut ways = Ways::default();
+    for size in 0..9 * 9 * 9 {
+        let (r, k, c) = (size / 81, size / 9 % 9, size % 9);
+        for _ in 0..50 {
+            let Inputs { a, b, .. } = random.inputs(Random::wild);
+            let (at, bt) = (plain::transpose(&a, r, k), plain::transpose(&b, k, c));
+            let (mut one, mut other) = ([0.0; 64], [0.0; 64]);
+            unsafe { leaf_transposed_product(&a, &b, r, k, c, &mut one, &mut other) };
+            ways.compare(r * c, &one, &other);
+            ways.compare(r * c, &one, &plain::transpose(&plain::product(&a, &b, r, k, c), r, c));
+            ways.compare(r * c, &other, &plain::product(&bt, &at, c, k, r));
+        }
+    }
+    for m in 0..=8 {
+        for _ in 0..4_000 {
+            let Inputs { a, b, .. } = random.inputs(Random::wild);
+            let (mut one, mut other, mut once, mut twice) = ([0.0; 64], [0.0; 64], a, a);
+            unsafe {
+                leaf_transposed_mul(&a, &b, m, &mut one, &mut other);
+                leaf_symmetrize(&mut once, m);
+                leaf_symmetrize_twice(&mut twice, m);
+            }
+            ways.compare(m * m, &one, &other);
+            ways.compare(m * m, &one, &plain::transpose(&plain::product(&a, &b, m, m, m), m, m));
+            ways.compare(m * m, &once, &twice);
+        }
+    }
+    ways
+}
+
 fn time() {
     let mut random = Random(2);
     let inputs: Vec<Inputs> = (0..32).map(|_| random.inputs(Random::tame)).collect();
@@ -397,7 +477,15 @@ fn main() {
     if word.as_deref() != Some("time") {
         let (compared, differ) = check();
         println!("{compared} results of the kernels compared with plain loops, {differ} differ");
-        if differ > 0 {
+        let ways = two_ways();
+        println!(
+            "{} matrices made in two ways, {} differ; their entries:",
+            ways.compared, ways.differ
+        );
+        for (name, count) in KINDS.iter().zip(ways.kinds) {
+            println!("  {count:>8} {name}");
+        }
+        if differ + ways.differ > 0 || ways.kinds.contains(&0) {
             std::process::exit(1);
         }
     }

@@ -5,6 +5,8 @@ ghost use Rattle.definition.specs.Num.{absOf, max0, isInfinite, isFinite};
 ghost use Rattle.definition.specs.Root.{sqrtOf};
 ghost use Rattle.definition.specs.Log.{lnOf, lnTwoPi};
 
+mod transposes;
+
 #[no_mangle]
 pub extern "C" fn leaf_abs(x: f64) -> f64
     ensures { λ r. ⌜ r ≡ absOf x ⌝ }
@@ -131,5 +133,42 @@ pub extern "C" fn leaf_symmetrize(p: &mut [f64; 64], m: usize) {
 pub extern "C" fn leaf_add(p: &mut [f64; 64], q: &[f64; 64], m: usize) {
     if m <= 8 {
         dense::add(p, q, m);
+    }
+}
+
+// ---- document 02, request l: the transpose of a product by two ways, and a matrix symmetrised twice
+
+#[no_mangle]
+pub extern "C" fn leaf_transposed_product(
+    a: &[f64; 64],
+    b: &[f64; 64],
+    r: usize,
+    k: usize,
+    c: usize,
+    one: &mut [f64; 64],
+    other: &mut [f64; 64],
+) {
+    if r <= 8 && k <= 8 && c <= 8 {
+        transposes::of_product(one, other, a, b, r, k, c);
+    }
+}
+
+#[no_mangle]
+pub extern "C" fn leaf_transposed_mul(
+    a: &[f64; 64],
+    b: &[f64; 64],
+    m: usize,
+    one: &mut [f64; 64],
+    other: &mut [f64; 64],
+) {
+    if m <= 8 {
+        transposes::of_mul(one, other, a, b, m);
+    }
+}
+
+#[no_mangle]
+pub extern "C" fn leaf_symmetrize_twice(p: &mut [f64; 64], m: usize) {
+    if m <= 8 {
+        transposes::symmetrize_twice(p, m);
     }
 }

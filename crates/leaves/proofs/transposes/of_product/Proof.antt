@@ -1,0 +1,16 @@
+-- Made from Proof.tpl by tools/expand: edit that.
+-- The product and its transpose; the transposes and their product, by the law.
+use borrow.Author.Needs.{needs}
+use mathlib.Core.Path.{refl}
+use Rattle.laws.specs.Transposes.{transpose-product}
+use Rattle.leaves.proofs.transposes.of_product.Statement.{statement}
+use Rattle.leaves.proofs.transposes.of_product.Tie as tie
+
+returns : tie.Need-returns
+returns c = (
+  rw (c .before .before .before .before .before .transpose .ensures, c .before .before .before .before .before .before .before .product .ensures) refl,
+  rw (c .product2 .ensures, c .before .before .before .before .transpose2 .ensures, c .before .before .before .transpose3 .ensures, c .before .before .before .before .before .transpose .ensures, c .before .before .before .before .before .before .before .product .ensures, transpose-product) refl,
+)
+
+pub of-product-spec : {M : Type 1} → statement M
+of-product-spec = tie.close (tie.spec (λ c κs. search needs) (λ c κs. search needs) (λ c κs. search needs) (λ c κs. search needs) (λ c κs. search needs) returns)
