@@ -420,6 +420,20 @@ fn decision_23_a_usual_element_of_a_diffuse_period() {
     holds(&e, "sm_cov", "0.5 -1 -1 2.5000000000000013 0 0 0 0.49999999999999994");
 }
 
+#[test]
+fn decision_102_what_may_not_be_halved() {
+    let covariances = |words: &str, want: &str| holds(&calls(words), "sm_cov", want);
+    covariances("m 2 n 2 H 1 T 2^1023 2 -2^1023 0", "NaN NaN NaN NaN 0 0 0 0");
+    covariances("m 2 p 2 Z 1 1 1 0 P 1 0 0 0 F 0 1", "0 0 0 0");
+    covariances("m 2 p 2 Z 4 1 0 1 H 2^60 0 F 1 1", "2^56 0.375 0.375 0");
+    covariances("m 2 p 2 Z 4 1 0 3 H 2^60 0 F 1 1", "2^56 -2.5625 -2.5625 -1.5");
+    covariances("m 2 n 3 H 1 T -3 0 3 2^40 F 1 1", "-1 0 0 0 -9 9 9 -2^26 -81 81 81 0");
+    covariances("m 2 P 2^1023 0 0 2^-100", "0 -2^-101 -2^-101 2^-100");
+    covariances("m 2 P 2^1023 0 0 0 F 0 1", "2^1023 -inf -inf 2^1023");
+    covariances("m 2 P 1 -0.0 0 0", "0 0 0 0");
+    covariances("m 2 Z 1 0 P 1 2^1023 2^1023 0", "0 0 0 -inf");
+}
+
 // ---- numbers
 
 #[test]
