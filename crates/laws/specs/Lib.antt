@@ -10,7 +10,7 @@ pub mod Blocks
 pub mod Backward
 -- bytes
 pub mod Bytes
--- doubles
+-- doubles and matrices
 pub mod Swap
 pub mod Same
 pub mod Halves
@@ -23,6 +23,7 @@ pub mod RootLaws
 -- the run: its shapes, and what it wrote read back
 pub mod Flat
 pub mod ReadBack
+pub mod Long
 pub mod Shapes
 pub mod Looked
 -- the refusals
@@ -31,7 +32,6 @@ pub mod Numbered
 pub mod Accepted
 -- a run in stretches
 pub mod Kept
-pub mod Long
 pub mod SavedBack
 pub mod Spare
 pub mod Cut

@@ -1,5 +1,5 @@
 -- What a run carries on is as long as it was: m numbers of the mean, m * m of each matrix.
-use mathlib.Core.Path.{_≡_, refl}
+use mathlib.Core.Path.{_≡_}
 use Prim.Native.Nat.{ℕ, suc, _*_}
 use mathlib.Core.Bool.{Bool, true, false, cond}
 use mathlib.Core.List.{List, [], _∷_}
@@ -23,11 +23,11 @@ unfolding scan
 keeps f P h [] t s p = p
 keeps f P h (a ∷ l) t s p = keeps f P h l (suc t) (f t s a .1) (h t s a p)
 
-either : (b : Bool) (k : ℕ) (u v : List Float) → length u ≡ k → length v ≡ k → length (cond b u v) ≡ k
+pub either : (b : Bool) (k : ℕ) (u v : List Float) → length u ≡ k → length v ≡ k → length (cond b u v) ≡ k
 either true k u v h g = h
 either false k u v h g = g
 
-symmetrise-long : (m : ℕ) (a : List Float) → length (symmetrise m a) ≡ m * m
+pub symmetrise-long : (m : ℕ) (a : List Float) → length (symmetrise m a) ≡ m * m
 unfolding symmetrise
 symmetrise-long m a = length-tab (m * m) 0 _
 

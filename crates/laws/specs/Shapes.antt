@@ -10,13 +10,14 @@ use lib.Dec.{ltb}
 use lib.Ieee.{Float}
 use borrow.Author.Tests.{lt-ltb, le-ltb, ltb-true, ltb-false}
 use Rattle.definition.specs.Num.{0ᶠ, zeros}
-use Rattle.definition.specs.Dense.{dot, matVec, matTVec, symmetrise}
+use Rattle.definition.specs.Dense.{dot, matVec, matTVec}
 use Rattle.definition.specs.Run.{scan, chunks, count}
 use Rattle.definition.specs.Cov.{System, Cov, Fixed, Inner, Decision, skipped, usual, diffuse, CovPeriod, Candidate, usually, usualTest, diffusely, diffuseTest, fStarBy, fInfBy, judge, candidate, verdict, elementOf, isLive, entered, ended, stepped, stepStar, stepInf, periodOf, period, covRun}
 use Rattle.definition.specs.Inputs.{Class, isGap, gapRows}
 use Rattle.laws.specs.Lists.{chunks-each, length-tab, length-scan, length-chunks}
 use Rattle.laws.specs.All.{AllOf, all-true, each-all, scan-all, scan-leaves}
 use Rattle.laws.specs.ReadBack.{Shaped, Whole}
+use Rattle.laws.specs.Long.{either, symmetrise-long}
 
 -- ---- the decisions
 
@@ -132,17 +133,9 @@ module _ (m : ℕ) (f : ℕ → Cov → List Bool → CovPeriod × Cov) (law : K
   pub run-sized : (xs : List (List Bool)) (t : ℕ) (c : Cov) → Sized m c → AllOf (SizedP m) (scan f t c xs .0)
   run-sized xs t c h = scan-leaves f (Sized m) (λ g. Unit {0}) (SizedP m) (law .goes-on) (λ t c g h u. law .leaves t c g h) xs t c h (all-true xs)
 
-cond-long : (b : Bool) (u v : List Float) (k : ℕ) → length u ≡ k → length v ≡ k → length (cond b u v) ≡ k
-cond-long true u v k e g = e
-cond-long false u v k e g = g
-
 entered-long : (m : ℕ) (b : Bool) (a : List Float) → length a ≡ m * m → length (entered m b a) ≡ m * m
 unfolding entered
-entered-long m b a e = cond-long b a (zeros (m * m)) (m * m) e (length-replicate (m * m) 0ᶠ)
-
-symmetrise-long : (m : ℕ) (a : List Float) → length (symmetrise m a) ≡ m * m
-unfolding symmetrise
-symmetrise-long m a = length-tab (m * m) 0 _
+entered-long m b a e = either b (m * m) a (zeros (m * m)) e (length-replicate (m * m) 0ᶠ)
 
 pub period-keeps : (y : System) → Keeps (y .m) (period y)
 unfolding periodOf ended stepped stepStar stepInf
