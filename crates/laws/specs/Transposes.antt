@@ -31,7 +31,7 @@ module _ (r k c : ℕ) (a b : List Float) where
   unfolding transpose product
   transpose-product = matrix-cong c r (transposeAt c (product r k c a b)) (productAt k r (transpose k c b) (transpose r k a)) entry
 
--- of three factors: one that groups from the left is turned into one that groups from the right. So ((A N) B)' is B' (N' A'), and need not be (B' N') A'
+-- of three factors: what groups from the left is turned into what groups from the right. ((A N) B)' is B' (N' A'), and need not be (B' N') A'
 pub transpose-three : (r k l c : ℕ) (a n b : List Float) → transpose r c (product r l c (product r k l a n) b) ≡ product c l r (transpose l c b) (product l k r (transpose k l n) (transpose r k a))
 transpose-three r k l c a n b = transpose-product r l c (product r k l a n) b ∙ ap (product c l r (transpose l c b)) (transpose-product r k l a n)
 
