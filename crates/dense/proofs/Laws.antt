@@ -8,14 +8,13 @@ use lib.Dec.{ltb, eqb}
 use borrow.Author.Tests.{ltb-true, ltb-false, eqb-true, eqb-false}
 use native.Mathlib.Omega.{arith}
 use native.Mathlib.Numerals.{add-one}
-use native.Mathlib.Nat.{mul-le-mul, suc-mul, mul-zero, div-add-mod', mod-lt, div-lt-iff-lt-mul, not-suc-le-zero, le-of-suc-le-suc}
+use native.Mathlib.Nat.{mul-le-mul, suc-mul, div-add-mod', mod-lt, div-lt-iff-lt-mul, not-suc-le-zero, le-of-suc-le-suc}
 use lib.ListN.{length, getD, set, take, drop, replicate, length-set, length-append, List·getD-append}
 use lib.Seq.{getD-set-same, getD-set-other, ext-getD, getD-take, length-take-le, take-all, getD-append-add}
 use lib.Ieee.{Float, nan}
 use Rattle.definition.specs.Num.{tabFrom, tabulate, matrix, at, ent, zeros, sumBut, sumFrom, _⊕_, 0ᶠ}
 use Rattle.definition.specs.Dense as Dense
-use Rattle.definition.specs.Dense.{transpose, transposeAt}
-use Rattle.laws.specs.Lists.{vector-at, matrix-at, length-tab, tab-cong}
+use Rattle.laws.specs.Lists.{some-column, vector-at, matrix-at, length-tab, tab-cong}
 use Rattle.laws.specs.Passes.{block-in}
 use Rattle.laws.specs.Backward.{block-long, part-row}
 use Rattle.dense.specs.Views.{vec, rect}
@@ -145,10 +144,6 @@ pub rect-at : (r c i j : ℕ) (a : List Float) → i < r → j < c → ent c (re
 unfolding rect
 rect-at r c i j a hi hj = getD-take (r * c) a (i * c + j) nan (omega (arith, block-in i r c hi))
 
-pub transpose-at : (r c i j : ℕ) (a : List Float) → i < c → j < r → ent r (transpose r c a) i j ≡ ent c a j i
-unfolding transpose transposeAt
-transpose-at r c i j a hi hj = matrix-at c r i j (transposeAt c a) hi hj
-
 -- a vector that was filled, and a matrix
 pub vec-row : (g : ℕ → Float) (m : ℕ) (l out : List Float) → m ≤ length l → out ≡ row g 0 m l → vec m out ≡ tabulate m g
 unfolding vec
@@ -162,16 +157,15 @@ vec-row g m l out h e =
 
 -- a matrix is known by its entries
 pub rect-by : (f : ℕ → ℕ → Float) (r c : ℕ) (out : List Float) → r * c ≤ length out → ((i j : ℕ) → i < r → j < c → ent c out i j ≡ f i j) → rect r c out ≡ matrix r c f
-unfolding rect tabFrom
-rect-by f r zero out h e = rw mul-zero
-rect-by f r (suc d) out h e =
-    let c = suc d in
+unfolding rect
+rect-by f r c out h e =
     let k : length (take (r * c) out) ≡ r * c = length-take-le (r * c) out h in
     ext-getD nan (take (r * c) out) (matrix r c f) (k ∙ sym (length-tab (r * c) 0 (λ k. f (k / c) (k % c))))
     (λ x b.
     let q : x < r * c = omega arith in
-    let hi : x / c < r = div-lt-iff-lt-mul {k = c} (omega arith) .1 q in
-    let hj : x % c < c = mod-lt x (omega arith) in
+    let z : 0 < c = some-column r c x q in
+    let hi : x / c < r = div-lt-iff-lt-mul z .1 q in
+    let hj : x % c < c = mod-lt x z in
     getD-take (r * c) out x nan q
     ∙ subst (λ (y : ℕ). getD out y nan ≡ at (matrix r c f) y) (div-add-mod' x c)
     (e (x / c) (x % c) hi hj ∙ sym (matrix-at r c (x / c) (x % c) f hi hj)))

@@ -1,4 +1,5 @@
--- Nothing cites this yet: `scanBack-append` of Lists waits for request i of document 02.
+-- No proof cites these: `scanBack-append` of Lists, which waits for request i of document 02; `transpose-three` and `symmetrise-mirrored` of Transposes,
+-- which say what a way back may halve (request l).
 
 -- lists, and going through them
 pub mod Lists

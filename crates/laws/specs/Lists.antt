@@ -150,10 +150,14 @@ module _ {A : Type 0} where
   anyOf-set q (x ∷ l) zero a d e = ap (λ (b : Bool). b || anyOf q l) e
   anyOf-set q (x ∷ l) (suc k) a d e = ap (λ (b : Bool). q x || b) (anyOf-set q l k a d e)
 
--- ---- places: an entry lies within its matrix
+-- ---- places: an entry lies within its matrix, and what has a place has a column
 
 pub place-lt : (n p t i : ℕ) → t < n → i < p → t * p + i < n * p
 place-lt n p t i h g = omega (arith, mul-le-mul-right p h)
+
+pub some-column : (r c k : ℕ) → k < r * c → 0 < c
+some-column r zero k h = absurd (omega (arith, mul-zero r))
+some-column r (suc c) k h = omega arith
 
 -- ---- vectors and matrices, once over the size
 
@@ -194,11 +198,7 @@ tab-cong zero k f g h = refl
 tab-cong (suc n) k f g h = ap₂ (λ (a : _) (l : List _). a ∷ l) (h k (omega arith) (omega arith)) (tab-cong n (suc k) f g (λ i u v. h i (omega arith) (omega arith)))
 
 pub matrix-cong : (r c : ℕ) (f g : ℕ → ℕ → Float) → ((i j : ℕ) → i < r → j < c → f i j ≡ g i j) → matrix r c f ≡ matrix r c g
-matrix-cong r c f g h = tab-cong (r * c) 0 (λ k. f (k / c) (k % c)) (λ k. g (k / c) (k % c)) (λ k u v. let z : 0 < c = some-column c k (omega arith) in h (k / c) (k % c) ((div-lt-iff-lt-mul z) .1 (omega arith)) (mod-lt k z))
-  where
-    some-column : (c k : ℕ) → k < r * c → 0 < c
-    some-column zero k v = absurd (omega (arith, mul-zero r))
-    some-column (suc c) k v = omega arith
+matrix-cong r c f g h = tab-cong (r * c) 0 (λ k. f (k / c) (k % c)) (λ k. g (k / c) (k % c)) (λ k u v. let z : 0 < c = some-column r c k (omega arith) in h (k / c) (k % c) ((div-lt-iff-lt-mul z) .1 (omega arith)) (mod-lt k z))
 
 pub sumTo-cong : (k : ℕ) (f g : ℕ → Float) → ((i : ℕ) → i < k → f i ≡ g i) → sumTo k f ≡ sumTo k g
 unfolding sumTo

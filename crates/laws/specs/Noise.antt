@@ -10,12 +10,13 @@ use lib.Ieee.{Float, binary64}
 use lib.Ieee.Fits.{mul-fits}
 use borrow.Author.Tests.{not-false, ne-eqb}
 use Rattle.definition.specs.Num.{_⊕_, _⊗_, 0ᶠ, isZero, matrix, ent, sumTo}
-use Rattle.definition.specs.Dense.{product, productAt, productTerm, transpose, transposeAt, symmetrise}
+use Rattle.definition.specs.Dense.{product, productAt, productTerm, transpose, symmetrise}
 use Rattle.definition.specs.Inputs.{noiseOf}
 use Rattle.definition.specs.Refusals.{notFinite, offDiagonal, offRow, offAt}
 use Rattle.laws.specs.Any.{any-false}
 use Rattle.laws.specs.Lists.{matrix-at, matrix-cong, sumTo-cong, place-lt}
 use Rattle.laws.specs.Swap.{mul-swap}
+use Rattle.laws.specs.Transposes.{transpose-at}
 use Rattle.laws.specs.Zeros.{times-zero, only-one, finite-at}
 
 -- what a disturbance of variance v brings to entry (i, j) by its column, l, of R
@@ -40,10 +41,10 @@ module _ (m r : ℕ) (rr q : List Float) (long : length rr ≡ m * r) (finite : 
       ∙ ap (λ (v : Float). 0ᶠ ⊕ v) (mul-swap binary64 (ent r rr i l) (ent r q l l))
 
   pub by-disturbances : noiseOf m r rr q ≡ symmetrise m (matrix m m (λ i j. sumTo r (disturbanceTerm r rr q i j)))
-  unfolding noiseOf product productAt productTerm transpose transposeAt disturbanceTerm broughtAt
+  unfolding noiseOf product productAt productTerm disturbanceTerm broughtAt
   by-disturbances =
       ap (symmetrise m)
       (matrix-cong m m (productAt r m (product m r r rr q) (transpose m r rr)) (λ i j. sumTo r (disturbanceTerm r rr q i j))
       (λ i j hi hj.
       sumTo-cong r (productTerm r m (product m r r rr q) (transpose m r rr) i j) (disturbanceTerm r rr q i j)
-      (λ l hl. ap₂ _⊗_ (scaled-column i l hi hl) (matrix-at r m l j (transposeAt r rr) hl hj))))
+      (λ l hl. ap₂ _⊗_ (scaled-column i l hi hl) (transpose-at m r l j rr hl hj))))

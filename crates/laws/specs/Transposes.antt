@@ -14,12 +14,16 @@ use Rattle.laws.specs.Lists.{matrix-at, matrix-cong, sumTo-cong}
 use Rattle.laws.specs.Swap.{mul-swap}
 use Rattle.laws.specs.Halves as halves
 
+pub transpose-at : (r c i j : ℕ) (a : List Float) → i < c → j < r → ent r (transpose r c a) i j ≡ ent c a j i
+unfolding transpose transposeAt
+transpose-at r c i j a hi hj = matrix-at c r i j (transposeAt c a) hi hj
+
 -- ---- a product
 
 module _ (r k c : ℕ) (a b : List Float) where
   term : (i j l : ℕ) → i < c → j < r → l < k → productTerm k c a b j i l ≡ productTerm k r (transpose k c b) (transpose r k a) i j l
-  unfolding productTerm transpose transposeAt
-  term i j l hi hj hl = mul-swap binary64 (ent k a j l) (ent c b l i) ∙ sym (ap₂ _⊗_ (matrix-at c k i l (transposeAt c b) hi hl) (matrix-at k r l j (transposeAt k a) hl hj))
+  unfolding productTerm
+  term i j l hi hj hl = mul-swap binary64 (ent k a j l) (ent c b l i) ∙ sym (ap₂ _⊗_ (transpose-at k c i l b hi hl) (transpose-at r k l j a hl hj))
 
   entry : (i j : ℕ) → i < c → j < r → transposeAt c (product r k c a b) i j ≡ productAt k r (transpose k c b) (transpose r k a) i j
   unfolding transposeAt product productAt

@@ -9,7 +9,7 @@ use Rattle.definition.specs.Num.{_⊗_, sumTo}
 use Rattle.definition.specs.Dense.{productAt, productTerm, transpose}
 use Rattle.dense.specs.Views.{rect}
 use Rattle.laws.specs.Lists as sums
-use Rattle.dense.proofs.Laws as laws
+use Rattle.laws.specs.Transposes.{transpose-at}
 
 abbrev Inv-loop : tie.InvT-loop
 Inv-loop a b r k c i j s₀ l₀ s l = (l ≤ k) × (s ≡ sumTo l (productTerm k c (rect r k a) (transpose c k (rect c k b)) i j))
@@ -25,7 +25,7 @@ unfolding productTerm
 loop-again c =
     let l = c .before .before .before in
     let a = l .before .args in
-    let t = laws.transpose-at (a .c) (a .k) (l .loop .l) (a .j) (rect (a .c) (a .k) (a .b .now)) (c .before .before .loop-test .taken) (l .before .pre .column) in
+    let t = transpose-at (a .c) (a .k) (l .loop .l) (a .j) (rect (a .c) (a .k) (a .b .now)) (c .before .before .loop-test .taken) (l .before .pre .column) in
     let v : c .before .cell .result ⊗ c .cell2 .result ≡ productTerm (a .k) (a .c) (rect (a .r) (a .k) (a .a .now)) (transpose (a .c) (a .k) (rect (a .c) (a .k) (a .b .now))) (a .i) (a .j) (l .loop .l) = cc in
     (omega arith, sums.sum-next _ _ _ _ (l .loop .inv .1) v)
 

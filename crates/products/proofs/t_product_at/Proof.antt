@@ -9,7 +9,7 @@ use Rattle.definition.specs.Num.{_⊗_, sumTo}
 use Rattle.definition.specs.Dense.{productAt, productTerm, transpose}
 use Rattle.dense.specs.Views.{rect}
 use Rattle.laws.specs.Lists as sums
-use Rattle.dense.proofs.Laws as laws
+use Rattle.laws.specs.Transposes.{transpose-at}
 
 abbrev Inv-loop : tie.InvT-loop
 Inv-loop a b r k c i j s₀ l₀ s l = (l ≤ k) × (s ≡ sumTo l (productTerm k c (transpose k r (rect k r a)) (rect k c b) i j))
@@ -25,7 +25,7 @@ unfolding productTerm
 loop-again c =
     let l = c .before .before .before in
     let a = l .before .args in
-    let t = laws.transpose-at (a .k) (a .r) (a .i) (l .loop .l) (rect (a .k) (a .r) (a .a .now)) (l .before .pre .row) (c .before .before .loop-test .taken) in
+    let t = transpose-at (a .k) (a .r) (a .i) (l .loop .l) (rect (a .k) (a .r) (a .a .now)) (l .before .pre .row) (c .before .before .loop-test .taken) in
     let v : c .before .cell .result ⊗ c .cell2 .result ≡ productTerm (a .k) (a .c) (transpose (a .k) (a .r) (rect (a .k) (a .r) (a .a .now))) (rect (a .k) (a .c) (a .b .now)) (a .i) (a .j) (l .loop .l) = cc in
     (omega arith, sums.sum-next _ _ _ _ (l .loop .inv .1) v)
 
