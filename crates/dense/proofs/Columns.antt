@@ -12,10 +12,10 @@ use lib.ListN.{length, replicate}
 use borrow.Author.Tests.{eqb-true, eq-eqb, ne-eqb, lt-ltb, le-ltb}
 use Rattle.definition.specs.Num.{0ᶠ, isZero, tabulate, matrix, at, ent, sumBut}
 use Rattle.definition.specs.Dense.{zeroAt, matVecAt, matVec, lessOf, outerSubAt, outerSub}
-use Rattle.laws.specs.Lists.{vector-at, matrix-at, tab-cong, matrix-cong}
+use Rattle.laws.specs.Lists.{replicate-tab, vector-at, matrix-at, tab-cong, matrix-cong}
 use Rattle.dense.specs.Views.{vec, mat}
 use Rattle.dense.specs.Columns.{moreAt, moreKeptAt, matVecTo, lessAt, columnLess, columnKept, outerSubTo}
-use Rattle.dense.proofs.Laws.{lt-or-le, vec-self, vec-zeros, zeros-tab, rect-self}
+use Rattle.dense.proofs.Laws.{lt-or-le, vec-self, vec-zeros, rect-self}
 
 -- ---- M x
 
@@ -37,7 +37,7 @@ module _ (m : ℕ) (a x : List Float) (j : ℕ) where
 
 pub more-start : (m n : ℕ) (a x : List Float) → m ≤ n → vec m (replicate n 0ᶠ) ≡ tabulate m (matVecTo m a x 0)
 unfolding matVecTo sumBut
-more-start m n a x h = vec-zeros m n h ∙ zeros-tab m 0
+more-start m n a x h = vec-zeros m n h ∙ replicate-tab m 0 0ᶠ
 
 pub more-all : (m : ℕ) (a x : List Float) {j : ℕ} (out : List Float) → out ≡ tabulate m (matVecTo m a x j) → j ≤ m → m ≤ j → out ≡ matVec m a x
 unfolding matVecTo matVec matVecAt

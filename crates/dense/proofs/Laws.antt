@@ -12,7 +12,7 @@ use native.Mathlib.Nat.{mul-le-mul, suc-mul, div-add-mod', mod-lt, div-lt-iff-lt
 use lib.ListN.{length, getD, set, take, drop, replicate, length-set, length-append, List·getD-append}
 use lib.Seq.{getD-set-same, getD-set-other, ext-getD, getD-take, length-take-le, take-all, getD-append-add}
 use lib.Ieee.{Float, nan}
-use Rattle.definition.specs.Num.{tabFrom, tabulate, matrix, at, ent, zeros, sumBut, sumFrom, _⊕_, 0ᶠ}
+use Rattle.definition.specs.Num.{tabulate, matrix, at, ent, zeros, sumBut, sumFrom, _⊕_, 0ᶠ}
 use Rattle.definition.specs.Dense as Dense
 use Rattle.laws.specs.Lists.{some-column, vector-at, matrix-at, length-tab, tab-cong}
 use Rattle.laws.specs.Passes.{block-in}
@@ -411,12 +411,6 @@ vec-zeros (suc k) (suc n) h = ap (λ (l : List Float). 0ᶠ ∷ l) (vec-zeros k 
 pub rect-zeros : (r c n : ℕ) → r * c ≤ n → rect r c (replicate n 0ᶠ) ≡ zeros (r * c)
 unfolding rect vec
 rect-zeros r c n h = vec-zeros (r * c) n h
-
--- a table of +0.0
-pub zeros-tab : (n k : ℕ) → zeros n ≡ tabFrom k n (λ i. 0ᶠ)
-unfolding tabFrom
-zeros-tab zero k = refl
-zeros-tab (suc n) k = ap (λ (l : List Float). 0ᶠ ∷ l) (zeros-tab n (suc k))
 
 -- ---- sums that leave terms out, and sums from a first value
 

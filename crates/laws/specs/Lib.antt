@@ -1,5 +1,5 @@
--- No proof cites these: `scanBack-append` of Lists, which waits for request i of document 02; `transpose-three` and `symmetrise-mirrored` of Transposes,
--- which say what a way back may halve (request l).
+-- No proof cites these: `scanBack-append` of Lists, which waits for request i of document 02; `transpose-three` of Transposes, which says what a way back
+-- may not halve (request l).
 
 -- lists, and going through them
 pub mod Lists

@@ -6,7 +6,7 @@ use native.Mathlib.Numerals.{add-one}
 use native.Mathlib.Omega.{arith}
 use mathlib.Core.Bool.{Bool, true, false, _||_}
 use mathlib.Core.List.{List, [], _∷_, _++_, map}
-use lib.ListN.{length, getD, set, take, drop, length-append, length-take, length-drop, take-append-drop, List·getD-append}
+use lib.ListN.{length, getD, set, take, drop, replicate, length-append, length-take, length-drop, take-append-drop, List·getD-append}
 use lib.Ieee.{Float, nan}
 use Rattle.definition.specs.Num.{0ᶠ, _⊕_, sumTo, tabFrom, tabulate, matrix, at, ent}
 use lib.Seq.{take-suc, take-append-le, drop-append-le, take-set-lt, drop-set-lt, take-set-le, drop-set-add, getD-append-add}
@@ -172,6 +172,11 @@ module _ {A : Type 0} where
   unfolding tabFrom
   length-tab zero k f = refl
   length-tab (suc n) k f = ap suc (length-tab n (suc k) f)
+
+  pub replicate-tab : (n k : ℕ) (a : A) → replicate n a ≡ tabFrom k n (λ i. a)
+  unfolding tabFrom
+  replicate-tab zero k a = refl
+  replicate-tab (suc n) k a = ap (λ (l : List A). a ∷ l) (replicate-tab n (suc k) a)
 
 pub vector-at : (n i : ℕ) (f : ℕ → Float) → i < n → at (tabulate n f) i ≡ f i
 vector-at n i f h = tab-at n 0 i f nan h ∙ ap f (zero-add i)

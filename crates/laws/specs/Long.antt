@@ -1,14 +1,14 @@
 -- What a run carries on is as long as it was: m numbers of the mean, m * m of each matrix.
 use mathlib.Core.Path.{_≡_}
-use Prim.Native.Nat.{ℕ, suc, _*_}
+use Prim.Native.Nat.{ℕ, _*_}
 use mathlib.Core.Bool.{Bool, true, false, cond}
-use mathlib.Core.List.{List, [], _∷_}
+use mathlib.Core.List.{List, []}
 use lib.ListN.{length}
 use lib.Ieee.{Float}
 use Rattle.definition.specs.Dense.{axpy, outerSub, product, sandwich, symmetrise, row}
-use Rattle.definition.specs.Run.{scan}
 use Rattle.definition.specs.Cov.{System, Cov, Fixed, Inner, Decision, skipped, usual, diffuse, apply, rootLess, verdict, elementOf, isLive, entered, ended, stepped, stepStar, stepInf, periodOf, period, covRun}
 use Rattle.definition.specs.Mean.{Mean, Frame, Shift, meanStep, meanEnded, meanPeriodOf, meanPeriod, meanRun}
+use Rattle.laws.specs.All.{scan-keeps}
 use Rattle.laws.specs.Lists.{length-tab}
 
 pub record Long (m : ℕ) (c : Cov) : Type 0 where
@@ -16,12 +16,6 @@ pub record Long (m : ℕ) (c : Cov) : Type 0 where
   pub pinf : length (c .pinf) ≡ m * m
   pub root : length (c .root) ≡ m * m
   pub unres : length (c .unres) ≡ m * m
-
--- a state goes through a scan
-keeps : {A B S : Type 0} (f : ℕ → S → A → B × S) (P : S → Type 0) → ((t : ℕ) (s : S) (a : A) → P s → P (f t s a .1)) → (l : List A) (t : ℕ) (s : S) → P s → P (scan f t s l .1)
-unfolding scan
-keeps f P h [] t s p = p
-keeps f P h (a ∷ l) t s p = keeps f P h l (suc t) (f t s a .1) (h t s a p)
 
 pub either : (b : Bool) (k : ℕ) (u v : List Float) → length u ≡ k → length v ≡ k → length (cond b u v) ≡ k
 either true k u v h g = h
@@ -52,7 +46,7 @@ period-long y t c g h =
     let lasts = isLive m (c .live) (c .pinf) in
     let f : Fixed = record { diffuse = lasts; z = y .designAt t; pre = c .star; unres = c .unres } in
     let s : Inner = record { star = c .star; pinf = entered m lasts (c .pinf); root = c .root; taken = [] } in
-    let root = keeps (elementOf (y .p) m (y .h) f) (λ (s : Inner). length (s .root) ≡ m * m) (λ i s b k. root-long m (row m (f .z) i) i s (verdict (y .p) m (y .h) f i s b) k) g 0 s (h .root) in
+    let root = scan-keeps (elementOf (y .p) m (y .h) f) (λ (s : Inner). length (s .root) ≡ m * m) (λ i s b k. root-long m (row m (f .z) i) i s (verdict (y .p) m (y .h) f i s b) k) g 0 s (h .root) in
     record {
       star = symmetrise-long m _;
       pinf = symmetrise-long m _;
@@ -62,8 +56,8 @@ period-long y t c g h =
 
 pub covs-long : (y : System) (t : ℕ) (c : Cov) (gaps : List (List Bool)) → Long (y .m) c → Long (y .m) (covRun y t c gaps .1)
 unfolding covRun
-covs-long y t c gaps h = keeps (period y) (Long (y .m)) (period-long y) gaps t c h
+covs-long y t c gaps h = scan-keeps (period y) (Long (y .m)) (period-long y) gaps t c h
 
 pub mean-long : (y : Frame) (x : Shift) (t : ℕ) (s : Mean) (es : List (List Decision × List Float)) → length (s .a) ≡ y .m → length (meanRun y x t s es .1 .a) ≡ y .m
 unfolding meanRun meanPeriodOf meanEnded meanStep axpy
-mean-long y x t s es h = keeps (meanPeriod y x) (λ (s : Mean). length (s .a) ≡ y .m) (λ t s e k. length-tab (y .m) 0 _) es t s h
+mean-long y x t s es h = scan-keeps (meanPeriod y x) (λ (s : Mean). length (s .a) ≡ y .m) (λ t s e k. length-tab (y .m) 0 _) es t s h

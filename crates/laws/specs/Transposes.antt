@@ -1,14 +1,14 @@
 -- Transposes, to the bit and with every NaN as one: that of a product is the product of the transposes in the other order; a symmetrised matrix is its
--- own; and to symmetrise twice is to symmetrise once. For every size; infinities, overflow, subnormals and zeros of both signs included.
--- Document 02, request l. Assumes nothing.
+-- own; and to symmetrise twice is to symmetrise once, or not at all where all is +0.0 off the diagonal. For every size; infinities, overflow, subnormals
+-- and zeros of both signs included. Document 02, request l. Assumes nothing.
 use mathlib.Core.Path.{_≡_, refl, sym, ap, ap₂, _∙_}
 use Prim.Native.Nat.{ℕ, _<_}
 use native.Mathlib.Omega.{arith}
 use mathlib.Core.Bool.{Bool, true, false, not, cond}
 use mathlib.Core.List.{List}
 use lib.Dec.{T, ltb, ltb→lt, nltb→le}
-use lib.Ieee.{Float, binary64, ofBits}
-use Rattle.definition.specs.Num.{_⊕_, _⊗_, half, ent}
+use lib.Ieee.{Float, binary64, add, mul, round, size, units, ofBits}
+use Rattle.definition.specs.Num.{_⊕_, _⊗_, 0ᶠ, half, matrix, ent}
 use Rattle.definition.specs.Dense.{productTerm, productAt, product, transposeAt, transpose, symAt, symmetrise}
 use Rattle.laws.specs.Lists.{matrix-at, matrix-cong, sumTo-cong}
 use Rattle.laws.specs.Swap.{mul-swap}
@@ -85,3 +85,20 @@ module _ (m : ℕ) (a : List Float) where
   pub symmetrise-mirrored : transpose m m (symmetrise m a) ≡ symmetrise m a
   unfolding transpose symmetrise
   symmetrise-mirrored = matrix-cong m m (transposeAt m (symmetrise m a)) (symAt m a) mirrored
+
+-- what is +0.0 off its diagonal stays as it is
+half-zeros : half ⊗ (0ᶠ ⊕ 0ᶠ) ≡ 0ᶠ
+unfolding add mul round size units ofBits
+half-zeros = refl
+
+pub symmetrise-diagonal : (m : ℕ) (f : ℕ → ℕ → Float) → ((i j : ℕ) → (i ≡ j → ⊥) → f i j ≡ 0ᶠ) → symmetrise m (matrix m m f) ≡ matrix m m f
+unfolding symmetrise symAt
+symmetrise-diagonal m f off = matrix-cong m m (symAt m (matrix m m f)) f (λ i j hi hj. rw (matrix-at m m i j f hi hj, matrix-at m m j i f hj hi) (go i j (ltb i j) (ltb j i) (ltb→lt i j) (ltb→lt j i)))
+  where
+    both : (i j : ℕ) → (i ≡ j → ⊥) → half ⊗ (f i j ⊕ f j i) ≡ 0ᶠ
+    both i j h = rw (off i j h, off j i (λ e. h (sym e))) half-zeros
+
+    go : (i j : ℕ) (p q : Bool) → (T p → i < j) → (T q → j < i) → paired p q (f i j) (f j i) ≡ f i j
+    go i j true q a b = let h : i < j = a tt in both i j (λ e. omega arith) ∙ sym (off i j (λ e. omega arith))
+    go i j false true a b = let h : j < i = b tt in both j i (λ e. omega arith) ∙ sym (off i j (λ e. omega arith))
+    go i j false false a b = refl

@@ -8,11 +8,11 @@ use lib.Ieee.{Float, nan}
 use Rattle.definition.specs.Num.{_⊕_, _⊗_, 0ᶠ, tabulate, matrix, zeros, at, ent, sumTo}
 use Rattle.definition.specs.Dense.{axpy, axpyAt, symmetrise}
 use Rattle.definition.specs.Inputs.{noiseOf}
-use Rattle.laws.specs.Lists.{vector-at, matrix-at, matrix-cong, sum-next}
+use Rattle.laws.specs.Lists.{replicate-tab, vector-at, matrix-at, matrix-cong, sum-next}
 use Rattle.laws.specs.Noise.{broughtAt, disturbanceTerm, by-disturbances}
 use Rattle.dense.specs.Views.{vec, mat}
 use Rattle.dense.specs.Columns.{outerMoreAt}
-use Rattle.dense.proofs.Laws.{vec-zeros, zeros-tab}
+use Rattle.dense.proofs.Laws.{vec-zeros}
 use Rattle.model.specs.Noise.{NoiseGiven, moreAt}
 
 -- an outer product of column l, scaled, and column l
@@ -39,7 +39,7 @@ module _ (m r : ℕ) (rr q : List Float) where
 
   pub none : (out : List Float) → mat m out ≡ zeros (m * m) → Summed 0 out
   unfolding sumTo
-  none out e = e ∙ zeros-tab (m * m) 0
+  none out e = e ∙ replicate-tab (m * m) 0 0ᶠ
 
   pub next : (l : ℕ) (p out : List Float) (x : Float) → x ≡ ent r q l l → Summed l p → mat m out ≡ matrix m m (moreAt m r rr x l (mat m p)) → Summed (l + 1) out
   unfolding moreAt disturbanceTerm

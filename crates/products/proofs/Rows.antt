@@ -8,16 +8,16 @@ use lib.Ieee.{Float}
 use lib.ListN.{replicate}
 use Rattle.definition.specs.Num.{0ᶠ, tabulate, at, ent, sumTo}
 use Rattle.definition.specs.Dense.{productTerm, productAt, transposed}
-use Rattle.laws.specs.Lists.{vector-at, tab-cong}
+use Rattle.laws.specs.Lists.{replicate-tab, vector-at, tab-cong}
 use Rattle.dense.specs.Views.{vec}
 use Rattle.products.specs.Rows.{rowMoreAt, rowTo}
 use Rattle.laws.specs.Transposes.{transpose-at}
-use Rattle.dense.proofs.Laws.{vec-zeros, zeros-tab}
+use Rattle.dense.proofs.Laws.{vec-zeros}
 
 module _ (m : ℕ) (a b : List Float) (i : ℕ) where
   pub rows-start : (n : ℕ) → m ≤ n → vec m (replicate n 0ᶠ) ≡ tabulate m (rowTo m a b i 0)
   unfolding rowTo sumTo
-  rows-start n h = vec-zeros m n h ∙ zeros-tab m 0
+  rows-start n h = vec-zeros m n h ∙ replicate-tab m 0 0ᶠ
 
   pub rows-next : (l : ℕ) (x : Float) (o out : List Float) → o ≡ tabulate m (rowTo m a b i l) → x ≡ ent m a i l → out ≡ tabulate m (rowMoreAt m x b l o) → out ≡ tabulate m (rowTo m a b i (l + 1))
   unfolding rowMoreAt rowTo sumTo productTerm

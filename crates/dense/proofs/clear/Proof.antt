@@ -5,6 +5,7 @@ use native.Mathlib.Omega.{arith}
 use mathlib.Core.Path.{_≡_, refl, sym, _∙_}
 use Prim.Native.Nat.{_≤_, _*_, _-_}
 use Rattle.definition.specs.Num.{0ᶠ}
+use Rattle.laws.specs.Lists.{replicate-tab}
 use Rattle.dense.specs.Views.{vec, rect}
 use Rattle.dense.proofs.Laws as laws
 
@@ -31,7 +32,7 @@ unfolding vec rect
 returns c =
     let w = c .before .loop in
     let a = c .before .before .before .before .args in
-    laws.vec-row (λ i. 0ᶠ) (a .m * a .m) (a .p .now) (w .p) (omega (arith, c .before .before .sized .ensures)) (laws.row-end _ _ _ (w .inv .3) (omega arith) (omega arith)) ∙ sym (laws.zeros-tab _ 0)
+    laws.vec-row (λ i. 0ᶠ) (a .m * a .m) (a .p .now) (w .p) (omega (arith, c .before .before .sized .ensures)) (laws.row-end _ _ _ (w .inv .3) (omega arith) (omega arith)) ∙ sym (replicate-tab _ 0 0ᶠ)
 
 pub clear-spec : {M : Type 1} → statement M
 clear-spec = tie.close (tie.spec Inv-loop μ-loop sized-requires mul-k-end loop-holds (λ c. omega arith) (λ c. omega arith) (λ c. omega arith) (λ c. omega arith) loop-again returns)
