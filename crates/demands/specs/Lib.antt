@@ -16,7 +16,8 @@ pub mod StretchValues
 pub mod StretchUnheard
 pub mod StretchCall
 pub mod Stretches
--- what is not mirrored on the way back
-pub mod Unmirrored
 -- tables that ignore the offsets too
 pub mod Offsets
+-- what is mirrored, and what is not
+pub mod Mirrored
+pub mod Unmirrored

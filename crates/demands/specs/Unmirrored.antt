@@ -1,13 +1,15 @@
--- Request l of document 02: what of the way back is not its own mirror image to the bit, so that one half of it does not give the other. One theorem, by
--- computation; what is mirrored is in laws Transposes. Nearly all turns on one rounding: a third of 3, times 7, is 7; a third of 7, times 3, is less.
+-- Request l of document 02: what of the way back, or of the start that it reads, is not its own mirror image to the bit, so that one half of it does not
+-- give the other. One theorem, by computation; what is mirrored is in Mirrored. Nearly all turns on one rounding: a third of 3, times 7, is 7; a third
+-- of 7, times 3, is less.
 use mathlib.Core.Bool.{Bool, true, false, not, _&&_}
 use mathlib.Core.List.{List, [], _∷_}
 use lib.Dec.{T}
-use lib.Ieee.{Float}
+use lib.Ieee.{Float, neg}
 use Rattle.definition.specs.Num.{_⊘_, 0ᶠ, 1ᶠ, zeros}
 use Rattle.definition.specs.Dense.{transposed, quad}
 use Rattle.definition.specs.Cov.{usual, diffuse}
 use Rattle.definition.specs.Smooth.{backN, between, noNs}
+use Rattle.definition.specs.Refusals.{startShape}
 use Rattle.definition.specs.Computed.{num, bits, same, opened}
 
 abbrev third : Float
@@ -40,6 +42,10 @@ stepped = let t = num 3 ∷ num 7 ∷ 0ᶠ ∷ 0ᶠ ∷ [] in quad 2 t n t
 abbrev taken-off : List Float
 taken-off = let p = num 3 ∷ num 7 ∷ num 7 ∷ 0ᶠ ∷ [] in between 2 p n p
 
+-- P* at place 0 with zeros of both signs across from each other: mirrored as numbers, so refusal 7 lets it through
+abbrev start : List Float
+start = 1ᶠ ∷ neg 0ᶠ ∷ 0ᶠ ∷ 1ᶠ ∷ []
+
 -- each beside its transpose; and the transpose of (A N) B beside (B' N') A', of 1 by 1
 abbrev rows : List (List Float × List Float)
 rows =
@@ -48,6 +54,7 @@ rows =
     ∷ (n2, transposed 2 n2)
     ∷ (stepped, transposed 2 stepped)
     ∷ (taken-off, transposed 2 taken-off)
+    ∷ (start, transposed 2 start)
     ∷ (transposed 1 (between 1 (num 3 ∷ []) (third ∷ []) (num 7 ∷ [])), between 1 (num 7 ∷ []) (third ∷ []) (num 3 ∷ []))
     ∷ []
 
@@ -55,6 +62,6 @@ abbrev all-differ : List (List Float × List Float) → Bool
 all-differ [] = true
 all-differ (r ∷ rs) = not (same (bits (r .0)) (bits (r .1))) && all-differ rs
 
-pub unmirrored : T (all-differ rows)
+pub unmirrored : T (all-differ rows && not (startShape 2 start (0 ∷ 0 ∷ []) (zeros 2)))
 unfolding opened
 unmirrored = tt
