@@ -15,7 +15,7 @@ use Rattle.definition.specs.Mean.{Frame}
 use Rattle.definition.specs.Smooth.{Ns, backV, backCovOf, backCov, smoothCov}
 use Rattle.definition.specs.Inputs.{Model, Class, isFlagged, startInfAt, startInf, startFrom, startOf, systemFrom, systemOf, frameFrom, frameOf, gapRows}
 use Rattle.definition.specs.Outcome.{covOf}
-use Rattle.laws.specs.All.{AllOf}
+use Rattle.laws.specs.All.{AllOf, all-true, scan-all}
 use Rattle.laws.specs.Lists.{replicate-tab}
 use Rattle.laws.specs.Transposes.{symmetrise-twice, symmetrise-mirrored, symmetrise-diagonal}
 
@@ -34,7 +34,7 @@ infs r = map (λ c. c .predInf) (r .0) ++ (r .1 .pinf ∷ [])
 pub record MirroredRun (x : Model) (ks : List Class) : Type 0 where
   pub star : AllOf (Mirrored (x .m)) (drop 1 (stars (covOf x ks)))
   pub inf : AllOf (Mirrored (x .m)) (infs (covOf x ks))
-  pub filtered : AllOf (Mirrored (x .m)) (map (λ c. c .filt) (covOf x ks .0))
+  pub filtered : AllOf (λ c. Mirrored (x .m) (c .filt)) (covOf x ks .0)
   pub smoothed : AllOf (Mirrored (x .m)) (smoothCov (frameOf x) (covOf x ks .0))
 
 -- ---- what stays as it is when it is symmetrised
@@ -76,10 +76,9 @@ module _ (y : System) where
   run-infs [] t c h = (h, tt)
   run-infs (g ∷ gs) t c h = (taken-up (y .m) (isLive (y .m) (c .live) (c .pinf)) (c .pinf) h, run-infs gs (suc t) (period y t c g .1) (left (y .m) _))
 
-  run-filtered : (gs : List (List Bool)) (t : ℕ) (c : Cov) → AllOf (Mirrored (y .m)) (map (λ c. c .filt) (covRun y t c gs .0))
-  unfolding covRun scan periodOf ended
-  run-filtered [] t c = tt
-  run-filtered (g ∷ gs) t c = (left (y .m) _, run-filtered gs (suc t) (period y t c g .1))
+  run-filtered : (gs : List (List Bool)) (t : ℕ) (c : Cov) → AllOf (λ c. Mirrored (y .m) (c .filt)) (covRun y t c gs .0)
+  unfolding covRun periodOf ended
+  run-filtered gs t c = scan-all (period y) (λ g. Unit {0}) (λ c. Mirrored (y .m) (c .filt)) (λ t c g u. left (y .m) _) gs t c (all-true gs)
 
 -- ---- and back
 
