@@ -1,5 +1,7 @@
-// The proved kernels against the same plain loops in Rust, on the same inputs in one run: the bits of every result (all NaNs as one), then
-// nanoseconds a call and their ratio. And document 02's request l: two ways to a matrix, by the proved kernels and by plain loops, give one.
+// The proved kernels against the same plain loops in Rust, on the same inputs in one run: the bits of every result (all NaNs as one) and, of the kernels
+// that tell it, the word whether all of it is finite; then nanoseconds a call and their ratio. And document 02's request l: two ways to a matrix, by the
+// proved kernels and by plain loops, give one.
+use std::collections::BTreeMap;
 use std::hint::black_box;
 use std::num::FpCategory;
 use std::time::Instant;
@@ -9,10 +11,12 @@ type M = [f64; 64];
 
 extern "C" {
     fn leaf_dot(a: &V, b: &V, m: usize) -> f64;
-    fn leaf_mat_vec(a: &M, x: &V, m: usize, out: &mut V);
+    fn leaf_axpy(y: &mut V, s: f64, x: &V, m: usize) -> bool;
+    fn leaf_mat_vec(a: &M, x: &V, m: usize, out: &mut V) -> bool;
     fn leaf_mat_t_vec(a: &M, x: &V, m: usize, out: &mut V);
-    fn leaf_outer_sub(p: &mut M, a: &V, b: &V, m: usize);
-    fn leaf_product(a: &M, b: &M, m: usize, out: &mut M);
+    fn leaf_outer_sub(p: &mut M, a: &V, b: &V, m: usize) -> bool;
+    fn leaf_product(a: &M, b: &M, m: usize, out: &mut M) -> bool;
+    fn leaf_product_by(way: u8, a: &M, b: &M, m: usize, out: &mut M) -> bool;
     fn leaf_sandwich(t: &M, p: &M, m: usize, out: &mut M);
     fn leaf_abs_quad_form(z: &V, a: &M, m: usize) -> f64;
     fn leaf_frob_sq(a: &M, m: usize) -> f64;
@@ -33,6 +37,12 @@ mod plain {
             s += a[i] * b[i];
         }
         s
+    }
+
+    pub fn axpy(y: &mut V, s: f64, x: &V, m: usize) {
+        for i in 0..m {
+            y[i] += s * x[i];
+        }
     }
 
     pub fn mat_t_vec(a: &M, x: &V, m: usize) -> V {
@@ -167,6 +177,11 @@ mod plain {
             }
         }
     }
+
+    // Document 02's request h: the word on a result, by its bits.
+    pub fn finite(x: &[f64]) -> bool {
+        x.iter().all(|v| v.to_bits() << 1 < 0x7ff << 53)
+    }
 }
 
 // The same by the same calling convention, and never inlined: what is timed on both sides is one call.
@@ -179,10 +194,21 @@ extern "C" fn rust_dot(a: &V, b: &V, m: usize) -> f64 {
 }
 
 #[inline(never)]
-extern "C" fn rust_mat_vec(a: &M, x: &V, m: usize, out: &mut V) {
-    if m <= 8 {
-        *out = plain::mat_vec(a, x, m);
+extern "C" fn rust_axpy(y: &mut V, s: f64, x: &V, m: usize) -> bool {
+    if m > 8 {
+        return false;
     }
+    plain::axpy(y, s, x, m);
+    plain::finite(&y[..m])
+}
+
+#[inline(never)]
+extern "C" fn rust_mat_vec(a: &M, x: &V, m: usize, out: &mut V) -> bool {
+    if m > 8 {
+        return false;
+    }
+    *out = plain::mat_vec(a, x, m);
+    plain::finite(&out[..m])
 }
 
 #[inline(never)]
@@ -193,17 +219,31 @@ extern "C" fn rust_mat_t_vec(a: &M, x: &V, m: usize, out: &mut V) {
 }
 
 #[inline(never)]
-extern "C" fn rust_outer_sub(p: &mut M, a: &V, b: &V, m: usize) {
-    if m <= 8 {
-        plain::outer_sub(p, a, b, m);
+extern "C" fn rust_outer_sub(p: &mut M, a: &V, b: &V, m: usize) -> bool {
+    if m > 8 {
+        return false;
     }
+    plain::outer_sub(p, a, b, m);
+    plain::finite(&p[..m * m])
 }
 
 #[inline(never)]
-extern "C" fn rust_product(a: &M, b: &M, m: usize, out: &mut M) {
-    if m <= 8 {
-        *out = plain::product(a, b, m);
+extern "C" fn rust_product(a: &M, b: &M, m: usize, out: &mut M) -> bool {
+    if m > 8 {
+        return false;
     }
+    *out = plain::product(a, b, m);
+    plain::finite(&out[..m * m])
+}
+
+// A B', A' B, A B and A' B: these are compared, and not timed.
+extern "C" fn rust_product_by(way: u8, a: &M, b: &M, m: usize, out: &mut M) -> bool {
+    *out = match way {
+        0 => plain::rect_product(a, &plain::transpose(b, m, m), m, m, m),
+        2 => plain::rect_product(a, b, m, m, m),
+        _ => plain::rect_product(&plain::transpose(a, m, m), b, m, m, m),
+    };
+    plain::finite(&out[..m * m])
 }
 
 #[inline(never)]
@@ -249,12 +289,15 @@ struct Inputs {
     b: M,
     x: V,
     y: V,
+    s: f64,
 }
 
+// `word`: whether all results are finite, of a leaf that tells it.
 struct Outputs {
     m: M,
     v: V,
     s: f64,
+    word: Option<bool>,
 }
 
 // A leaf as a pointer, by its parameters. The proved one and the plain one are called from the same place in the same way.
@@ -264,10 +307,14 @@ enum Leaf {
     Norm(unsafe extern "C" fn(&M, usize) -> f64),
     Form(unsafe extern "C" fn(&V, &M, usize) -> f64),
     Vector(unsafe extern "C" fn(&M, &V, usize, &mut V)),
-    Product(unsafe extern "C" fn(&M, &M, usize, &mut M)),
-    Rank(unsafe extern "C" fn(&mut M, &V, &V, usize)),
+    Triple(unsafe extern "C" fn(&M, &M, usize, &mut M)),
     Mirror(unsafe extern "C" fn(&mut M, usize)),
     Sum(unsafe extern "C" fn(&mut M, &M, usize)),
+    Axpy(unsafe extern "C" fn(&mut V, f64, &V, usize) -> bool),
+    ToldVector(unsafe extern "C" fn(&M, &V, usize, &mut V) -> bool),
+    Product(unsafe extern "C" fn(&M, &M, usize, &mut M) -> bool),
+    ProductBy(unsafe extern "C" fn(u8, &M, &M, usize, &mut M) -> bool, u8),
+    Rank(unsafe extern "C" fn(&mut M, &V, &V, usize) -> bool),
 }
 
 impl Leaf {
@@ -278,26 +325,39 @@ impl Leaf {
                 Leaf::Norm(f) => o.s = f(&i.a, m),
                 Leaf::Form(f) => o.s = f(&i.x, &i.a, m),
                 Leaf::Vector(f) => f(&i.a, &i.x, m, &mut o.v),
-                Leaf::Product(f) => f(&i.a, &i.b, m, &mut o.m),
-                Leaf::Rank(f) => f(&mut o.m, &i.x, &i.y, m),
+                Leaf::Triple(f) => f(&i.a, &i.b, m, &mut o.m),
                 Leaf::Mirror(f) => f(&mut o.m, m),
                 Leaf::Sum(f) => f(&mut o.m, &i.a, m),
+                Leaf::Axpy(f) => o.word = Some(f(&mut o.v, i.s, &i.x, m)),
+                Leaf::ToldVector(f) => o.word = Some(f(&i.a, &i.x, m, &mut o.v)),
+                Leaf::Product(f) => o.word = Some(f(&i.a, &i.b, m, &mut o.m)),
+                Leaf::ProductBy(f, way) => o.word = Some(f(way, &i.a, &i.b, m, &mut o.m)),
+                Leaf::Rank(f) => o.word = Some(f(&mut o.m, &i.x, &i.y, m)),
             }
         }
     }
 }
 
-const LEAVES: [(&str, Leaf, Leaf); 10] = [
+const LEAVES: [(&str, Leaf, Leaf); 11] = [
     ("product", Leaf::Product(leaf_product), Leaf::Product(rust_product)),
-    ("sandwich", Leaf::Product(leaf_sandwich), Leaf::Product(rust_sandwich)),
-    ("mat_vec", Leaf::Vector(leaf_mat_vec), Leaf::Vector(rust_mat_vec)),
+    ("sandwich", Leaf::Triple(leaf_sandwich), Leaf::Triple(rust_sandwich)),
+    ("mat_vec", Leaf::ToldVector(leaf_mat_vec), Leaf::ToldVector(rust_mat_vec)),
     ("outer_sub", Leaf::Rank(leaf_outer_sub), Leaf::Rank(rust_outer_sub)),
+    ("axpy", Leaf::Axpy(leaf_axpy), Leaf::Axpy(rust_axpy)),
     ("abs_quad_form", Leaf::Form(leaf_abs_quad_form), Leaf::Form(rust_abs_quad_form)),
     ("mat_t_vec", Leaf::Vector(leaf_mat_t_vec), Leaf::Vector(rust_mat_t_vec)),
     ("dot", Leaf::Dot(leaf_dot), Leaf::Dot(rust_dot)),
     ("frob_sq", Leaf::Norm(leaf_frob_sq), Leaf::Norm(rust_frob_sq)),
     ("symmetrize", Leaf::Mirror(leaf_symmetrize), Leaf::Mirror(rust_symmetrize)),
     ("add", Leaf::Sum(leaf_add), Leaf::Sum(rust_add)),
+];
+
+// The other ways to a product.
+const PRODUCTS: [(&str, Leaf, Leaf); 4] = [
+    ("product_t", Leaf::ProductBy(leaf_product_by, 0), Leaf::ProductBy(rust_product_by, 0)),
+    ("t_product", Leaf::ProductBy(leaf_product_by, 1), Leaf::ProductBy(rust_product_by, 1)),
+    ("mul", Leaf::ProductBy(leaf_product_by, 2), Leaf::ProductBy(rust_product_by, 2)),
+    ("t_mul", Leaf::ProductBy(leaf_product_by, 3), Leaf::ProductBy(rust_product_by, 3)),
 ];
 
 // A fixed sequence: splitmix64.
@@ -345,22 +405,54 @@ impl Random {
         }
     }
 
+    // a magnitude of a product that is near the largest double, so that sums overflow or do not; a zero now and then
+    fn large(&mut self) -> f64 {
+        self.tame() * (510.0 + self.tame()).exp2()
+    }
+
+    // subnormal, of either sign
+    fn subnormal(&mut self) -> f64 {
+        f64::from_bits(self.next() & (1 << 63 | ((1 << 52) - 1)))
+    }
+
     fn inputs(&mut self, draw: fn(&mut Random) -> f64) -> Inputs {
         let mut i = Inputs {
             a: [0.0; 64],
             b: [0.0; 64],
             x: [0.0; 8],
             y: [0.0; 8],
+            s: 0.0,
         };
         for v in i.a.iter_mut().chain(i.b.iter_mut()).chain(i.x.iter_mut()).chain(i.y.iter_mut()) {
             *v = draw(self);
+        }
+        i.s = draw(self);
+        i
+    }
+
+    // tame but for one place of a result's size m, in each input: of any bits
+    fn one_wild(&mut self, m: usize) -> Inputs {
+        let mut i = self.inputs(Random::tame);
+        if m > 0 {
+            let (k, l) = (self.next() as usize % (m * m), self.next() as usize % m);
+            match self.next() % 4 {
+                0 => i.a[k] = self.wild(),
+                1 => i.b[k] = self.wild(),
+                2 => i.x[l] = self.wild(),
+                _ => i.y[l] = self.wild(),
+            }
         }
         i
     }
 }
 
 fn outputs(i: &Inputs) -> Outputs {
-    Outputs { m: i.b, v: i.y, s: 0.0 }
+    Outputs {
+        m: i.b,
+        v: i.y,
+        s: 0.0,
+        word: None,
+    }
 }
 
 fn same(x: f64, y: f64) -> bool {
@@ -369,7 +461,7 @@ fn same(x: f64, y: f64) -> bool {
 
 // Only the places in use are promised: m of a vector, m·m of a matrix.
 fn agree(o: &Outputs, p: &Outputs, m: usize) -> bool {
-    (0..m * m).all(|k| same(o.m[k], p.m[k])) && (0..m).all(|k| same(o.v[k], p.v[k])) && same(o.s, p.s)
+    (0..m * m).all(|k| same(o.m[k], p.m[k])) && (0..m).all(|k| same(o.v[k], p.v[k])) && same(o.s, p.s) && o.word == p.word
 }
 
 // The time of a call in a short batch. The least of many counts, so that other work on the machine does not show.
@@ -384,23 +476,60 @@ fn batch(f: Leaf, inputs: &[Inputs], outs: &mut [Outputs], m: usize) -> f64 {
     start.elapsed().as_nanos() as f64 / (8 * inputs.len()) as f64
 }
 
-// 20,000 inputs of any bits, at every size: how many results were compared, and how many differ.
-fn check() -> (u64, u64) {
+// How many results were compared, and how many differ; and of each leaf that tells whether all is finite, at each size, how often it said no and yes.
+#[derive(Default)]
+struct Compared {
+    results: u64,
+    differ: u64,
+    words: BTreeMap<(&'static str, usize), [u64; 2]>,
+}
+
+impl Compared {
+    fn compare(&mut self, (name, proved, plain): (&'static str, Leaf, Leaf), i: &Inputs, m: usize) {
+        let (mut o, mut p) = (outputs(i), outputs(i));
+        proved.call(i, m, &mut o);
+        plain.call(i, m, &mut p);
+        self.results += 1;
+        self.differ += !agree(&o, &p, m) as u64;
+        if let Some(word) = o.word {
+            self.words.entry((name, m)).or_default()[word as usize] += 1;
+        }
+    }
+
+    // Whether each of them said both, but of no entry at all, which is finite.
+    fn both_said(&self) -> bool {
+        self.words.len() == 8 * 9 && self.words.iter().all(|((_, m), said)| said[1] > 0 && (said[0] > 0) == (*m > 0))
+    }
+}
+
+// 20,000 inputs of any bits, at every size from 0 to 8; and for the words 2,000 inputs that are tame but for one place, near the largest double, and
+// subnormal.
+fn check() -> Compared {
     let mut random = Random(1);
-    let (mut compared, mut differ) = (0, 0);
+    let mut all = Compared::default();
     for _ in 0..20_000 {
         let i = random.inputs(Random::wild);
-        for (_, proved, plain) in LEAVES {
-            for m in 1..=8 {
-                let (mut o, mut p) = (outputs(&i), outputs(&i));
-                proved.call(&i, m, &mut o);
-                plain.call(&i, m, &mut p);
-                compared += 1;
-                differ += !agree(&o, &p, m) as u64;
+        for leaf in LEAVES.into_iter().chain(PRODUCTS) {
+            for m in 0..=8 {
+                all.compare(leaf, &i, m);
             }
         }
     }
-    (compared, differ)
+    for _ in 0..2_000 {
+        for m in 0..=8 {
+            let sets = [
+                random.one_wild(m),
+                random.inputs(Random::large),
+                random.inputs(Random::subnormal),
+            ];
+            for i in &sets {
+                for leaf in LEAVES.into_iter().chain(PRODUCTS) {
+                    all.compare(leaf, i, m);
+                }
+            }
+        }
+    }
+    all
 }
 
 // How many matrices were compared, how many differ, and what their entries were.
@@ -488,7 +617,7 @@ fn time() {
 fn main() {
     let word = std::env::args().nth(1);
     if word.as_deref() != Some("time") {
-        let (compared, differ) = check();
+        let all = check();
         let ways = two_ways();
         let kinds: Vec<String> = KINDS
             .iter()
@@ -496,9 +625,11 @@ fn main() {
             .map(|(name, count)| format!("{count} {name}"))
             .collect();
         println!("entries of the matrices made in two ways: {}", kinds.join(", "));
-        print!("{compared} results of the kernels compared with plain loops, {differ} differ; ");
+        let said = |word: usize| all.words.values().map(|said| said[word]).sum::<u64>();
+        print!("{} results of the kernels compared with plain loops, {} differ; ", all.results, all.differ);
+        print!("their words: {} that all is finite, {} that something is not; ", said(1), said(0));
         println!("{} matrices made in two ways, {} differ", ways.compared, ways.differ);
-        if differ + ways.differ > 0 || ways.kinds.contains(&0) {
+        if all.differ + ways.differ > 0 || ways.kinds.contains(&0) || !all.both_said() {
             std::process::exit(1);
         }
     }

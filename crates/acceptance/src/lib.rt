@@ -198,7 +198,7 @@ fn diffusely(
         fresh (mat m (now (unres .entry))) (mat m (now (star .entry))) (mat m (now («p_inf» .entry)))
         (mat m (now (root .entry))) f (now («m_inf» .exit)) r ⌝ }
 {
-    *m_inf = dense::mat_vec(p_inf, z, m);
+    dense::mat_vec(m_inf, p_inf, z, m);
     let g = f_inf(z, m_inf, m);
     let u = dense::mat_t_vec(root, z, m);
     if is_diffuse(z, p_inf, unres, g, dense::dot(&u, &u, m), m) {

@@ -8,10 +8,12 @@ ghost use lib.ListN.{set, length};
 ghost use Rattle.definition.specs.Num.{_⊕_, _⊗_, isZero, tabulate, matrix, zeros, at, ent, sumFrom};
 ghost use Rattle.definition.specs.Dense.{dot, axpy, over, scaled, row, matVec, matTVec, matTVecAt};
 ghost use Rattle.definition.specs.Dense.{outerSub, outerScaled, plus, minus, symmetrise, sqTerm, frobSq, absTerm, absColumn, absQuadForm};
+ghost use Rattle.definition.specs.Refusals.{notFinite};
 ghost use Rattle.dense.specs.Views.{vec, mat, rect};
 ghost use Rattle.dense.specs.Columns.{moreAt, moreKeptAt, columnLess, columnKept, outerMoreAt};
 ghost use Rattle.dense.specs.Pairs.{meanOf, Paired};
 ghost use Rattle.dense.specs.Places.{Within, Cell, Saved};
+ghost use Rattle.dense.specs.Told.{Told};
 
 // What a sum starts from.
 pub const EMPTY: f64 = 0.0;
@@ -42,6 +44,45 @@ pub fn sized_bytes(a: &[u8; 8])
     ensures { λ _. ⌜ length (now (a .entry)) ≡ 8 ⌝ }
 {
     let s: &[u8] = a;
+}
+
+// ---- whether all is finite. A kernel that tells it looks through its result after its loop: the loop stays as it is, and
+// where nobody asks, the compiler leaves the look out.
+
+// Some entry is NaN or an infinity.
+pub fn not_finite(a: &[f64]) -> bool
+    ensures { λ r. ⌜ r ≡ notFinite (now (a .entry)) ⌝ }
+{
+    let mut found = false;
+    for i in 0..a.len() {
+        found = found | !float::is_finite(a[i]);
+    }
+    found
+}
+
+// The same of a vector, of a matrix of r rows and c columns, and of a square one.
+pub fn vector_not_finite(x: &[f64; 8], m: usize) -> bool
+    requires { ⌜ m ≤ 8 ⌝ }
+    ensures { λ r. ⌜ r ≡ notFinite (vec m (now (x .entry))) ⌝ }
+{
+    let all: &[f64] = x;
+    not_finite(&all[0..m])
+}
+
+pub fn rect_not_finite(a: &[f64; 64], r: usize, c: usize) -> bool
+    requires { ⌜ (r ≤ 8) × (c ≤ 8) ⌝ }
+    ensures { λ x. ⌜ x ≡ notFinite (rect r c (now (a .entry))) ⌝ }
+{
+    let all: &[f64] = a;
+    let e = r * c;
+    not_finite(&all[0..e])
+}
+
+pub fn matrix_not_finite(a: &[f64; 64], m: usize) -> bool
+    requires { ⌜ m ≤ 8 ⌝ }
+    ensures { λ r. ⌜ r ≡ notFinite (mat m (now (a .entry))) ⌝ }
+{
+    rect_not_finite(a, m, m)
 }
 
 pub fn nth(x: &[f64; 8], m: usize, i: usize) -> f64
@@ -91,15 +132,16 @@ pub fn dot(a: &[f64; 8], b: &[f64; 8], m: usize) -> f64
     s
 }
 
-// y + s x, in place, nothing left out.
-pub fn axpy(y: &mut [f64; 8], s: f64, x: &[f64; 8], m: usize)
+// y + s x, in place, nothing left out; and whether all of it is finite.
+pub fn axpy(y: &mut [f64; 8], s: f64, x: &[f64; 8], m: usize) -> bool
     requires { ⌜ m ≤ 8 ⌝ }
-    ensures { λ _. ⌜ vec m (now (y .exit)) ≡ axpy m (vec m (now (y .entry))) s (vec m (now (x .entry))) ⌝ }
+    ensures { λ r. ⌜ Told (axpy m (vec m (now (y .entry))) s (vec m (now (x .entry)))) (vec m (now (y .exit))) r ⌝ }
 {
     sized8(y);
     for i in 0..m {
         y[i] = y[i] + s * x[i];
     }
+    !vector_not_finite(y, m)
 }
 
 // Each entry of x times s.
@@ -150,16 +192,16 @@ fn add_column_kept(out: &mut [f64; 8], a: &[f64; 64], x: &[f64; 8], m: usize, j:
     add_column(out, a, x, m, j);
 }
 
-// M x, a column whose multiplier equals 0 left out.
-pub fn mat_vec(a: &[f64; 64], x: &[f64; 8], m: usize) -> [f64; 8]
+// M x, a column whose multiplier equals 0 left out; and whether all of it is finite.
+pub fn mat_vec(out: &mut [f64; 8], a: &[f64; 64], x: &[f64; 8], m: usize) -> bool
     requires { ⌜ m ≤ 8 ⌝ }
-    ensures { λ r. ⌜ vec m r ≡ matVec m (mat m (now (a .entry))) (vec m (now (x .entry))) ⌝ }
+    ensures { λ r. ⌜ Told (matVec m (mat m (now (a .entry))) (vec m (now (x .entry)))) (vec m (now (out .exit))) r ⌝ }
 {
-    let mut out = [0.0; 8];
+    *out = [0.0; 8];
     for j in 0..m {
-        add_column_kept(&mut out, a, x, m, j);
+        add_column_kept(out, a, x, m, j);
     }
-    out
+    !vector_not_finite(out, m)
 }
 
 // Column j of P less a b_j.
@@ -187,15 +229,16 @@ fn sub_column_kept(p: &mut [f64; 64], a: &[f64; 8], b: &[f64; 8], m: usize, j: u
     sub_column(p, a, b, m, j);
 }
 
-// P - a b', a column whose multiplier equals 0 left out.
-pub fn outer_sub(p: &mut [f64; 64], a: &[f64; 8], b: &[f64; 8], m: usize)
+// P - a b', a column whose multiplier equals 0 left out; and whether all of it is finite.
+pub fn outer_sub(p: &mut [f64; 64], a: &[f64; 8], b: &[f64; 8], m: usize) -> bool
     requires { ⌜ m ≤ 8 ⌝ }
-    ensures { λ _. ⌜ mat m (now (p .exit)) ≡ outerSub m (mat m (now (p .entry))) (vec m (now (a .entry))) (vec m (now (b .entry))) ⌝ }
+    ensures { λ r. ⌜ Told (outerSub m (mat m (now (p .entry))) (vec m (now (a .entry))) (vec m (now (b .entry)))) (mat m (now (p .exit))) r ⌝ }
 {
     sized(p);
     for j in 0..m {
         sub_column_kept(p, a, b, m, j);
     }
+    !matrix_not_finite(p, m)
 }
 
 // P + a b', in place, nothing left out.

@@ -37,7 +37,8 @@ fn root_less(root: &mut [f64; 64], z: &[f64; 8], m: usize)
     ensures { λ _. ⌜ mat m (now (root .exit)) ≡ rootLess m (vec m (now (z .entry))) (mat m (now (root .entry))) ⌝ }
 {
     let u = dense::mat_t_vec(root, z, m);
-    let bu = dense::mat_vec(root, &u, m);
+    let mut bu = [0.0; 8];
+    dense::mat_vec(&mut bu, root, &u, m);
     let g = dense::over(&u, dense::dot(&u, &u, m), m);
     dense::outer_sub(root, &bu, &g, m);
 }
@@ -266,7 +267,8 @@ pub fn element(
     }
     let z = dense::row_to_vec(design, p, m, i);
     let h = dense::get(hs, p, i, i);
-    let m_star = dense::mat_vec(star, &z, m);
+    let mut m_star = [0.0; 8];
+    dense::mat_vec(&mut m_star, star, &z, m);
     let f = acceptance::f_star(&z, h, &m_star, m);
     let mut m_inf = [0.0; 8];
     let d = acceptance::judge(
@@ -336,7 +338,8 @@ pub fn element_by_root(
     }
     let z = dense::row_to_vec(design, p, m, i);
     let h = dense::get(hs, p, i, i);
-    let m_star = dense::mat_vec(star, &z, m);
+    let mut m_star = [0.0; 8];
+    dense::mat_vec(&mut m_star, star, &z, m);
     let f = acceptance::f_star(&z, h, &m_star, m);
     let asked = acceptance::is_usual(root, &z, h, pre, sd, star, f, m);
     let root = asked.root;

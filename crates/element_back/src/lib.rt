@@ -129,7 +129,8 @@ fn usual_n1(n1: &mut [f64; 64], live: bool, l: &[f64; 64], m: usize)
         (mat m (now (n1 .entry))) ⌝ }
 {
     if live {
-        let x = products::product(n1, l, m, m, m);
+        let mut x = [0.0; 64];
+        products::product_into(&mut x, n1, l, m, m, m);
         *n1 = x;
     }
 }

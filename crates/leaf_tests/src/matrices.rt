@@ -20,9 +20,12 @@ fn products(a: &[f64; 64], b: &[f64; 64], r: usize, k: usize, c: usize, group: &
     requires { ⌜ Sizes r k c ⌝ }
 {
     let n = cells(r, c);
-    let p = products::product(a, b, r, k, c);
-    let q = products::product_t(a, b, r, k, c);
-    let t = products::t_product(a, b, r, k, c);
+    let mut p = [0.0; 64];
+    products::product_into(&mut p, a, b, r, k, c);
+    let mut q = [0.0; 64];
+    products::product_t_into(&mut q, a, b, r, k, c);
+    let mut t = [0.0; 64];
+    products::t_product_into(&mut t, a, b, r, k, c);
     wrapping_add_u64(
         apart64(&p, n, group, 1168),
         wrapping_add_u64(apart64(&q, n, group, 1680), apart64(&t, n, group, 2192)),

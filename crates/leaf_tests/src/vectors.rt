@@ -25,7 +25,8 @@ fn scaling(x: &[f64; 8], y: &[f64; 8], s: f64, m: usize, group: &[u8; 8616]) -> 
 fn by_matrix(a: &[f64; 64], x: &[f64; 8], m: usize, group: &[u8; 8616]) -> u64
     requires { ⌜ m ≤ 8 ⌝ }
 {
-    let p = dense::mat_vec(a, x, m);
+    let mut p = [0.0; 8];
+    dense::mat_vec(&mut p, a, x, m);
     let q = dense::mat_t_vec(a, x, m);
     wrapping_add_u64(apart8(&p, m, group, 8016), apart8(&q, m, group, 8080))
 }

@@ -1,4 +1,5 @@
-// The leaves by the C calling convention, for timing and for comparisons at scale. A size above 8 does nothing.
+// The leaves by the C calling convention, for timing and for comparisons at scale. A size above 8 does nothing, and answers 0 or false. The kernels that
+// tell whether all results are finite hand that word out.
 ghost use mathlib.Core.Path.{_≡_};
 ghost use lib.Ieee.{isNan};
 ghost use Rattle.definition.specs.Num.{absOf, max0, isInfinite, isFinite};
@@ -72,10 +73,13 @@ pub extern "C" fn leaf_dot(a: &[f64; 8], b: &[f64; 8], m: usize) -> f64 {
 }
 
 #[no_mangle]
-pub extern "C" fn leaf_mat_vec(a: &[f64; 64], x: &[f64; 8], m: usize, out: &mut [f64; 8]) {
-    if m <= 8 {
-        *out = dense::mat_vec(a, x, m);
-    }
+pub extern "C" fn leaf_axpy(y: &mut [f64; 8], s: f64, x: &[f64; 8], m: usize) -> bool {
+    m <= 8 && dense::axpy(y, s, x, m)
+}
+
+#[no_mangle]
+pub extern "C" fn leaf_mat_vec(a: &[f64; 64], x: &[f64; 8], m: usize, out: &mut [f64; 8]) -> bool {
+    m <= 8 && dense::mat_vec(out, a, x, m)
 }
 
 #[no_mangle]
@@ -86,16 +90,37 @@ pub extern "C" fn leaf_mat_t_vec(a: &[f64; 64], x: &[f64; 8], m: usize, out: &mu
 }
 
 #[no_mangle]
-pub extern "C" fn leaf_outer_sub(p: &mut [f64; 64], a: &[f64; 8], b: &[f64; 8], m: usize) {
-    if m <= 8 {
-        dense::outer_sub(p, a, b, m);
-    }
+pub extern "C" fn leaf_outer_sub(p: &mut [f64; 64], a: &[f64; 8], b: &[f64; 8], m: usize) -> bool {
+    m <= 8 && dense::outer_sub(p, a, b, m)
 }
 
 #[no_mangle]
-pub extern "C" fn leaf_product(a: &[f64; 64], b: &[f64; 64], m: usize, out: &mut [f64; 64]) {
-    if m <= 8 {
-        *out = products::product(a, b, m, m, m);
+pub extern "C" fn leaf_product(
+    a: &[f64; 64],
+    b: &[f64; 64],
+    m: usize,
+    out: &mut [f64; 64],
+) -> bool {
+    m <= 8 && products::product_into(out, a, b, m, m, m)
+}
+
+// The other ways to a product: A B', A' B, and A B and A' B by the square kernels.
+#[no_mangle]
+pub extern "C" fn leaf_product_by(
+    way: u8,
+    a: &[f64; 64],
+    b: &[f64; 64],
+    m: usize,
+    out: &mut [f64; 64],
+) -> bool {
+    if m > 8 {
+        return false;
+    }
+    match way {
+        0 => products::product_t_into(out, a, b, m, m, m),
+        1 => products::t_product_into(out, a, b, m, m, m),
+        2 => products::mul_into(out, a, b, m),
+        _ => products::t_mul_into(out, a, b, m),
     }
 }
 

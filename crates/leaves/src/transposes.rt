@@ -20,11 +20,12 @@ pub fn of_product(
     ensures { λ _. ⌜ (rect c r (now (one .exit)) ≡ transpose r c (product r k c (rect r k (now (a .entry))) (rect k c (now (b .entry)))))
         × (rect c r (now (other .exit)) ≡ rect c r (now (one .exit))) ⌝ }
 {
-    let ab = products::product(a, b, r, k, c);
+    let mut ab = [0.0; 64];
+    products::product_into(&mut ab, a, b, r, k, c);
     *one = products::transpose(&ab, r, c);
     let bt = products::transpose(b, k, c);
     let at = products::transpose(a, r, k);
-    *other = products::product(&bt, &at, c, k, r);
+    products::product_into(other, &bt, &at, c, k, r);
 }
 
 // The same of m by m, by the kernels of the way back.

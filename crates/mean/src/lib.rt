@@ -201,7 +201,8 @@ fn mean_step(a: &mut [f64; 8], tr: &[f64; 64], c: &[f64; 8], m: usize)
     ensures { λ _. ⌜ vec m (now (a .exit)) ≡ meanStep m (mat m (now (tr .entry))) (vec m (now (c .entry)))
         (vec m (now (a .entry))) ⌝ }
 {
-    let mut next = dense::mat_vec(tr, a, m);
+    let mut next = [0.0; 8];
+    dense::mat_vec(&mut next, tr, a, m);
     dense::axpy(&mut next, 1.0, c, m);
     *a = next;
 }

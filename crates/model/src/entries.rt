@@ -7,7 +7,6 @@ ghost use Rattle.definition.specs.Num.{ent};
 ghost use Rattle.definition.specs.Run.{anyOf, anyTo};
 ghost use Rattle.definition.specs.Inputs.{isFlagged, isInfinity, classOf};
 ghost use Rattle.definition.specs.Refusals.{
-  notFinite,
   badSystem,
   badStart,
   negative,
@@ -28,30 +27,24 @@ ghost use Rattle.model.specs.Places.{Square, Row, Place};
 
 // ---- lists
 
-// Some entry is NaN or an infinity.
-pub fn not_finite(a: &[f64]) -> bool
-    ensures { λ r. ⌜ r ≡ notFinite (now (a .entry)) ⌝ }
-{
-    let mut found = false;
-    for i in 0..a.len() {
-        found = found | !float::is_finite(a[i]);
-    }
-    found
-}
-
-// 3: in a design, H, T, R or Q.
+// 3: an entry is NaN or an infinity, in a design, H, T, R or Q.
 pub fn bad_system(z: &[f64], zs: &[f64], h: &[f64], t: &[f64], rr: &[f64], q: &[f64]) -> bool
     ensures { λ r. ⌜ r ≡ badSystem (now (z .entry)) (now (zs .entry)) (now (h .entry)) (now (t .entry))
         (now (rr .entry)) (now (q .entry)) ⌝ }
 {
-    not_finite(z) | not_finite(zs) | not_finite(h) | not_finite(t) | not_finite(rr) | not_finite(q)
+    dense::not_finite(z)
+        | dense::not_finite(zs)
+        | dense::not_finite(h)
+        | dense::not_finite(t)
+        | dense::not_finite(rr)
+        | dense::not_finite(q)
 }
 
-// 6: in c, d, a1 or P*.
+// 6: the same in c, d, a1 or P*.
 pub fn bad_start(c: &[f64], d: &[f64], a1: &[f64], p_star: &[f64]) -> bool
     ensures { λ r. ⌜ r ≡ badStart (now (c .entry)) (now (d .entry)) (now (a1 .entry)) (now («p_star» .entry)) ⌝ }
 {
-    not_finite(c) | not_finite(d) | not_finite(a1) | not_finite(p_star)
+    dense::not_finite(c) | dense::not_finite(d) | dense::not_finite(a1) | dense::not_finite(p_star)
 }
 
 // 9: some reading is infinite. A NaN is a gap, and passes.

@@ -3,7 +3,6 @@
 // first, since what the others require follows from these two (specs/Past).
 ghost use mathlib.Core.Path.{_≡_};
 ghost use mathlib.Core.List.{[], _∷_, map};
-ghost use Prim.Native.Nat.{_≤_};
 ghost use lib.ListN.{length};
 ghost use Rattle.definition.specs.Run.{anyOf};
 ghost use Rattle.definition.specs.Inputs.{isInfinity, classOf, noiseOf};
@@ -188,16 +187,6 @@ pub fn of_step(
     0
 }
 
-// Some entry of a matrix is NaN or an infinity.
-fn matrix_not_finite(a: &[f64; 64], m: usize) -> bool
-    requires { ⌜ m ≤ 8 ⌝ }
-    ensures { λ b. ⌜ b ≡ notFinite (mat m (now (a .entry))) ⌝ }
-{
-    let all: &[f64] = a;
-    let e = m * m;
-    entries::not_finite(&all[0..e])
-}
-
 // R Q R', symmetrised, has a non-finite entry.
 fn bad_noise(rqr: &mut [f64; 64], rr: &[f64], q: &[f64], m: usize, r: usize) -> bool
     requires { ⌜ NoiseGiven m r (now rr) (now q) ⌝ }
@@ -205,5 +194,5 @@ fn bad_noise(rqr: &mut [f64; 64], rr: &[f64], q: &[f64], m: usize, r: usize) -> 
         × (mat m (now (rqr .exit)) ≡ noiseOf m r (now (rr .entry)) (now (q .entry))) ⌝ }
 {
     noise::noise(rqr, rr, q, m, r);
-    matrix_not_finite(rqr, m)
+    dense::matrix_not_finite(rqr, m)
 }

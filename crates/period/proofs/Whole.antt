@@ -5,7 +5,7 @@ use mathlib.Core.Bool.{Bool, true, false}
 use mathlib.Core.List.{List}
 use lib.Ieee.{Float}
 use Rattle.definition.specs.Num.{_>ᶠ_, rank-tol, zeros}
-use Rattle.definition.specs.Dense.{mul, transposed, plus, sandwich, symmetrise, frobSq}
+use Rattle.definition.specs.Dense.{mul, plus, sandwich, symmetrise, frobSq}
 use Rattle.definition.specs.Cov.{Cov, isLive, entered, stepStar, stepInf, stepped}
 
 module _ (m : ℕ) (p : List Float) {live : Bool} where
@@ -25,11 +25,6 @@ module _ (m : ℕ) (p : List Float) where
   pub entered-no : {q : List Float} → q ≡ zeros (m * m) → q ≡ entered m false p
   unfolding entered
   entered-no e = e
-
-module _ (m : ℕ) (t p : List Float) {a c : List Float} where
-  pub by-t : a ≡ mul m t p → c ≡ mul m a (transposed m t) → c ≡ sandwich m t p
-  unfolding sandwich
-  by-t e g = cc
 
 module _ (m : ℕ) (t r p : List Float) {a b c : List Float} where
   pub stepped-star : a ≡ sandwich m t p → b ≡ plus m a r → c ≡ symmetrise m b → c ≡ stepStar m t r p

@@ -7,7 +7,6 @@ ghost use mathlib.Core.Bool.{true, false};
 ghost use Prim.Native.Nat.{_≤_, _<_, _*_};
 ghost use lib.ListN.{take, length};
 ghost use Rattle.definition.specs.Run.{scan};
-ghost use Rattle.definition.specs.Dense.{sandwich};
 ghost use Rattle.definition.specs.Cov.{elementOf, isLive, stepStar, stepInf, stepped};
 ghost use Rattle.laws.specs.Flat.{flatIn};
 ghost use Rattle.dense.specs.Views.{mat};
@@ -398,22 +397,13 @@ pub fn begin(p_inf: &mut [f64; 64], live: bool, m: usize) -> bool
     false
 }
 
-// T P T' as (T P) T', in place. `tp` is room for T P.
-fn step(p: &mut [f64; 64], t: &[f64; 64], tp: &mut [f64; 64], m: usize)
-    requires { ⌜ m ≤ 8 ⌝ }
-    ensures { λ _. ⌜ mat m (now (p .exit)) ≡ sandwich m (mat m (now (t .entry))) (mat m (now (p .entry))) ⌝ }
-{
-    products::mul_into(tp, t, p, m);
-    products::product_t_into(p, tp, t, m, m, m);
-}
-
-// T P* T' + R Q R', symmetrised, in place.
+// T P* T' + R Q R', symmetrised, in place. `tp` is room for T P*.
 fn step_star(star: &mut [f64; 64], t: &[f64; 64], rqr: &[f64; 64], tp: &mut [f64; 64], m: usize)
     requires { ⌜ m ≤ 8 ⌝ }
     ensures { λ _. ⌜ mat m (now (star .exit))
         ≡ stepStar m (mat m (now (t .entry))) (mat m (now (rqr .entry))) (mat m (now (star .entry))) ⌝ }
 {
-    step(star, t, tp, m);
+    products::sandwich_in_place(star, t, tp, m);
     dense::add(star, rqr, m);
     dense::symmetrize_in_place(star, m);
 }
@@ -423,7 +413,7 @@ fn step_inf(p_inf: &mut [f64; 64], t: &[f64; 64], tp: &mut [f64; 64], m: usize)
     requires { ⌜ m ≤ 8 ⌝ }
     ensures { λ _. ⌜ mat m (now («p_inf» .exit)) ≡ stepInf m (mat m (now (t .entry))) (mat m (now («p_inf» .entry))) ⌝ }
 {
-    step(p_inf, t, tp, m);
+    products::sandwich_in_place(p_inf, t, tp, m);
     dense::symmetrize_in_place(p_inf, m);
 }
 
@@ -450,6 +440,6 @@ pub fn go_on(
     if diffuse {
         products::mul_into(&mut tp, t, root, m);
         *root = tp;
-        step(unres, t, &mut tp, m);
+        products::sandwich_in_place(unres, t, &mut tp, m);
     }
 }

@@ -1,10 +1,12 @@
 // dense.rs, a matrix with a matrix: A B, A B', A' B, A', T P T' and A' N B, over the places of crates/dense. Every sum is document 01's.
+// Each product of two also tells whether all of it is finite; the others, and products of three, do not.
 ghost use mathlib.Core.Path.{_≡_};
 ghost use Prim.Native.Nat.{_≤_, _<_};
 ghost use Rattle.definition.specs.Num.{tabulate};
 ghost use Rattle.definition.specs.Dense.{product, productAt, mul, transposed, transpose, sandwich, quad};
 ghost use Rattle.dense.specs.Views.{vec, mat, rect};
 ghost use Rattle.dense.specs.Places.{Sizes, Entry};
+ghost use Rattle.dense.specs.Told.{Told};
 ghost use Rattle.products.specs.Rows.{rowMoreAt};
 
 fn product_at(a: &[f64; 64], b: &[f64; 64], r: usize, k: usize, c: usize, i: usize, j: usize) -> f64
@@ -19,9 +21,16 @@ fn product_at(a: &[f64; 64], b: &[f64; 64], r: usize, k: usize, c: usize, i: usi
 }
 
 // A B, of r rows, k inner places and c columns.
-pub fn product_into(out: &mut [f64; 64], a: &[f64; 64], b: &[f64; 64], r: usize, k: usize, c: usize)
+pub fn product_into(
+    out: &mut [f64; 64],
+    a: &[f64; 64],
+    b: &[f64; 64],
+    r: usize,
+    k: usize,
+    c: usize,
+) -> bool
     requires { ⌜ Sizes r k c ⌝ }
-    ensures { λ _. ⌜ rect r c (now (out .exit)) ≡ product r k c (rect r k (now (a .entry))) (rect k c (now (b .entry))) ⌝ }
+    ensures { λ x. ⌜ Told (product r k c (rect r k (now (a .entry))) (rect k c (now (b .entry)))) (rect r c (now (out .exit))) x ⌝ }
 {
     dense::sized(out);
     for i in 0..r {
@@ -30,15 +39,7 @@ pub fn product_into(out: &mut [f64; 64], a: &[f64; 64], b: &[f64; 64], r: usize,
             dense::set_cell(out, r, c, i, j, v);
         }
     }
-}
-
-pub fn product(a: &[f64; 64], b: &[f64; 64], r: usize, k: usize, c: usize) -> [f64; 64]
-    requires { ⌜ Sizes r k c ⌝ }
-    ensures { λ x. ⌜ rect r c x ≡ product r k c (rect r k (now (a .entry))) (rect k c (now (b .entry))) ⌝ }
-{
-    let mut out = [0.0; 64];
-    product_into(&mut out, a, b, r, k, c);
-    out
+    !dense::rect_not_finite(out, r, c)
 }
 
 fn product_t_at(
@@ -68,9 +69,9 @@ pub fn product_t_into(
     r: usize,
     k: usize,
     c: usize,
-)
+) -> bool
     requires { ⌜ Sizes r k c ⌝ }
-    ensures { λ _. ⌜ rect r c (now (out .exit)) ≡ product r k c (rect r k (now (a .entry))) (transpose c k (rect c k (now (b .entry)))) ⌝ }
+    ensures { λ x. ⌜ Told (product r k c (rect r k (now (a .entry))) (transpose c k (rect c k (now (b .entry))))) (rect r c (now (out .exit))) x ⌝ }
 {
     dense::sized(out);
     for i in 0..r {
@@ -79,15 +80,7 @@ pub fn product_t_into(
             dense::set_cell(out, r, c, i, j, v);
         }
     }
-}
-
-pub fn product_t(a: &[f64; 64], b: &[f64; 64], r: usize, k: usize, c: usize) -> [f64; 64]
-    requires { ⌜ Sizes r k c ⌝ }
-    ensures { λ x. ⌜ rect r c x ≡ product r k c (rect r k (now (a .entry))) (transpose c k (rect c k (now (b .entry)))) ⌝ }
-{
-    let mut out = [0.0; 64];
-    product_t_into(&mut out, a, b, r, k, c);
-    out
+    !dense::rect_not_finite(out, r, c)
 }
 
 fn t_product_at(
@@ -117,9 +110,9 @@ pub fn t_product_into(
     r: usize,
     k: usize,
     c: usize,
-)
+) -> bool
     requires { ⌜ Sizes r k c ⌝ }
-    ensures { λ _. ⌜ rect r c (now (out .exit)) ≡ product r k c (transpose k r (rect k r (now (a .entry)))) (rect k c (now (b .entry))) ⌝ }
+    ensures { λ x. ⌜ Told (product r k c (transpose k r (rect k r (now (a .entry)))) (rect k c (now (b .entry)))) (rect r c (now (out .exit))) x ⌝ }
 {
     dense::sized(out);
     for i in 0..r {
@@ -128,15 +121,7 @@ pub fn t_product_into(
             dense::set_cell(out, r, c, i, j, v);
         }
     }
-}
-
-pub fn t_product(a: &[f64; 64], b: &[f64; 64], r: usize, k: usize, c: usize) -> [f64; 64]
-    requires { ⌜ Sizes r k c ⌝ }
-    ensures { λ x. ⌜ rect r c x ≡ product r k c (transpose k r (rect k r (now (a .entry)))) (rect k c (now (b .entry))) ⌝ }
-{
-    let mut out = [0.0; 64];
-    t_product_into(&mut out, a, b, r, k, c);
-    out
+    !dense::rect_not_finite(out, r, c)
 }
 
 // A', of an A of r rows and c columns.
@@ -218,7 +203,7 @@ fn t_product_rows(out: &mut [f64; 64], a: &[f64; 64], b: &[f64; 64], m: usize)
 }
 
 // A B of m by m. In the frequent sizes the compiler knows the size.
-pub fn mul_into(out: &mut [f64; 64], a: &[f64; 64], b: &[f64; 64], m: usize)
+fn mul_sized(out: &mut [f64; 64], a: &[f64; 64], b: &[f64; 64], m: usize)
     requires { ⌜ m ≤ 8 ⌝ }
     ensures { λ _. ⌜ mat m (now (out .exit)) ≡ mul m (mat m (now (a .entry))) (mat m (now (b .entry))) ⌝ }
 {
@@ -232,7 +217,7 @@ pub fn mul_into(out: &mut [f64; 64], a: &[f64; 64], b: &[f64; 64], m: usize)
 }
 
 // A' B of m by m.
-pub fn t_mul_into(out: &mut [f64; 64], a: &[f64; 64], b: &[f64; 64], m: usize)
+fn t_mul_sized(out: &mut [f64; 64], a: &[f64; 64], b: &[f64; 64], m: usize)
     requires { ⌜ m ≤ 8 ⌝ }
     ensures { λ _. ⌜ mat m (now (out .exit)) ≡ mul m (transposed m (mat m (now (a .entry)))) (mat m (now (b .entry))) ⌝ }
 {
@@ -245,6 +230,24 @@ pub fn t_mul_into(out: &mut [f64; 64], a: &[f64; 64], b: &[f64; 64], m: usize)
     }
 }
 
+// Both, and whether all of it is finite. The look has a short function of its own, which the compiler puts into its caller, and there leaves the look out
+// where nobody asks. In mul_sized, which stands on its own, an empty loop would be left of it.
+pub fn mul_into(out: &mut [f64; 64], a: &[f64; 64], b: &[f64; 64], m: usize) -> bool
+    requires { ⌜ m ≤ 8 ⌝ }
+    ensures { λ r. ⌜ Told (mul m (mat m (now (a .entry))) (mat m (now (b .entry)))) (mat m (now (out .exit))) r ⌝ }
+{
+    mul_sized(out, a, b, m);
+    !dense::matrix_not_finite(out, m)
+}
+
+pub fn t_mul_into(out: &mut [f64; 64], a: &[f64; 64], b: &[f64; 64], m: usize) -> bool
+    requires { ⌜ m ≤ 8 ⌝ }
+    ensures { λ r. ⌜ Told (mul m (transposed m (mat m (now (a .entry)))) (mat m (now (b .entry)))) (mat m (now (out .exit))) r ⌝ }
+{
+    t_mul_sized(out, a, b, m);
+    !dense::matrix_not_finite(out, m)
+}
+
 // T P T', as (T P) T'.
 pub fn sandwich_into(out: &mut [f64; 64], t: &[f64; 64], p: &[f64; 64], m: usize)
     requires { ⌜ m ≤ 8 ⌝ }
@@ -253,6 +256,15 @@ pub fn sandwich_into(out: &mut [f64; 64], t: &[f64; 64], p: &[f64; 64], m: usize
     let mut tp = [0.0; 64];
     product_into(&mut tp, t, p, m, m, m);
     product_t_into(out, &tp, t, m, m, m);
+}
+
+// The same in place. `tp` is room for T P.
+pub fn sandwich_in_place(p: &mut [f64; 64], t: &[f64; 64], tp: &mut [f64; 64], m: usize)
+    requires { ⌜ m ≤ 8 ⌝ }
+    ensures { λ _. ⌜ mat m (now (p .exit)) ≡ sandwich m (mat m (now (t .entry))) (mat m (now (p .entry))) ⌝ }
+{
+    mul_sized(tp, t, p, m);
+    product_t_into(p, tp, t, m, m, m);
 }
 
 pub fn sandwich(t: &[f64; 64], p: &[f64; 64], m: usize) -> [f64; 64]
@@ -270,8 +282,8 @@ pub fn quad_into(out: &mut [f64; 64], a: &[f64; 64], n: &[f64; 64], b: &[f64; 64
     ensures { λ _. ⌜ mat m (now (out .exit)) ≡ quad m (mat m (now (a .entry))) (mat m (now (n .entry))) (mat m (now (b .entry))) ⌝ }
 {
     let mut an = [0.0; 64];
-    t_mul_into(&mut an, a, n, m);
-    mul_into(out, &an, b, m);
+    t_mul_sized(&mut an, a, n, m);
+    mul_sized(out, &an, b, m);
 }
 
 pub fn quad(a: &[f64; 64], n: &[f64; 64], b: &[f64; 64], m: usize) -> [f64; 64]

@@ -6,7 +6,7 @@ use Rattle.cov_back.proofs.step.Statement.{statement}
 use Rattle.cov_back.proofs.step.Tie as tie
 
 returns : tie.Need-returns
-returns c = laws.by-t _ _ _ (c .before .before .before .t-mul-into .ensures) (c .mul-into .ensures)
+returns c = laws.by-t _ _ _ (c .before .before .before .t-mul-into .ensures .result) (c .mul-into .ensures .result)
 
 pub step-spec : {M : Type 1} → statement M
 step-spec = tie.close (tie.spec (λ c κs. search needs) (λ c κs. search needs) returns)

@@ -7,6 +7,7 @@ use Prim.Native.Nat.{_≤_, _-_}
 use lib.Ieee.{Float}
 use Rattle.definition.specs.Num.{_⊕_, _⊗_}
 use Rattle.definition.specs.Dense.{axpy, axpyAt}
+use Rattle.dense.specs.Told.{told}
 use Rattle.dense.proofs.Laws as laws
 
 unfoldable plus-times : Float → Float → Float → Float
@@ -33,8 +34,12 @@ loop-again c =
 returns : tie.Need-returns Inv-loop μ-loop
 unfolding axpy axpyAt plus-times laws.both
 returns c =
-    let w = c .before .loop in
-    laws.both-vec (plus-times (c .before .before .before .before .args .s)) _ _ _ _ (omega (arith, c .before .before .sized8 .ensures)) (laws.row-end _ _ _ (w .inv .1) (w .inv .0) (c .loop-test .left))
+    let end = c .before .before in
+    let w = end .before .loop in
+    let s = end .before .before in
+    told
+    (laws.both-vec (plus-times (s .before .before .args .s)) _ _ _ _ (omega (arith, s .sized8 .ensures)) (laws.row-end _ _ _ (w .inv .1) (w .inv .0) (end .loop-test .left)))
+    (c .vector-not-finite .ensures)
 
 pub axpy-spec : {M : Type 1} → statement M
-axpy-spec = tie.close (tie.spec Inv-loop μ-loop sized8-requires loop-holds (λ c. omega arith) (λ c. omega arith) (λ c. omega arith) (λ c. omega arith) (λ c. omega arith) (λ c. omega arith) (λ c. omega arith) (λ c. omega arith) loop-again returns)
+axpy-spec = tie.close (tie.spec Inv-loop μ-loop sized8-requires loop-holds (λ c. omega arith) (λ c. omega arith) (λ c. omega arith) (λ c. omega arith) (λ c. omega arith) (λ c. omega arith) (λ c. omega arith) (λ c. omega arith) loop-again (λ c κs. c .before .before .before .before .before .pre) returns)

@@ -8,6 +8,7 @@ use Prim.Native.Nat.{_≤_, _-_}
 use Rattle.definition.specs.Num.{matrix}
 use Rattle.dense.specs.Views.{vec, mat}
 use Rattle.dense.specs.Columns.{outerSubTo}
+use Rattle.dense.specs.Told.{told}
 use Rattle.dense.proofs.Laws as laws
 use Rattle.dense.proofs.Columns as cols
 
@@ -27,7 +28,10 @@ loop-again : tie.Need-loop-again Inv-loop μ-loop
 loop-again c = (omega arith, cols.less-next _ _ _ _ (c .before .before .loop-test .taken) _ _ _ (c .before .before .before .loop .inv .1) (c .sub-column-kept .ensures))
 
 returns : tie.Need-returns Inv-loop μ-loop
-returns c = let w = c .before .loop in cols.less-all _ _ _ _ _ (w .inv .1) (w .inv .0) (c .loop-test .left)
+returns c =
+    let end = c .before .before in
+    let w = end .before .loop in
+    told (cols.less-all _ _ _ _ _ (w .inv .1) (w .inv .0) (end .loop-test .left)) (c .matrix-not-finite .ensures)
 
 pub outer-sub-spec : {M : Type 1} → statement M
-outer-sub-spec = tie.close (tie.spec Inv-loop μ-loop sized-requires loop-holds (λ c κs. search needs) (λ c. omega arith) (λ c. omega arith) loop-again returns)
+outer-sub-spec = tie.close (tie.spec Inv-loop μ-loop sized-requires loop-holds (λ c κs. search needs) (λ c. omega arith) (λ c. omega arith) loop-again (λ c κs. search needs) returns)

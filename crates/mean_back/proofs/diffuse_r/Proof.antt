@@ -15,7 +15,7 @@ axpy-requires-2 c κs = c .before .before .before .before .before .before .befor
 returns : tie.Need-returns
 returns c =
     let g = c .before .before .before .before .before .before .before .before .before .before .before .before .before .before .before .before .before .before .before .before .before .before .before .pre in
-    laws.diffuse-r _ _ _ _ _ _ _ _ _ _ _ _ _ _ _ _ _ _ _ (c .before .before .before .before .before .before .before .before .before .before .before .before .before .before .before .before .before .before .before .before .f-one .ensures) (c .before .before .before .before .before .before .before .before .before .before .before .before .before .before .before .before .before .before .before .gain-back .ensures) (loaded-vec _ _ (g .stars) (c .before .before .before .before .before .before .before .before .before .before .before .before .before .before .before .before .before .before .load8 .ensures)) (loaded-vec _ _ (g .infs) (c .before .before .before .before .before .before .before .before .before .before .before .before .before .before .before .before .before .load82 .ensures)) (c .before .before .before .before .before .before .before .before .before .before .before .before .before .before .k-one .ensures) (c .before .before .before .before .before .before .before .before .before .before .before .l-zero-t-vec .ensures) (c .before .before .before .before .before .before .before .before .l-zero-t-vec2 .ensures) (c .before .before .before .before .before .l-one-t-vec .ensures) (c .before .before .axpy .ensures) (c .axpy2 .ensures)
+    laws.diffuse-r _ _ _ _ _ _ _ _ _ _ _ _ _ _ _ _ _ _ _ (c .before .before .before .before .before .before .before .before .before .before .before .before .before .before .before .before .before .before .before .before .f-one .ensures) (c .before .before .before .before .before .before .before .before .before .before .before .before .before .before .before .before .before .before .before .gain-back .ensures) (loaded-vec _ _ (g .stars) (c .before .before .before .before .before .before .before .before .before .before .before .before .before .before .before .before .before .before .load8 .ensures)) (loaded-vec _ _ (g .infs) (c .before .before .before .before .before .before .before .before .before .before .before .before .before .before .before .before .before .load82 .ensures)) (c .before .before .before .before .before .before .before .before .before .before .before .before .before .before .k-one .ensures) (c .before .before .before .before .before .before .before .before .before .before .before .l-zero-t-vec .ensures) (c .before .before .before .before .before .before .before .before .l-zero-t-vec2 .ensures) (c .before .before .before .before .before .l-one-t-vec .ensures) (c .before .before .axpy .ensures .result) (c .axpy2 .ensures .result)
 
 pub diffuse-r-spec : {M : Type 1} → statement M
 diffuse-r-spec = tie.close (tie.spec (λ c κs. search needs) (λ c κs. search needs) (λ c κs. search needs) (λ c κs. search needs) (λ c κs. search needs) (λ c κs. search needs) (λ c κs. search needs) (λ c κs. search needs) axpy-requires axpy-requires-2 returns)

@@ -6,7 +6,7 @@ use Rattle.mean_back.proofs.usual_r.Statement.{statement}
 use Rattle.mean_back.proofs.usual_r.Tie as tie
 
 returns : tie.Need-returns
-returns c = laws.usual-r _ _ _ _ _ _ _ _ _ _ (c .before .before .before .before .before .before .f-one .ensures) (c .before .before .before .before .before .gain-back .ensures) (c .before .before .l-zero-t-vec .ensures) (c .axpy .ensures)
+returns c = laws.usual-r _ _ _ _ _ _ _ _ _ _ (c .before .before .before .before .before .before .f-one .ensures) (c .before .before .before .before .before .gain-back .ensures) (c .before .before .l-zero-t-vec .ensures) (c .axpy .ensures .result)
 
 pub usual-r-spec : {M : Type 1} → statement M
 usual-r-spec = tie.close (tie.spec (λ c κs. search needs) (λ c κs. search needs) (λ c κs. search needs) (λ c κs. search needs) returns)

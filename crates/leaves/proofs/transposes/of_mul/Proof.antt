@@ -8,8 +8,8 @@ use Rattle.leaves.proofs.transposes.of_mul.Tie as tie
 
 returns : tie.Need-returns
 returns c = (
-  rw (c .before .before .before .before .transpose .ensures, c .before .before .before .before .before .before .mul-into .ensures) refl,
-  rw (c .t-mul-into .ensures, c .before .before .before .transpose2 .ensures, c .before .before .before .before .transpose .ensures, c .before .before .before .before .before .before .mul-into .ensures, transpose-product) refl,
+  rw (c .before .before .before .before .transpose .ensures, c .before .before .before .before .before .before .mul-into .ensures .result) refl,
+  rw (c .t-mul-into .ensures .result, c .before .before .before .transpose2 .ensures, c .before .before .before .before .transpose .ensures, c .before .before .before .before .before .before .mul-into .ensures .result, transpose-product) refl,
 )
 
 pub of-mul-spec : {M : Type 1} → statement M

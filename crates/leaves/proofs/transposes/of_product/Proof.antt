@@ -8,8 +8,8 @@ use Rattle.leaves.proofs.transposes.of_product.Tie as tie
 
 returns : tie.Need-returns
 returns c = (
-  rw (c .before .before .before .before .before .transpose .ensures, c .before .before .before .before .before .before .before .product .ensures) refl,
-  rw (c .product2 .ensures, c .before .before .before .before .transpose2 .ensures, c .before .before .before .transpose3 .ensures, c .before .before .before .before .before .transpose .ensures, c .before .before .before .before .before .before .before .product .ensures, transpose-product) refl,
+  rw (c .before .before .before .before .before .before .transpose .ensures, c .before .before .before .before .before .before .before .before .product-into .ensures .result) refl,
+  rw (c .product-into2 .ensures .result, c .before .before .before .before .before .transpose2 .ensures, c .before .before .before .before .transpose3 .ensures, c .before .before .before .before .before .before .transpose .ensures, c .before .before .before .before .before .before .before .before .product-into .ensures .result, transpose-product) refl,
 )
 
 pub of-product-spec : {M : Type 1} → statement M

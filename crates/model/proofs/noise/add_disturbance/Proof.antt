@@ -8,7 +8,7 @@ use Rattle.model.proofs.noise.add_disturbance.Tie as tie
 returns : tie.Need-returns
 returns c =
     let a = c .before .before .before .before .before .before .before .before .before .args in
-    more (a .m) (a .r) (a .l) (a .rr .now) _ _ (a .out .now) _ (a .q) (c .before .before .before .before .before .before .before .before .before .pre .m8) (c .before .before .before .before .before .before .before .column .ensures) (c .before .before .before .before .axpy .ensures) (c .outer-add .ensures)
+    more (a .m) (a .r) (a .l) (a .rr .now) _ _ (a .out .now) _ (a .q) (c .before .before .before .before .before .before .before .before .before .pre .m8) (c .before .before .before .before .before .before .before .column .ensures) (c .before .before .before .before .axpy .ensures .result) (c .outer-add .ensures)
 
 pub add-disturbance-spec : {M : Type 1} → statement M
 add-disturbance-spec = tie.close (tie.spec (λ c κs. search needs) (λ c κs. search needs) (λ c κs. search needs) returns)

@@ -1,6 +1,6 @@
 -- The loop: `found` is whether the test holds of an entry passed.
-use Rattle.model.proofs.entries.not_finite.Statement.{statement}
-use Rattle.model.proofs.entries.not_finite.Tie as tie
+use Rattle.dense.proofs.not_finite.Statement.{statement}
+use Rattle.dense.proofs.not_finite.Tie as tie
 use native.Mathlib.Omega.{arith}
 use Prim.Native.Nat.{_≤_, _-_}
 use mathlib.Core.Path.{_≡_, refl, ap}
