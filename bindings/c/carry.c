@@ -41,7 +41,7 @@ static const double checks[DAYS] = {NAN, 212, NAN, 236.5, 251, NAN, NAN, 288.5, 
 static double pred_mean[(DAYS + 1) * M], pred_cov[(DAYS + 1) * M * M], pred_inf[(DAYS + 1) * M * M], filt_mean[DAYS * M], filt_cov[DAYS * M * M];
 static double v[DAYS * P], f_star[DAYS * P], f_inf[DAYS * P], m_star[DAYS * P * M], m_inf[DAYS * P * M], loglik;
 static uint8_t kinds[DAYS * P];
-static size_t d_diffuse, heard, news;
+static size_t d_diffuse, heard, news, cov_off, mean_off;
 
 static uint32_t run_days(const double *y, size_t n, uint8_t begins, const uint8_t *saved, size_t saved_len, uint8_t last, uint8_t *save)
 {
@@ -52,7 +52,7 @@ static uint32_t run_days(const double *y, size_t n, uint8_t begins, const uint8_
         filt_mean, GOXUNDAR_MEAN_LEN(M, n), filt_cov, GOXUNDAR_COV_LEN(M, n), kinds, GOXUNDAR_RECORD_LEN(P, n),
         v, GOXUNDAR_RECORD_LEN(P, n), f_star, GOXUNDAR_RECORD_LEN(P, n), f_inf, GOXUNDAR_RECORD_LEN(P, n),
         m_star, GOXUNDAR_GAIN_LEN(P, M, n), m_inf, GOXUNDAR_GAIN_LEN(P, M, n), save, last ? 0 : LENGTH,
-        &loglik, &d_diffuse, &heard, &news);
+        &loglik, &d_diffuse, &heard, &news, &cov_off, &mean_off);
 }
 
 /* ---- the file */
@@ -116,6 +116,8 @@ static void print_day(size_t day, size_t t)
         printf("  not known yet\n");
     else
         printf("  offset %7.2f +- %5.2f  rate %6.2f +- %5.2f\n", mean[0], sqrt(cov[0]), mean[1], sqrt(cov[M + 1]));
+    /* Nothing is refused for an overflow, so look in every stretch. The day is told plus 1, since the run began; it is carried with the run. */
+    if (cov_off == day + 1 || mean_off == day + 1) printf("day %lu: numbers ran off: is the model mistyped?\n", (unsigned long)day);
 }
 
 int main(int argc, char **argv)

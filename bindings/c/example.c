@@ -86,7 +86,7 @@ int main(void)
     uint8_t kinds[N * P];
     double v[N * P], f_star[N * P], f_inf[N * P], m_star[N * P * M], m_inf[N * P * M];
     double loglik;
-    size_t d_diffuse, heard, news;
+    size_t d_diffuse, heard, news, cov_off, mean_off;
 
     uint32_t refusal = goxundar_smooth(
         P, M, R, N,
@@ -102,7 +102,7 @@ int main(void)
         f_star, GOXUNDAR_RECORD_LEN(P, N), f_inf, GOXUNDAR_RECORD_LEN(P, N),
         m_star, GOXUNDAR_GAIN_LEN(P, M, N), m_inf, GOXUNDAR_GAIN_LEN(P, M, N),
         sm_mean, GOXUNDAR_MEAN_LEN(M, N), sm_cov, GOXUNDAR_COV_LEN(M, N),
-        &loglik, &d_diffuse, &heard, &news);
+        &loglik, &d_diffuse, &heard, &news, &cov_off, &mean_off);
     if (refusal != GOXUNDAR_ANSWERED) {
         printf("refused: %u\n", (unsigned)refusal); /* goxundar_refusal has the names */
         return 1;
@@ -122,5 +122,8 @@ int main(void)
     }
     printf("heard %u, news %u, periods not settled at their start %u, log-likelihood %.6f\n",
            (unsigned)heard, (unsigned)news, (unsigned)d_diffuse, loglik);
+    /* Nothing is refused for an overflow, so look. 0 is none, else it is the period plus 1. bindings/rust/examples/mistyped.rs has such a model. */
+    if (cov_off) printf("a covariance ran off in period %u: is the model mistyped?\n", (unsigned)(cov_off - 1));
+    if (mean_off) printf("a mean ran off in period %u: is the model mistyped?\n", (unsigned)(mean_off - 1));
     return 0;
 }

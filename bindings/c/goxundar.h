@@ -72,12 +72,32 @@
  *     d_diffuse  how many periods began with some state not settled; they are the first ones
  *     heard      how many readings are not gaps
  *     news       how many readings were used (their kind is not GOXUNDAR_SKIPPED)
+ *     cov_off    the first period in which a covariance ran off, plus 1; 0 for none. See NUMBERS THAT RAN OFF
+ *     mean_off   the first period in which a mean ran off, plus 1; 0 for none
  *
  * A reading can be heard and be no news: it tells only what is known already, as when one radio check arrives on two inputs. It moves nothing.
  *
- * The values of readings reach no covariance, kind, variance or count. Only which of them are gaps does. Nor do a1, c and d reach any of these, or
- * refusal 12: what they can bring about is refusal 2, 6 or 7. So accuracy tables can be drawn up before there is any reading, and before it is known
- * where the states will start: with 0 for each reading that will come, NaN for each gap, and zeros for a1, c and d.
+ * The values of readings reach no covariance, kind, variance or count, nor cov_off. Only which of them are gaps does. Nor do a1, c and d reach any of
+ * these, or refusal 12: what they can bring about is refusal 2, 6 or 7. So accuracy tables can be drawn up before there is any reading, and before it
+ * is known where the states will start: with 0 for each reading that will come, NaN for each gap, and zeros for a1, c and d.
+ *
+ * NUMBERS THAT RAN OFF
+ *
+ * A mistyped model can make numbers overflow: a rate that keeps 0.98 of itself in a period, typed as 98, does so within 80 periods without a reading.
+ * Nothing is refused for it. Infinities and NaNs are carried on like other numbers, and would be seen late. So every answer tells the first period
+ * with a number that is not finite, and that separately of covariances and means:
+ *
+ *     cov_off    in the period's pred_cov, pred_inf or filt_cov
+ *     mean_off   in its pred_mean or filt_mean
+ *
+ * Periods count from 0, and period t is told as t + 1, so that 0 is none. Place n of the predicted parts is no period, and is left out. mean_off may
+ * go by a1, c, d and the values of readings, but not by the value of a reading that was no news.
+ *
+ * The reports go by what these five parts hold, and by nothing else. So they do not tell of
+ *  - a NaN in the diffuse covariance: it ends the diffuse start, and zeros are written in its place;
+ *  - a call that is refused: where numbers overflow so early that no reading is news, that is refusal 12;
+ *  - a reading that is skipped because a number in its test overflows, while the covariance stays finite;
+ *  - the smoothed parts, v, f_star, f_inf, m_star, m_inf and loglik.
  *
  * A RUN IN STRETCHES
  *
@@ -95,23 +115,37 @@
  *  - The saved bytes hold the run, and of the model its sizes p, m and r alone. Hand every stretch the same model; nothing can tell if you do.
  *    a1, p_star and flags are checked in every stretch, and used in the first.
  *  - A list zs is handed over whole each time: its designs count from the run's first period. All stretches together have 4096 periods at most.
- *  - The four places of the answer are since the run began, in every stretch.
+ *  - The six places of the answer are since the run began, in every stretch. cov_off and mean_off count from the run's first period, and what an
+ *    earlier stretch has told stays. Of place n the next stretch tells: it is its first period.
  *  - Place n of the predicted parts is written as by the filter. pred_inf there has not been tested yet, so the next stretch's place 0, which has,
  *    may be 0 where it is not. That one counts.
  *  - Periods that went by without power are gaps: run them, with NaN for each reading.
  *
- * docs/SAVED.md has the bytes one by one, and how to keep them safe. Bytes 28 to 35 are the number of periods done, most significant first.
+ * docs/SAVED.md has the bytes one by one, and how to keep them safe. Bytes 28 to 35 are the number of periods done, most significant first. What the
+ * library of interface 1 has saved is 16 bytes shorter, and is refused with 15.
  *
  * POINTERS
  *
  *  - Where a part's count is 0, its pointer is not followed, and may be null. Otherwise it points to that many elements, aligned for their type.
  *    No check can tell if that is so: it is the one thing that you must see to.
- *  - No output part, and none of the last four places, overlaps any other part or place: save is another array than saved. Inputs may overlap
+ *  - No output part, and none of the last six places, overlaps any other part or place: save is another array than saved. Inputs may overlap
  *    inputs: one array of zeros can be c and a1 at once.
- *  - The last four are not null. On a refusal they stay as they were.
+ *  - The last six are not null. On a refusal they stay as they were.
  *  - The library allocates nothing, keeps nothing between calls, and uses only what is lent. Calls on different outputs may run at the same time.
  *
  * Floating point is to be as C programs start: rounding to nearest, subnormal numbers kept (no -ffast-math in the program that links this).
+ *
+ * AN OLDER HEADER DOES NOT LINK
+ *
+ * When the parameters of the calls change, so does the interface's number, GOXUNDAR_INTERFACE. The library's symbols end in it: goxundar_filter is
+ * goxundar_filter_2 there. Write the plain names: macros of this header put the number behind them, also where you take an address. An object that
+ * was compiled against another interface asks for symbols that are not there, and the linker says so. Without the number it would link, and hand over
+ * too few places: the library would write to wherever the missing ones point. Compile it again with this header.
+ *
+ *     1   its symbols had no number, and its answers four places
+ *     2   cov_off and mean_off, last in every call
+ *
+ * From another language, or by dlsym, ask for the name with the number.
  */
 #ifndef GOXUNDAR_H
 #define GOXUNDAR_H
@@ -122,6 +156,12 @@
 #ifdef __cplusplus
 extern "C" {
 #endif
+
+/* The interface's number, and the calls' symbols, which end in it: an object of another interface must not link. */
+#define GOXUNDAR_INTERFACE 2
+#define goxundar_filter goxundar_filter_2
+#define goxundar_smooth goxundar_smooth_2
+#define goxundar_stretch goxundar_stretch_2
 
 /* The largest p, m and r; the largest n, and count of listed designs. */
 #define GOXUNDAR_MAX_SIZE 8
@@ -135,8 +175,8 @@ extern "C" {
 #define GOXUNDAR_RECORD_LEN(p, n) ((size_t)(n) * (size_t)(p))                       /* kinds, v, f_star, f_inf */
 #define GOXUNDAR_GAIN_LEN(p, m, n) ((size_t)(n) * (size_t)(p) * (size_t)(m))        /* m_star, m_inf */
 
-/* The length of a saved run, exactly: 144 bytes for one state, 2216 for eight. */
-#define GOXUNDAR_SAVED_LEN(m) (104 + 8 * (size_t)(m) + 32 * (size_t)(m) * (size_t)(m))
+/* The length of a saved run, exactly: 160 bytes for one state, 2232 for eight. */
+#define GOXUNDAR_SAVED_LEN(m) (120 + 8 * (size_t)(m) + 32 * (size_t)(m) * (size_t)(m))
 
 /* What a call returns: 0, or the first refusal that applies, in this order: 15 comes before 12, and is given by goxundar_stretch alone.
  * 1 to 11 and 15 write nothing. 12 sets the needed count of every output to 0 (+0.0, and kind 0), and leaves what is beyond it. */
@@ -155,9 +195,9 @@ enum goxundar_refusal {
     GOXUNDAR_MIXED_DRIVEN = 10,     /* t leads from a flagged state into an unflagged one: its entry (unflagged, flagged) is not 0 */
     GOXUNDAR_NON_FINITE_NOISE = 11, /* R * Q * R', symmetrised, has an entry that is not finite: it overflows */
     GOXUNDAR_BAD_SAVED = 15,        /* the run goes on, and saved is not a saved run: its length or a section's count is wrong; it has another p, m or
-                                       r than the call; its periods done and n are above 4096 together; its diffuse periods are above its periods
-                                       done, its heard above p times these, its news above its heard, or its diffuse state not 0 or 1; or it has a
-                                       NaN with other bits than 0x7FF8000000000000. Or the run begins, and saved is not empty */
+                                       r than the call; its periods done and n are above 4096 together; its diffuse periods, cov_off or mean_off are
+                                       above its periods done, its heard above p times these, its news above its heard, or its diffuse state not 0
+                                       or 1; or it has a NaN with other bits than 0x7FF8000000000000. Or the run begins, and saved is not empty */
     GOXUNDAR_NO_INFORMATION = 12    /* there are readings, and none of them is news (goxundar_stretch: judged in the last stretch alone) */
 };
 
@@ -194,7 +234,7 @@ uint32_t goxundar_filter(
     double *f_inf, size_t f_inf_len,
     double *m_star, size_t m_star_len,
     double *m_inf, size_t m_inf_len,
-    double *loglik, size_t *d_diffuse, size_t *heard, size_t *news);
+    double *loglik, size_t *d_diffuse, size_t *heard, size_t *news, size_t *cov_off, size_t *mean_off);
 
 /* The filter, and then the smoother: all that goxundar_filter writes, and the two smoothed parts. */
 uint32_t goxundar_smooth(
@@ -224,7 +264,7 @@ uint32_t goxundar_smooth(
     double *m_inf, size_t m_inf_len,
     double *sm_mean, size_t sm_mean_len,
     double *sm_cov, size_t sm_cov_len,
-    double *loglik, size_t *d_diffuse, size_t *heard, size_t *news);
+    double *loglik, size_t *d_diffuse, size_t *heard, size_t *news, size_t *cov_off, size_t *mean_off);
 
 /* The filter, over a stretch of a run: from its start or from saved bytes, and to its end or to be saved. */
 uint32_t goxundar_stretch(
@@ -254,7 +294,7 @@ uint32_t goxundar_stretch(
     double *m_star, size_t m_star_len,
     double *m_inf, size_t m_inf_len,
     uint8_t *save, size_t save_len,
-    double *loglik, size_t *d_diffuse, size_t *heard, size_t *news);
+    double *loglik, size_t *d_diffuse, size_t *heard, size_t *news, size_t *cov_off, size_t *mean_off);
 
 #ifdef __cplusplus
 }

@@ -1,10 +1,10 @@
-/* test.c: the calls through goxundar.h, against document 01: its bench figures, each part in its place, the refusals, lengths, empty parts; and runs
- * in stretches, against the uncut ones and against document 02's bytes.
+/* test.c: the calls through goxundar.h, against document 01: its bench figures, each part in its place, the refusals, lengths, empty parts; numbers
+ * that ran off; and runs in stretches, against the uncut ones and against document 02's bytes.
  *
  * Every expected value is 01's or 02's, or follows from one of their rules as a comment says. None was taken from the program. Doubles are compared
  * by their bits, all NaNs as one. Each call is made three times, by goxundar_filter, by goxundar_smooth and by goxundar_stretch over the whole run:
- * the others answer and write all that the filter does. What lies beyond the needed count of an output must stay as it was, in every call. It is C99,
- * and C++ too.
+ * the others answer and write all that the filter does. What lies beyond the needed count of an output must stay as it was, in every call; and every
+ * answer's reports are held against the numbers that the call has written. It is C99, and C++ too.
  */
 #include <math.h>
 #include <stdio.h>
@@ -192,7 +192,7 @@ static void whole(void)
 
 static struct answer {
     double loglik;
-    size_t d_diffuse, heard, news;
+    size_t d_diffuse, heard, news, cov_off, mean_off;
 } answer;
 
 enum { MARK = 0xA5 }; /* what each byte of the outputs and of the answer holds before a call */
@@ -223,35 +223,52 @@ static int parts_of(int which)
     return which == SMOOTH ? (int)OUTPUTS : (int)SM_MEAN;
 }
 
+/* The calls by their addresses: the plain names must do for that too. The parameters' types are spelled out, against the header's. The calls with
+ * null parts, below, are made by name. */
+#define SIZES size_t, size_t, size_t, size_t
+#define IN const double *, size_t
+#define OUT double *, size_t
+#define BYTES_IN const uint8_t *, size_t
+#define BYTES_OUT uint8_t *, size_t
+#define GIVEN SIZES, IN, IN, IN, IN, IN, IN, IN, IN, IN, IN, BYTES_IN, IN
+#define LENT OUT, OUT, OUT, OUT, OUT, BYTES_OUT, OUT, OUT, OUT, OUT, OUT
+#define PLACES double *, size_t *, size_t *, size_t *, size_t *, size_t *
+
+static const struct {
+    uint32_t (*filter)(GIVEN, LENT, PLACES);
+    uint32_t (*smooth)(GIVEN, LENT, OUT, OUT, PLACES);
+    uint32_t (*stretch)(GIVEN, uint8_t, BYTES_IN, uint8_t, LENT, BYTES_OUT, PLACES);
+} by_address = {goxundar_filter, &goxundar_smooth, goxundar_stretch};
+
 /* One of the calls, as lent. */
 static uint32_t call(int which, const struct call *k)
 {
     mark_all();
     if (which == FILTER)
-        return goxundar_filter(
+        return by_address.filter(
             k->p, k->m, k->r, k->n, k->z, k->len[Z], k->zs, k->len[ZS], k->h, k->len[H], k->t, k->len[T], k->rr, k->len[RR], k->q, k->len[Q],
             k->c, k->len[C], k->d, k->len[D], k->a1, k->len[A1], k->p_star, k->len[P_STAR], k->flags, k->len[FLAGS], k->y, k->len[Y],
             pred_mean, part[PRED_MEAN].lent, pred_cov, part[PRED_COV].lent, pred_inf, part[PRED_INF].lent,
             filt_mean, part[FILT_MEAN].lent, filt_cov, part[FILT_COV].lent, kinds, part[KINDS].lent,
             v, part[V].lent, f_star, part[F_STAR].lent, f_inf, part[F_INF].lent, m_star, part[M_STAR].lent, m_inf, part[M_INF].lent,
-            &answer.loglik, &answer.d_diffuse, &answer.heard, &answer.news);
+            &answer.loglik, &answer.d_diffuse, &answer.heard, &answer.news, &answer.cov_off, &answer.mean_off);
     if (which == STRETCH)
-        return goxundar_stretch(
+        return by_address.stretch(
             k->p, k->m, k->r, k->n, k->z, k->len[Z], k->zs, k->len[ZS], k->h, k->len[H], k->t, k->len[T], k->rr, k->len[RR], k->q, k->len[Q],
             k->c, k->len[C], k->d, k->len[D], k->a1, k->len[A1], k->p_star, k->len[P_STAR], k->flags, k->len[FLAGS], k->y, k->len[Y],
             stretch.begins, stretch.saved, stretch.saved_len, stretch.last,
             pred_mean, part[PRED_MEAN].lent, pred_cov, part[PRED_COV].lent, pred_inf, part[PRED_INF].lent,
             filt_mean, part[FILT_MEAN].lent, filt_cov, part[FILT_COV].lent, kinds, part[KINDS].lent,
             v, part[V].lent, f_star, part[F_STAR].lent, f_inf, part[F_INF].lent, m_star, part[M_STAR].lent, m_inf, part[M_INF].lent,
-            save, stretch.save_lent, &answer.loglik, &answer.d_diffuse, &answer.heard, &answer.news);
-    return goxundar_smooth(
+            save, stretch.save_lent, &answer.loglik, &answer.d_diffuse, &answer.heard, &answer.news, &answer.cov_off, &answer.mean_off);
+    return by_address.smooth(
         k->p, k->m, k->r, k->n, k->z, k->len[Z], k->zs, k->len[ZS], k->h, k->len[H], k->t, k->len[T], k->rr, k->len[RR], k->q, k->len[Q],
         k->c, k->len[C], k->d, k->len[D], k->a1, k->len[A1], k->p_star, k->len[P_STAR], k->flags, k->len[FLAGS], k->y, k->len[Y],
         pred_mean, part[PRED_MEAN].lent, pred_cov, part[PRED_COV].lent, pred_inf, part[PRED_INF].lent,
         filt_mean, part[FILT_MEAN].lent, filt_cov, part[FILT_COV].lent, kinds, part[KINDS].lent,
         v, part[V].lent, f_star, part[F_STAR].lent, f_inf, part[F_INF].lent, m_star, part[M_STAR].lent, m_inf, part[M_INF].lent,
         sm_mean, part[SM_MEAN].lent, sm_cov, part[SM_COV].lent,
-        &answer.loglik, &answer.d_diffuse, &answer.heard, &answer.news);
+        &answer.loglik, &answer.d_diffuse, &answer.heard, &answer.news, &answer.cov_off, &answer.mean_off);
 }
 
 /* Which bytes a call may have written: none on refusals 1 to 11 and 15, the needed count otherwise; the answer where there is one; the smoothed parts
@@ -271,6 +288,47 @@ static void kept(int which, const struct call *k, uint32_t refusal)
         check(marked(&answer.d_diffuse, 0, sizeof answer.d_diffuse), "a refusal leaves d_diffuse");
         check(marked(&answer.heard, 0, sizeof answer.heard), "a refusal leaves heard");
         check(marked(&answer.news, 0, sizeof answer.news), "a refusal leaves news");
+        check(marked(&answer.cov_off, 0, sizeof answer.cov_off), "a refusal leaves cov_off");
+        check(marked(&answer.mean_off, 0, sizeof answer.mean_off), "a refusal leaves mean_off");
+    }
+}
+
+static uint64_t number_in(const uint8_t *at)
+{
+    uint64_t number = 0;
+    int i;
+    for (i = 0; i < 8; i++) number = number << 8 | at[i];
+    return number;
+}
+
+/* Whether period t of an output, which has that many numbers a period, has one that is not finite. */
+static int off(const double *output, size_t t, size_t numbers)
+{
+    size_t i;
+    for (i = t * numbers; i < (t + 1) * numbers; i++)
+        if (!isfinite(output[i])) return 1;
+    return 0;
+}
+
+/* The reports, by the numbers that were written: the first period of each kind, plus 1. What an earlier stretch has told stays, and what a stretch
+ * tells it saves: the last two numbers of the bytes. */
+static void reports(int which, const struct call *k)
+{
+    size_t m = k->m, length = GOXUNDAR_SAVED_LEN(m), done = 0, cov = 0, mean = 0, t;
+    if (which == STRETCH && !stretch.begins) {
+        done = (size_t)number_in(stretch.saved + 28);
+        cov = (size_t)number_in(stretch.saved + length - 16);
+        mean = (size_t)number_in(stretch.saved + length - 8);
+    }
+    for (t = 0; t < k->n; t++) {
+        if (cov == 0 && (off(pred_cov, t, m * m) || off(pred_inf, t, m * m) || off(filt_cov, t, m * m))) cov = done + t + 1;
+        if (mean == 0 && (off(pred_mean, t, m) || off(filt_mean, t, m))) mean = done + t + 1;
+    }
+    count(answer.cov_off, cov, "cov_off by the numbers written");
+    count(answer.mean_off, mean, "mean_off by the numbers written");
+    if (which == STRETCH && !stretch.last) {
+        count((size_t)number_in(save + length - 16), cov, "cov_off as saved");
+        count((size_t)number_in(save + length - 8), mean, "mean_off as saved");
     }
 }
 
@@ -282,6 +340,7 @@ static void ends(int which, const struct call *k, uint32_t want)
     refusal = call(which, k);
     count(refusal, want, "the refusal");
     kept(which, k, refusal);
+    if (refusal == GOXUNDAR_ANSWERED) reports(which, k);
 }
 
 static void record(size_t at, uint8_t kind, double want_v, double want_f_star, double want_f_inf)
@@ -609,8 +668,23 @@ static void numbers(void)
     figure = "the header's numbers";
     for (i = 0; i < 13; i++) check(in_order[i] == i, "a refusal's number");
     check(GOXUNDAR_BAD_SAVED == 15, "a refusal's number");
-    count(GOXUNDAR_SAVED_LEN(1), 144, "the length of a saved run, m = 1");
-    count(GOXUNDAR_SAVED_LEN(8), 2216, "the length of a saved run, m = 8");
+    count(GOXUNDAR_SAVED_LEN(1), 160, "the length of a saved run, m = 1");
+    count(GOXUNDAR_SAVED_LEN(2), 264, "the length of a saved run, m = 2");
+    count(GOXUNDAR_SAVED_LEN(3), 432, "the length of a saved run, m = 3");
+    count(GOXUNDAR_SAVED_LEN(8), 2232, "the length of a saved run, m = 8");
+}
+
+/* A call's symbol is its plain name and the interface's number: so a header with another number asks for other symbols. */
+#define SPELLED_OUT(name) #name
+#define SPELLED(name) SPELLED_OUT(name)
+#define NUMBERED(name) name "_" SPELLED(GOXUNDAR_INTERFACE)
+
+static void symbols(void)
+{
+    figure = "the calls' symbols";
+    check(strcmp(SPELLED(goxundar_filter), NUMBERED("goxundar_filter")) == 0, "the filter's");
+    check(strcmp(SPELLED(goxundar_smooth), NUMBERED("goxundar_smooth")) == 0, "the smoother's");
+    check(strcmp(SPELLED(goxundar_stretch), NUMBERED("goxundar_stretch")) == 0, "a stretch's");
 }
 
 /* Sizes at and beyond their ends, with counts that are right for nothing. */
@@ -660,6 +734,7 @@ static void lengths(int which)
         part[i].lent = part[i].needed;
         count(call(which, &k), GOXUNDAR_ANSWERED, part[i].name);
         kept(which, &k, GOXUNDAR_ANSWERED);
+        reports(which, &k);
         part[i].lent = part[i].needed - 1;
         count(call(which, &k), GOXUNDAR_LENGTH, part[i].name);
         kept(which, &k, GOXUNDAR_LENGTH);
@@ -697,16 +772,16 @@ static uint32_t all_null(int which, size_t size)
         return goxundar_filter(
             size, size, size, size, NULL, 0, NULL, 0, NULL, 0, NULL, 0, NULL, 0, NULL, 0, NULL, 0, NULL, 0, NULL, 0, NULL, 0, NULL, 0, NULL, 0,
             NULL, 0, NULL, 0, NULL, 0, NULL, 0, NULL, 0, NULL, 0, NULL, 0, NULL, 0, NULL, 0, NULL, 0, NULL, 0,
-            &answer.loglik, &answer.d_diffuse, &answer.heard, &answer.news);
+            &answer.loglik, &answer.d_diffuse, &answer.heard, &answer.news, &answer.cov_off, &answer.mean_off);
     if (which == STRETCH)
         return goxundar_stretch(
             size, size, size, size, NULL, 0, NULL, 0, NULL, 0, NULL, 0, NULL, 0, NULL, 0, NULL, 0, NULL, 0, NULL, 0, NULL, 0, NULL, 0, NULL, 0,
             1, NULL, 0, 1, NULL, 0, NULL, 0, NULL, 0, NULL, 0, NULL, 0, NULL, 0, NULL, 0, NULL, 0, NULL, 0, NULL, 0, NULL, 0, NULL, 0,
-            &answer.loglik, &answer.d_diffuse, &answer.heard, &answer.news);
+            &answer.loglik, &answer.d_diffuse, &answer.heard, &answer.news, &answer.cov_off, &answer.mean_off);
     return goxundar_smooth(
         size, size, size, size, NULL, 0, NULL, 0, NULL, 0, NULL, 0, NULL, 0, NULL, 0, NULL, 0, NULL, 0, NULL, 0, NULL, 0, NULL, 0, NULL, 0,
         NULL, 0, NULL, 0, NULL, 0, NULL, 0, NULL, 0, NULL, 0, NULL, 0, NULL, 0, NULL, 0, NULL, 0, NULL, 0, NULL, 0, NULL, 0,
-        &answer.loglik, &answer.d_diffuse, &answer.heard, &answer.news);
+        &answer.loglik, &answer.d_diffuse, &answer.heard, &answer.news, &answer.cov_off, &answer.mean_off);
 }
 
 /* Figure A, with a null for the part that is empty: the list of designs, or the constant one. */
@@ -720,9 +795,11 @@ static void null_design(int listed)
         1, 1, 1, 1, listed ? NULL : &one, listed ? 0 : 1, listed ? &one : NULL, listed ? 1 : 0, &one, 1, &one, 1, &one, 1, &two, 1,
         &zero, 1, &zero, 1, &zero, 1, &zero, 1, &flag, 1, &two, 1, /* the inputs share their numbers */
         pred_mean, 2, pred_cov, 2, pred_inf, 2, filt_mean, 1, filt_cov, 1, kinds, 1, v, 1, f_star, 1, f_inf, 1, m_star, 1, m_inf, 1,
-        &answer.loglik, &answer.d_diffuse, &answer.heard, &answer.news);
+        &answer.loglik, &answer.d_diffuse, &answer.heard, &answer.news, &answer.cov_off, &answer.mean_off);
     count(refusal, GOXUNDAR_ANSWERED, "the refusal");
     record(0, GOXUNDAR_DIFFUSE, 2, 1, 1);
+    count(answer.cov_off, 0, "cov_off");
+    count(answer.mean_off, 0, "mean_off");
 }
 
 static void nulls(int which)
@@ -740,6 +817,138 @@ static void nulls(int which)
     figure = "null for an empty part";
     null_design(0);
     null_design(1);
+}
+
+/* ---- numbers that ran off */
+
+static void off_is(size_t cov, size_t mean)
+{
+    count(answer.cov_off, cov, "cov_off");
+    count(answer.mean_off, mean, "mean_off");
+}
+
+/* A known level that grows, with no noise and no reading: in period t its mean is T^t, its covariance T^2t. */
+static void growing(struct call *k, double growth, size_t n)
+{
+    size_t i;
+    plain(k);
+    k->n = n;
+    exact(k);
+    k->t[0] = growth;
+    k->q[0] = 0;
+    k->flags[0] = 0;
+    k->a1[0] = k->p_star[0] = 1;
+    for (i = 0; i < n; i++) k->y[i] = NAN;
+}
+
+static void ran_off(int which)
+{
+    const double large = ldexp(1.5, 1023); /* twice that overflows */
+    static struct call k;
+    size_t n;
+    figure = "numbers that ran off"; /* with T = 2^256 the covariance is 2^1024 in period 2, the mean in period 4: infinite. Place n is left out */
+    for (n = 1; n <= 6; n++) {
+        growing(&k, ldexp(1, 256), n);
+        ends(which, &k, GOXUNDAR_ANSWERED);
+        off_is(n > 2 ? 3 : 0, n > 4 ? 5 : 0);
+        if (n == 2) same(pred_cov[2], INFINITY, "the covariance after the last period");
+        if (n == 4) same(pred_mean[4], INFINITY, "the mean after the last period");
+    }
+
+    figure = "a rate of 98"; /* 98^154 is 10^306.6, 98^155 10^308.6, and doubles end at 10^308.3: so periods 78 and 155 */
+    growing(&k, 98, 160);
+    ends(which, &k, GOXUNDAR_ANSWERED);
+    off_is(79, 156);
+
+    figure = "a diffuse covariance that ran off"; /* it is 2^1024 in period 2; the bounded part and the mean stay 0 */
+    growing(&k, ldexp(1, 256), 3);
+    k.flags[0] = 1;
+    k.a1[0] = k.p_star[0] = 0;
+    ends(which, &k, GOXUNDAR_ANSWERED);
+    off_is(3, 0);
+    same(pred_inf[2], INFINITY, "diffuse covariance");
+    same(filt_cov[2], 0, "filtered covariance");
+
+    /* DIFFERENCES 1: the scale is finite, F* infinite and the reading used. M* is (2^960, inf), so the gain is (0, NaN). */
+    figure = "a filtered covariance that ran off";
+    memset(&k, 0, sizeof k);
+    k.p = k.r = k.n = 1;
+    k.m = 2;
+    exact(&k);
+    k.z[0] = ldexp(1, 40);
+    k.z[1] = ldexp(1, -40);
+    k.t[0] = k.t[3] = 1;
+    k.p_star[1] = k.p_star[2] = ldexp(1, 1000);
+    ends(which, &k, GOXUNDAR_ANSWERED);
+    off_is(1, 1);
+    count(kinds[0], GOXUNDAR_USUAL, "the kind");
+
+    figure = "a filtered mean that ran off"; /* v overflows; half of it is added. The covariance does not go by the reading */
+    one_reading(&k, -large);
+    k.flags[0] = 0;
+    k.a1[0] = large;
+    k.p_star[0] = 1;
+    ends(which, &k, GOXUNDAR_ANSWERED);
+    off_is(0, 1);
+    same(pred_mean[0], large, "predicted mean");
+    same(filt_mean[0], -INFINITY, "filtered mean");
+    k.y[0] = 0;
+    ends(which, &k, GOXUNDAR_ANSWERED);
+    off_is(0, 0);
+
+    figure = "the same, by a reading that is no news"; /* without noise input 0 tells all, and input 1 nothing */
+    two_inputs(&k, large, -large);
+    k.flags[0] = 0;
+    k.a1[0] = large;
+    k.p_star[0] = 1;
+    ends(which, &k, GOXUNDAR_ANSWERED);
+    off_is(0, 0);
+    count(kinds[1], GOXUNDAR_SKIPPED, "input 1");
+    k.y[0] = -large;
+    ends(which, &k, GOXUNDAR_ANSWERED);
+    off_is(0, 1);
+}
+
+/* What the header says is not told. */
+static void left_out(int which)
+{
+    static const double zeros[4] = {0};
+    static struct call k;
+    const double x = ldexp(1, 600);
+    figure = "a NaN that ends the diffuse start"; /* T T' is (inf, NaN; NaN, inf) */
+    memset(&k, 0, sizeof k);
+    k.p = k.r = k.n = 1;
+    k.m = 2;
+    exact(&k);
+    k.t[0] = k.t[2] = k.t[3] = x;
+    k.t[1] = -x;
+    k.flags[0] = k.flags[1] = 1;
+    k.y[0] = k.y[1] = NAN;
+    ends(which, &k, GOXUNDAR_ANSWERED);
+    same(pred_inf[5], NAN, "the diffuse covariance after the last period, not tested");
+    off_is(0, 0);
+    k.n = 2;
+    exact(&k);
+    ends(which, &k, GOXUNDAR_ANSWERED);
+    count(answer.d_diffuse, 1, "d_diffuse");
+    all_same(pred_inf + 4, zeros, 4, "diffuse covariance");
+    off_is(0, 0);
+
+    figure = "an overflow that ends in refusal 12"; /* in period 1 the covariance is infinite, and no reading passes a test */
+    growing(&k, x, 2);
+    k.y[1] = 1;
+    ends(which, &k, GOXUNDAR_NO_INFORMATION);
+
+    figure = "an infinite scale"; /* input 0 halves the covariance; the square of input 1's design, times that, overflows */
+    two_inputs(&k, 1, 1);
+    k.flags[0] = 0;
+    k.z[1] = ldexp(1, 40);
+    k.h[0] = k.p_star[0] = ldexp(1, 1000);
+    ends(which, &k, GOXUNDAR_ANSWERED);
+    count(kinds[0], GOXUNDAR_USUAL, "input 0");
+    count(kinds[1], GOXUNDAR_SKIPPED, "input 1");
+    same(filt_cov[0], ldexp(1, 999), "filtered covariance");
+    off_is(0, 0);
 }
 
 /* ---- runs in stretches */
@@ -817,6 +1026,8 @@ static void answer_is(const struct answer *want)
     count(answer.d_diffuse, want->d_diffuse, "d_diffuse");
     count(answer.heard, want->heard, "heard");
     count(answer.news, want->news, "news");
+    count(answer.cov_off, want->cov_off, "cov_off");
+    count(answer.mean_off, want->mean_off, "mean_off");
 }
 
 /* Cut after each period: the first stretch is the filter over its periods, the second gives the rest of the uncut run. Cut after every period: what
@@ -859,7 +1070,8 @@ static void cut_everywhere(const struct call *k)
     whole();
 }
 
-/* README.md's level; bindings/c/example.c's crystal, with a second design from period 1 on: both inputs read twice the offset. */
+/* README.md's level; bindings/c/example.c's crystal, with a second design from period 1 on: both inputs read twice the offset; and levels that run
+ * off. */
 static void cuts(void)
 {
     static const double z[] = {1, 0, 1, 1, 0, 1, 2, 0, 1, 2, 0, 1}, t[] = {1, 1, 0, 0, 1, 0, 0, 0, 0}, q[] = {0.04, 0.01, 25};
@@ -892,11 +1104,17 @@ static void cuts(void)
     k.flags[0] = k.flags[1] = 1;
     fill(k.y, y, 20);
     cut_everywhere(&k);
+    figure = "a level that runs off, in stretches";
+    growing(&k, ldexp(1, 256), 6);
+    cut_everywhere(&k);
+    k.flags[0] = 1;
+    k.a1[0] = k.p_star[0] = 0;
+    cut_everywhere(&k);
 }
 
 /* The places of a saved run of one state. */
 enum { AT_P = 4, AT_M = 12, AT_R = 20, AT_DONE = 28, AT_MEAN = 40, AT_COV = 52, AT_INF = 64, AT_ROOT = 76, AT_UNRESOLVED = 88, AT_LOGLIK = 100,
-       AT_DIFFUSE = 112, AT_HEARD = 120, AT_NEWS = 128, AT_STATE = 136, ONE_STATE = 144 };
+       AT_DIFFUSE = 112, AT_HEARD = 120, AT_NEWS = 128, AT_STATE = 136, AT_COV_OFF = 144, AT_MEAN_OFF = 152, ONE_STATE = 160 };
 static const size_t at_counts[] = {0, 36, 48, 60, 72, 84, 96, 108};
 static const size_t at_floats[] = {AT_MEAN, AT_COV, AT_INF, AT_ROOT, AT_UNRESOLVED, AT_LOGLIK};
 
@@ -917,7 +1135,7 @@ static uint64_t bits_of(double x)
  * the diffuse part and its root to 0; the matrix with nothing resolved is still 1. The next period's test is to come, so the diffuse state is 1. */
 static void level_after_one(uint8_t *to)
 {
-    static const uint8_t widths[] = {4, 1, 1, 1, 1, 1, 1, 4};
+    static const uint8_t widths[] = {4, 1, 1, 1, 1, 1, 1, 6};
     size_t i;
     memset(to, 0, ONE_STATE);
     for (i = 0; i < 8; i++) to[at_counts[i] + 3] = widths[i];
@@ -1029,6 +1247,80 @@ static void empty_stretches(void)
     ends(STRETCH, &k, GOXUNDAR_ANSWERED);
     same(pred_inf[0], 1, "predicted diffuse covariance");
     ends(FILTER, &k, GOXUNDAR_DIMENSION);
+}
+
+/* The reports count from the run's first period, and what was told stays. The level of 'numbers that ran off' again, in stretches of two periods. */
+static void told_and_carried(void)
+{
+    static const size_t cov[] = {0, 3, 3}, mean[] = {0, 0, 5};
+    static struct call k;
+    static uint8_t saved[ONE_STATE];
+    size_t i;
+    figure = "reports in stretches";
+    growing(&k, ldexp(1, 256), 2);
+    for (i = 0; i < 3; i++) {
+        if (i == 0)
+            begins(&k);
+        else
+            goes_on(&k, saved);
+        ends(STRETCH, &k, GOXUNDAR_ANSWERED);
+        off_is(cov[i], mean[i]);
+        check(number_in(save + AT_COV_OFF) == cov[i] && number_in(save + AT_MEAN_OFF) == mean[i], "the reports saved");
+        memcpy(saved, save, ONE_STATE);
+    }
+    k.n = 0; /* nothing more, and then the end */
+    exact(&k);
+    goes_on(&k, saved);
+    ends(STRETCH, &k, GOXUNDAR_ANSWERED);
+    off_is(3, 5);
+    check(memcmp(save, saved, ONE_STATE) == 0, "loading then saving gives the same bytes");
+    stretch.last = 1;
+    ends(STRETCH, &k, GOXUNDAR_ANSWERED);
+    off_is(3, 5);
+
+    figure = "reports that were told before"; /* the numbers are finite: only the bytes know */
+    one_reading(&k, 6);
+    level_after_one(saved);
+    put(saved + AT_COV_OFF, 1);
+    goes_on(&k, saved);
+    ends(STRETCH, &k, GOXUNDAR_ANSWERED);
+    off_is(1, 0);
+    level_after_one(saved);
+    put(saved + AT_MEAN_OFF, 1);
+    ends(STRETCH, &k, GOXUNDAR_ANSWERED);
+    off_is(0, 1);
+
+    figure = "a saved number that is not finite"; /* it is the next period's, which is period 1 */
+    one_reading(&k, NAN);
+    level_after_one(saved);
+    put(saved + AT_MEAN, bits_of(-INFINITY));
+    goes_on(&k, saved);
+    ends(STRETCH, &k, GOXUNDAR_ANSWERED);
+    off_is(0, 2);
+    level_after_one(saved);
+    put(saved + AT_COV, 0x7FF8000000000000u);
+    ends(STRETCH, &k, GOXUNDAR_ANSWERED);
+    off_is(2, 0);
+    whole();
+}
+
+/* What the library saved before it had the reports: four tallies, 16 bytes less. It is refused, also where the count was mended. */
+static void saved_before(void)
+{
+    static struct call k;
+    static uint8_t saved[ONE_STATE];
+    figure = "bytes of interface 1";
+    one_reading(&k, 6);
+    level_after_one(saved);
+    saved[at_counts[7] + 3] = 4;
+    goes_on(&k, saved);
+    stretch.saved_len = ONE_STATE - 16;
+    ends(STRETCH, &k, GOXUNDAR_BAD_SAVED);
+    saved[at_counts[7] + 3] = 6;
+    ends(STRETCH, &k, GOXUNDAR_BAD_SAVED);
+    stretch.saved_len = ONE_STATE;
+    ends(STRETCH, &k, GOXUNDAR_ANSWERED);
+    whole();
 }
 
 /* Figure F, cut after its first period. Place 1 holds 2^-18, whose square is below 1e-10: the next stretch tests it, and its place 0 is 0. */
@@ -1223,6 +1515,12 @@ static void bad_saved(void)
     number_at(&k, saved, AT_STATE, 0, GOXUNDAR_ANSWERED);
     number_at(&k, saved, AT_STATE, 2, GOXUNDAR_BAD_SAVED);
     number_at(&k, saved, AT_STATE, 1 + high, GOXUNDAR_BAD_SAVED);
+    number_at(&k, saved, AT_COV_OFF, 5, GOXUNDAR_ANSWERED);
+    number_at(&k, saved, AT_COV_OFF, 6, GOXUNDAR_BAD_SAVED);
+    number_at(&k, saved, AT_COV_OFF, high, GOXUNDAR_BAD_SAVED);
+    number_at(&k, saved, AT_MEAN_OFF, 5, GOXUNDAR_ANSWERED);
+    number_at(&k, saved, AT_MEAN_OFF, 6, GOXUNDAR_BAD_SAVED);
+    number_at(&k, saved, AT_MEAN_OFF, high, GOXUNDAR_BAD_SAVED);
 
     figure = "a saved double";
     for (i = 0; i < 6; i++) {
@@ -1336,7 +1634,7 @@ static void null_saved(void)
             1, 1, 1, 1, &one, 1, NULL, 0, &one, 1, &one, 1, &one, 1, &two, 1, &zero, 1, &zero, 1, &zero, 1, &zero, 1, &flag, 1, &two, 1,
             (uint8_t)!goes, NULL, 0, 1,
             pred_mean, 2, pred_cov, 2, pred_inf, 2, filt_mean, 1, filt_cov, 1, kinds, 1, v, 1, f_star, 1, f_inf, 1, m_star, 1, m_inf, 1,
-            NULL, 0, &answer.loglik, &answer.d_diffuse, &answer.heard, &answer.news);
+            NULL, 0, &answer.loglik, &answer.d_diffuse, &answer.heard, &answer.news, &answer.cov_off, &answer.mean_off);
         count(refusal, goes ? GOXUNDAR_BAD_SAVED : GOXUNDAR_ANSWERED, "the refusal");
         if (!goes) record(0, GOXUNDAR_DIFFUSE, 2, 1, 1);
     }
@@ -1346,6 +1644,7 @@ int main(void)
 {
     int which;
     numbers();
+    symbols();
     whole();
     for (which = 0; which < CALLS; which++) {
         a_and_k(which);
@@ -1360,10 +1659,14 @@ int main(void)
         lengths(which);
         designs(which);
         nulls(which);
+        ran_off(which);
+        left_out(which);
     }
     cuts();
     the_bytes();
     empty_stretches();
+    told_and_carried();
+    saved_before();
     untested_place();
     listed_from_the_first();
     room_to_save();

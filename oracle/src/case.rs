@@ -13,6 +13,9 @@ pub const PATTERN_BYTE: u8 = 0xA5;
 /// Every NaN of an expectation.
 pub const NAN: u64 = 0x7FF8_0000_0000_0000;
 
+/// Count of an answer's numbers.
+pub const ANSWER: usize = 6;
+
 /// Names of the twelve inputs, in order.
 pub const INPUT_NAMES: [&str; 12] = [
     "z", "zs", "h", "t", "rr", "q", "c", "d", "a1", "p_star", "flags", "y",
@@ -177,16 +180,44 @@ impl Case {
     }
 }
 
+/// An answer as words, with all NaNs as one: log-likelihood, d_diffuse,
+/// heard, news, cov_off, mean_off.
+pub fn answer_words(a: &Answer) -> [u64; ANSWER] {
+    [
+        one_nan(a.loglik.to_bits()),
+        a.d_diffuse as u64,
+        a.heard as u64,
+        a.news as u64,
+        a.cov_off as u64,
+        a.mean_off as u64,
+    ]
+}
+
 /// Same bits, with all NaNs as one.
 pub fn same_answer(a: &Outcome, b: &Outcome) -> bool {
     match (a, b) {
-        (Ok(a), Ok(b)) => {
-            one_nan(a.loglik.to_bits()) == one_nan(b.loglik.to_bits())
-                && (a.d_diffuse, a.heard, a.news) == (b.d_diffuse, b.heard, b.news)
-        }
+        (Ok(a), Ok(b)) => answer_words(a) == answer_words(b),
         (Err(a), Err(b)) => a == b,
         _ => false,
     }
+}
+
+/// What the two reports must be, the covariances' and the means', by the
+/// first places that are not finite in the filter's parts. Nothing of the
+/// call's own reckoning is used.
+pub fn reports<P: AsRef<[u64]>>(parts: &[P], m: usize, n: usize) -> (usize, usize) {
+    let off = |w: &u64| !f64::from_bits(*w).is_finite();
+    let first = |part: &P, width: usize| {
+        let place = part.as_ref()[..n * width].iter().position(off)?;
+        Some(place / width + 1)
+    };
+    let [pred_mean, pred_cov, pred_inf, filt_mean, filt_cov, ..] = parts else {
+        unreachable!("five parts of moments");
+    };
+    let cov = [pred_cov, pred_inf, filt_cov].map(|part| first(part, m * m));
+    let mean = [pred_mean, filt_mean].map(|part| first(part, m));
+    let least = |of: &[Option<usize>]| of.iter().flatten().min().copied().unwrap_or(0);
+    (least(&cov), least(&mean))
 }
 
 /// Whether a call with this outcome writes.
@@ -251,6 +282,12 @@ pub fn run(case: &Case) -> Expected {
         *part = from[..len].iter().map(|&w| one_nan(w)).collect();
     }
 
+    if let Ok(a) = filter {
+        let wanted = reports(&written[..5], case.m, case.n);
+        assert_eq!((a.cov_off, a.mean_off), wanted, "the reports");
+        assert!(smooth.is_err() || same_answer(&filter, &smooth));
+    }
+
     let mut e = Expected {
         filter,
         smooth,
@@ -272,14 +309,13 @@ fn mark(case: &Case, e: &mut Expected) {
         );
     }
     set(marks::SMOOTH_ONLY, e.filter.is_ok() && e.smooth.is_err());
-    let Ok(Answer {
-        d_diffuse, heard, ..
-    }) = e.filter
-    else {
+    let Ok(answer) = e.filter else {
         return;
     };
-    set(marks::D_DIFFUSE, d_diffuse > 1);
-    set(marks::ALL_GAPS, heard == 0);
+    set(marks::D_DIFFUSE, answer.d_diffuse > 1);
+    set(marks::ALL_GAPS, answer.heard == 0);
+    set(marks::COV_OFF, answer.cov_off > 0);
+    set(marks::MEAN_OFF, answer.mean_off > 0);
     let floats = || {
         let parts = e.written.iter().enumerate().filter(|(k, _)| *k != 5);
         parts.flat_map(|(_, w)| w.iter().map(|&b| f64::from_bits(b)))

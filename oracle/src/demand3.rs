@@ -1,7 +1,8 @@
-//! Demand 3 and request k, tried on the oracle itself, filter and smoother;
-//! and the other readings and offsets that they are tried with.
+//! Demand 3 and request k, tried on the oracle itself, filter and smoother,
+//! the reports of request h among the rest; and the other readings and
+//! offsets that they are tried with.
 
-use parts::Outcome;
+use parts::{Answer, Outcome};
 
 use crate::case::{run, same_answer, writes, Case, Expected};
 use crate::gen::Cases;
@@ -67,11 +68,12 @@ pub fn other_offsets(rng: &mut Rng, case: &Case) -> Case {
     changed
 }
 
-fn same_counts(a: &Outcome, b: &Outcome, less_heard: usize) -> bool {
+/// The counts, and the report on the covariances. The one on the means may
+/// go by readings and offsets.
+fn same_counts(a: &Outcome, b: &Outcome) -> bool {
+    let counts = |a: &Answer| (a.d_diffuse, a.heard, a.news, a.cov_off);
     match (a, b) {
-        (Ok(a), Ok(b)) => {
-            (a.d_diffuse, a.heard, a.news) == (b.d_diffuse, b.heard + less_heard, b.news)
-        }
+        (Ok(a), Ok(b)) => counts(a) == counts(b),
         (Err(a), Err(b)) => a == b,
         _ => false,
     }
@@ -79,7 +81,7 @@ fn same_counts(a: &Outcome, b: &Outcome, less_heard: usize) -> bool {
 
 /// First half: other values of finite readings. Request k: other offsets.
 fn blind(a: &Expected, b: &Expected, what: &str) -> Result<(), String> {
-    if !same_counts(&a.filter, &b.filter, 0) || !same_counts(&a.smooth, &b.smooth, 0) {
+    if !same_counts(&a.filter, &b.filter) || !same_counts(&a.smooth, &b.smooth) {
         return Err(format!("{what}: refusal or counts"));
     }
     match BLIND.iter().find(|&&k| a.written[k] != b.written[k]) {
@@ -148,10 +150,10 @@ pub fn try_case(rng: &mut Rng, case: &Case, looked: &mut Looked) -> Result<(), S
 }
 
 /// `oracle demand3 SEED COUNT`.
-pub fn command(seed: u64, count: u64) -> Result<(), String> {
+pub fn command(cases: Cases, seed: u64, count: u64) -> Result<(), String> {
     let mut looked = Looked::default();
     let mut rng = Rng::new(seed.wrapping_add(3));
-    for (k, (_, case)) in Cases::new(seed).take(count as usize).enumerate() {
+    for (k, (_, case)) in cases.take(count as usize).enumerate() {
         try_case(&mut rng, &case, &mut looked).map_err(|e| format!("case {k}: {e}\n{case:?}"))?;
     }
     println!(

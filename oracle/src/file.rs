@@ -2,14 +2,18 @@
 
 use parts::SMOOTH_PARTS;
 
-use crate::case::{one_nan, Case, Expected};
+use crate::case::{answer_words, Case, Expected, ANSWER};
 
-/// First word of a file: "GOXCASE1".
-pub const MAGIC: u64 = 0x474F_5843_4153_4531;
+/// First word of a file: "GOXCASE2".
+pub const MAGIC: u64 = 0x474F_5843_4153_4532;
 /// Words of the file's header.
 pub const HEADER_WORDS: usize = 5;
+/// Where the answer stands in a case.
+pub const ANSWER_AT: usize = 33;
+/// Where the counts of what is written stand in a case.
+pub const COUNTS_AT: usize = ANSWER_AT + ANSWER;
 /// Words of a case before its inputs.
-pub const HEAD_WORDS: usize = 50;
+pub const HEAD_WORDS: usize = COUNTS_AT + SMOOTH_PARTS;
 /// No case has more words.
 pub const MAX_CASE_WORDS: usize = 8_192;
 /// The listed designs have no more places.
@@ -76,15 +80,7 @@ pub fn words(case: &Case, e: &Expected) -> Vec<u64> {
     w.extend(case.lent.map(|k| k as u64));
     w.push(u64::from(e.filter.err().unwrap_or(0)));
     w.push(u64::from(e.smooth.err().unwrap_or(0)));
-    match e.filter {
-        Ok(a) => w.extend([
-            one_nan(a.loglik.to_bits()),
-            a.d_diffuse as u64,
-            a.heard as u64,
-            a.news as u64,
-        ]),
-        Err(_) => w.extend([0; 4]),
-    }
+    w.extend(e.filter.map_or([0; ANSWER], |a| answer_words(&a)));
     for k in 0..SMOOTH_PARTS {
         w.push(e.written[k].len() as u64);
     }

@@ -9,6 +9,7 @@ use crate::case::{self, Case};
 use crate::file;
 use crate::makers::{Flavour, Maker, Room};
 use crate::marks::Tally;
+use crate::offs::{Wish, WISHES};
 use crate::pointed;
 use crate::rng::Rng;
 
@@ -23,6 +24,8 @@ pub enum Scene {
     SmootherAlone,
     /// Pointed at a slip, see `pointed`.
     Pointed(usize),
+    /// Inflated until the reports are as wished.
+    RanOff(Wish),
     Refused(usize),
     Pair(usize, usize),
 }
@@ -51,6 +54,9 @@ pub fn deck() -> Vec<Scene> {
     put(2, Scene::SmootherAlone);
     for k in 0..pointed::KINDS {
         put(1, Scene::Pointed(k));
+    }
+    for w in WISHES {
+        put(1, Scene::RanOff(w));
     }
     for a in 1..=12 {
         put(1, Scene::Refused(a));
@@ -120,6 +126,7 @@ pub fn make(rng: &mut Rng, room: Room, scene: Scene) -> Case {
         Scene::PlaceN => mk.shrinks(),
         Scene::SmootherAlone => mk.smoother_alone(),
         Scene::Pointed(k) => mk.pointed(k),
+        Scene::RanOff(w) => mk.wished(w),
         Scene::Refused(k) => mk.refused(k),
         Scene::Pair(a, b) => mk.refused_twice(a, b),
     }
@@ -130,7 +137,12 @@ pub struct Cases {
     seed: u64,
     next: u64,
     deck: Vec<Scene>,
+    /// Whether every third case is one that runs off.
+    off: bool,
 }
+
+/// One case in so many runs off, where that is asked for.
+const OFF_EVERY: u64 = 3;
 
 impl Cases {
     pub fn new(seed: u64) -> Self {
@@ -138,12 +150,29 @@ impl Cases {
             seed,
             next: 0,
             deck: deck(),
+            off: false,
         }
+    }
+
+    /// The same, and every third case is one whose answer carries a report.
+    pub fn running_off(seed: u64) -> Self {
+        Cases {
+            off: true,
+            ..Cases::new(seed)
+        }
+    }
+
+    fn scene(&self, k: u64) -> Scene {
+        if self.off && k % OFF_EVERY == OFF_EVERY - 1 {
+            let round = (k / OFF_EVERY) as usize;
+            return Scene::RanOff(WISHES[round % WISHES.len()]);
+        }
+        self.deck[(k % self.deck.len() as u64) as usize]
     }
 
     /// Case k, whatever was asked before.
     pub fn at(&self, k: u64) -> (Scene, Case) {
-        let scene = self.deck[(k % self.deck.len() as u64) as usize];
+        let scene = self.scene(k);
         let mut seed = Rng::new(self.seed);
         let mut rng = Rng::new(seed.word() ^ k.wrapping_mul(0xD134_2543_DE82_EF95));
         (scene, make(&mut rng, Room::Usual, scene))
@@ -164,6 +193,10 @@ pub fn check_scene(scene: Scene, e: &case::Expected) {
     let want = match scene {
         Scene::Refused(k) => k,
         Scene::Pair(a, _) => a,
+        Scene::RanOff(_) => {
+            let told = matches!(e.filter, Ok(a) if a.cov_off > 0 || a.mean_off > 0);
+            return assert!(told, "{scene:?}");
+        }
         _ => return,
     };
     assert_eq!(e.filter.unwrap_err() as usize, want, "{scene:?}");
@@ -171,7 +204,7 @@ pub fn check_scene(scene: Scene, e: &case::Expected) {
 }
 
 /// `oracle gen SEED COUNT FILE`; no file is written where FILE is `-`.
-pub fn command(seed: u64, count: u64, path: &str) -> io::Result<()> {
+pub fn command(cases: Cases, count: u64, path: &str) -> io::Result<()> {
     let mut tally = Tally::default();
     let mut writer = file::Writer::new();
     let mut out = match path {
@@ -181,7 +214,7 @@ pub fn command(seed: u64, count: u64, path: &str) -> io::Result<()> {
     if let Some(f) = &mut out {
         f.write_all(&file::header(count))?;
     }
-    for (scene, case) in Cases::new(seed).take(count as usize) {
+    for (scene, case) in cases.take(count as usize) {
         let e = case::run(&case);
         check_scene(scene, &e);
         tally.add(&e.hits, case.pair);

@@ -12,6 +12,7 @@ pub mod gen;
 pub mod list;
 pub mod makers;
 pub mod marks;
+pub mod offs;
 pub mod pointed;
 pub mod refuse;
 pub mod replay;

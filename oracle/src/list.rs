@@ -19,6 +19,8 @@ const OF_PAIR: u64 = 2;
 const OF_GENERAL: usize = 40;
 /// So many cases of every slip.
 const OF_POINTED: usize = 4;
+/// So many of every way of running off, whose numbers hardly vary.
+const OF_WAY: usize = 2;
 /// A case above this many words is taken only for its scene's own sake.
 const WORDS: usize = 1200;
 /// Cases looked at.
@@ -38,6 +40,7 @@ pub fn list() -> (Vec<u8>, Tally) {
         let short_of = (0..COUNT).any(|k| e.hits[k] > 0 && tally.in_cases[k] < OF_MARK);
         let wanted = match scene {
             Scene::Pointed(k) if words > WORDS => aimed[k] < 1,
+            Scene::Pointed(k) if k >= pointed::OFFS => aimed[k] < OF_WAY,
             Scene::Pointed(k) => aimed[k] < OF_POINTED,
             _ if words > WORDS => false,
             Scene::General(f) => general[f as usize] < OF_GENERAL || short_of,

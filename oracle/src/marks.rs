@@ -53,10 +53,12 @@ pub const NAMES: [&str; COUNT] = [
     "refusal 10",
     "refusal 11",
     "refusal 12",
+    "covariance report",
+    "mean report",
 ];
 
 /// Count of marks.
-pub const COUNT: usize = BRANCHES + 28;
+pub const COUNT: usize = BRANCHES + 30;
 
 pub const D_DIFFUSE: usize = BRANCHES;
 pub const INFINITY: usize = BRANCHES + 1;
@@ -76,6 +78,8 @@ pub const ALL_GAPS: usize = BRANCHES + 14;
 pub const SMOOTH_ONLY: usize = BRANCHES + 15;
 /// Refusal k is mark `REFUSAL + k`.
 pub const REFUSAL: usize = BRANCHES + 15;
+pub const COV_OFF: usize = BRANCHES + 28;
+pub const MEAN_OFF: usize = BRANCHES + 29;
 
 /// The bit of a branch.
 pub fn bit(b: Branch) -> u64 {

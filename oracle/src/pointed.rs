@@ -3,10 +3,13 @@
 
 use crate::case::Case;
 use crate::makers::{fixed, Flavour, Maker};
+use crate::offs;
 use crate::rng::pow2;
 
 /// Count of kinds.
-pub const KINDS: usize = 22;
+pub const KINDS: usize = OFFS + offs::WAYS;
+/// From this kind on: numbers that run off, or only seem to (`offs`).
+pub const OFFS: usize = 22;
 
 /// The slip that each kind is pointed at.
 pub const SLIPS: [&str; KINDS] = [
@@ -32,6 +35,24 @@ pub const SLIPS: [&str; KINDS] = [
     "the star root's F at its tolerance accepted",
     "F* at its tolerance accepted",
     "P∞ at its tolerance taken as diffuse",
+    "an overflow by R·Q·R' alone not told",
+    "a covariance at place n told",
+    "a P∞ at place n told",
+    "a P∞ that is off not told",
+    "a P∞ told that the diffuse test has cleared",
+    "a report taken back once P∞ is cleared",
+    "a filtered covariance that is off not told",
+    "an overflow by symmetrising alone not told",
+    "a gain told that nobody stores",
+    "an unresolved matrix told",
+    "a smoothed covariance told",
+    "a filtered mean that is off not told, or told of the covariances",
+    "a mean at place n told",
+    "an overflow by T alone not told",
+    "an overflow by c alone not told",
+    "an innovation told of a reading that is no news",
+    "one report given for both",
+    "refusal 12 with a report",
 ];
 
 impl Maker<'_> {
@@ -54,11 +75,12 @@ impl Maker<'_> {
             14 => self.long_list(0),
             15 => self.long_list(1),
             16 => self.negative_pivot(),
-            _ => self.at_tolerance_of(kind - 17),
+            17..OFFS => self.at_tolerance_of(kind - 17),
+            _ => self.runs_off(kind - OFFS),
         }
     }
 
-    fn short_readings(&mut self, case: &mut Case) {
+    pub(crate) fn short_readings(&mut self, case: &mut Case) {
         self.readings(case, Flavour::Short, 0);
     }
 

@@ -3,8 +3,10 @@
 
 use parts::{Inputs, Outcome, Outputs, Smoothed, FILTER_PARTS, SMOOTH_PARTS};
 
-use crate::case::{one_nan, Buffers, Case, OUTPUT_NAMES, PATTERN, PATTERN_BYTE};
-use crate::file::{HEADER_WORDS, HEAD_WORDS, MAGIC, MAX_CASE_WORDS, MAX_LIST, MAX_PART};
+use crate::case::{answer_words, one_nan, Buffers, Case};
+use crate::case::{ANSWER, OUTPUT_NAMES, PATTERN, PATTERN_BYTE};
+use crate::file::{ANSWER_AT, COUNTS_AT, HEADER_WORDS, HEAD_WORDS, MAGIC};
+use crate::file::{MAX_CASE_WORDS, MAX_LIST, MAX_PART};
 
 /// The two calls under test.
 pub trait Calls {
@@ -30,8 +32,8 @@ pub struct Filed {
     pub marks: u64,
     pub filter_refusal: u64,
     pub smooth_refusal: u64,
-    /// Log-likelihood's bits, d_diffuse, heard, news.
-    pub answer: [u64; 4],
+    /// As [`answer_words`] has it; zeros where the filter is refused.
+    pub answer: [u64; ANSWER],
     pub written: [Vec<u64>; SMOOTH_PARTS],
 }
 
@@ -80,7 +82,7 @@ fn read_case(w: &[u64]) -> Result<Filed, String> {
     }
     let mut written: [Vec<u64>; SMOOTH_PARTS] = Default::default();
     for k in 0..SMOOTH_PARTS {
-        written[k] = next(w[37 + k])?.to_vec();
+        written[k] = next(w[COUNTS_AT + k])?.to_vec();
     }
     if at != w.len() {
         return Err("words past the last part".into());
@@ -111,22 +113,14 @@ fn read_case(w: &[u64]) -> Result<Filed, String> {
         marks: w[1],
         filter_refusal: w[31],
         smooth_refusal: w[32],
-        answer: [w[33], w[34], w[35], w[36]],
+        answer: std::array::from_fn(|k| w[ANSWER_AT + k]),
         written,
     })
 }
 
-fn check_answer(refusal: u64, answer: &[u64; 4], got: &Outcome) -> Result<(), String> {
+fn check_answer(refusal: u64, answer: &[u64; ANSWER], got: &Outcome) -> Result<(), String> {
     let got = match got {
-        Ok(a) => (
-            0,
-            [
-                one_nan(a.loglik.to_bits()),
-                a.d_diffuse as u64,
-                a.heard as u64,
-                a.news as u64,
-            ],
-        ),
+        Ok(a) => (0, answer_words(a)),
         Err(k) => (u64::from(*k), *answer),
     };
     if got != (refusal, *answer) {

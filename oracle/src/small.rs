@@ -3,15 +3,21 @@
 use parts::Outcome;
 use tsecon_ssm_probed::probe::Branch;
 
-use crate::case::{self, one_nan, Case, Expected, INPUT_NAMES, OUTPUT_NAMES};
+use crate::case::{self, answer_words, Case, Expected, INPUT_NAMES, OUTPUT_NAMES};
 use crate::file::mask;
-use crate::gen::{check_scene, deck, make};
+use crate::gen::{check_scene, deck, make, Scene};
 use crate::makers::Room;
 use crate::marks;
+use crate::pointed::OFFS;
 use crate::rng::Rng;
 
 /// Candidates that the cases are chosen from.
 const CANDIDATES: u64 = 30_000;
+
+/// Ways of running off (`offs`) that are shown besides, since no mark tells
+/// them apart: at place n, by P∞, by a P∞ that is cleared or was off for a
+/// while, filtered, symmetrised, by T, and both reports in turn.
+const WAYS: [usize; 8] = [1, 3, 4, 5, 6, 7, 13, 16];
 
 /// Marks that a small case can't have or need not show.
 fn unwanted() -> u64 {
@@ -47,7 +53,7 @@ fn cost(case: &Case) -> f64 {
 }
 
 /// Cases that between them have every mark that a small case can have; then
-/// further ones.
+/// some ways of running off, then further ones.
 pub fn choose(seed: u64, count: usize) -> Vec<(Case, Expected)> {
     let mut scenes = deck();
     scenes.sort_by_key(|s| format!("{s:?}"));
@@ -96,6 +102,14 @@ pub fn choose(seed: u64, count: usize) -> Vec<(Case, Expected)> {
                 .unwrap();
             left &= !masks[best];
             chosen.push(best);
+        }
+    }
+    for way in WAYS {
+        let scene = Scene::Pointed(OFFS + way);
+        let shown = chosen.iter().any(|&i| pool[i].1 == scene);
+        let first = pool.iter().position(|x| x.1 == scene);
+        if let Some(i) = first.filter(|_| !shown && chosen.len() < count) {
+            chosen.push(i);
         }
     }
     // Further cases: the cheapest of two periods or more whose set of marks
@@ -165,8 +179,8 @@ pub fn text(number: usize, case: &Case, e: &Expected) -> String {
 
 pub(crate) fn outcome(o: &Outcome) -> Result<String, u32> {
     o.map(|a| {
-        let loglik = one_nan(a.loglik.to_bits());
-        format!("{loglik:016x} {} {} {}", a.d_diffuse, a.heard, a.news)
+        let [loglik, counts @ ..] = answer_words(&a);
+        format!("{loglik:016x}{}", plain(counts.into_iter()))
     })
 }
 

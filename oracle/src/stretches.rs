@@ -1,9 +1,12 @@
-//! Small stretches as text: runs that are cut, each refusal of a stretch,
-//! saved bytes altered in each way. See FORMAT.md.
+//! Small stretches as text: runs that are cut, some of them where numbers run
+//! off, each refusal of a stretch, saved bytes altered in each way. See
+//! FORMAT.md.
 
 use parts::{encode, needed, saved_len, section_counts, Carried, Inputs, Outcome, Stretch};
 
 use crate::case::{one_nan, Buffers, Case, INPUT_NAMES, OUTPUT_NAMES, PATTERN_BYTE};
+use crate::makers::{Maker, Room};
+use crate::rng::Rng;
 use crate::small::{choose, hex, outcome, plain};
 use crate::uncut::{uncut, Uncut};
 
@@ -101,6 +104,13 @@ fn altered(case: &Case, s: &Carried, list: &mut Vec<Made>) {
         ("state 0", 7, 3, 0, 1, 0),
         ("state 1", 7, 3, 1, 1, 0),
         ("state 2", 7, 3, 2, 1, 0),
+        ("covariance report at its bound", 7, 4, done, 1, 0),
+        ("covariance report past its bound", 7, 4, done + 1, 1, 0),
+        ("covariance report, no period", 7, 4, done, 0, 0),
+        ("covariance report beyond 32 bits", 7, 4, 1 << 32, 0, 0),
+        ("mean report at its bound", 7, 5, done, 1, 0),
+        ("mean report past its bound", 7, 5, done + 1, 1, 0),
+        ("mean report, the last", 7, 5, done, 1, 1),
         ("another P∞", 3, 0, one, 1, 0),
         ("state 0, no period", 7, 3, 0, 0, 0),
         ("a NaN in the mean", 1, 0, 0x7FF8_0000_0000_0000, 1, 0),
@@ -191,6 +201,22 @@ fn further(list: &mut Vec<Made>) {
     cut_up(&listed, &u, 1, list);
 }
 
+/// Runs whose numbers run off (`offs`), cut before and after that: what an
+/// earlier stretch told stays, also where all is finite again; and one whose
+/// end is refused 12, with no report.
+fn off_and_cut(seed: u64, list: &mut Vec<Made>) {
+    for (way, cut) in [(16, 1), (16, 2), (5, 2), (17, 1)] {
+        let mut rng = Rng::new(seed);
+        let mut mk = Maker {
+            rng: &mut rng,
+            room: Room::Small,
+        };
+        let case = mk.runs_off(way);
+        let u = uncut(&case.inputs()).expect("it runs");
+        cut_up(&case, &u, cut, list);
+    }
+}
+
 /// The stretches of a seed.
 pub fn stretches(seed: u64) -> Vec<Made> {
     let mut list = Vec::new();
@@ -232,6 +258,7 @@ pub fn stretches(seed: u64) -> Vec<Made> {
     let u = uncut(&case.inputs()).expect("it runs");
     altered(&case, &u.states[1], &mut list);
     further(&mut list);
+    off_and_cut(seed, &mut list);
     list
 }
 

@@ -4,7 +4,7 @@
 use parts::{needed, Carried, Inputs, Outcome, Stretch};
 use tsecon_ssm_probed::probe;
 
-use crate::case::Buffers;
+use crate::case::{reports, Buffers};
 
 #[derive(Debug)]
 pub struct Uncut {
@@ -44,7 +44,15 @@ pub fn uncut(i: &Inputs<'_>) -> Result<Uncut, u32> {
         let parts = 0..parts::FILTER_PARTS;
         assert!(parts.clone().all(|k| whole.words(k) == written.words(k)));
     }
-    let states = kept.iter().enumerate().map(|(k, s)| s.carried(k)).collect();
+    // What was told by then: a later period is not known yet.
+    let words: Vec<Vec<u64>> = (0..5).map(|k| written.words(k)).collect();
+    let (cov_off, mean_off) = reports(&words, i.m, i.n);
+    let by = |off: usize, k: usize| if off <= k { off } else { 0 };
+    let states = kept
+        .iter()
+        .enumerate()
+        .map(|(k, s)| s.carried(k, by(cov_off, k), by(mean_off, k)))
+        .collect();
     Ok(Uncut {
         outcome,
         written,

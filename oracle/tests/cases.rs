@@ -1,12 +1,13 @@
-//! The made cases: branches, the fixed list, the reader, demand 3, request k.
+//! The made cases: branches, numbers that run off, the fixed list, the
+//! reader, demand 3, request k.
 
-use oracle::case::{probe_hits, run};
-use oracle::gen::{check_scene, Cases};
+use oracle::case::{probe_hits, run, Case};
+use oracle::gen::{check_scene, Cases, Scene};
 use oracle::makers::{Maker, Room};
 use oracle::marks::{self, Tally};
 use oracle::replay::{read, replay, Calls, Oracle};
 use oracle::rng::Rng;
-use oracle::{demand3, list, pointed, small};
+use oracle::{demand3, list, offs, pointed, small};
 use parts::{Inputs, Outcome, Outputs, Smoothed};
 use tsecon_ssm_probed::probe::Branch;
 
@@ -65,6 +66,19 @@ impl Calls for Wrong {
                 a.heard += 1;
                 Ok(a)
             }
+            // The reports: one for the other, without the 1.
+            (7, Ok(mut a)) => {
+                std::mem::swap(&mut a.cov_off, &mut a.mean_off);
+                Ok(a)
+            }
+            (8, Ok(mut a)) => {
+                a.cov_off = a.cov_off.saturating_sub(1);
+                Ok(a)
+            }
+            (9, Ok(mut a)) => {
+                a.mean_off = a.mean_off.saturating_sub(1);
+                Ok(a)
+            }
             (2, Ok(a)) => {
                 // One step into the tail, or over the last place.
                 if let Some(x) = o.m_inf.last_mut() {
@@ -81,9 +95,14 @@ impl Calls for Wrong {
         }
     }
     fn smooth(&mut self, i: &Inputs<'_>, o: &mut Outputs<'_>, s: &mut Smoothed<'_>) -> Outcome {
-        let got = tsecon_ssm::smooth_call(i, o, s);
-        if self.0 == 5 && got.is_ok() {
-            s.sm_cov[0] = -s.sm_cov[0];
+        let mut got = tsecon_ssm::smooth_call(i, o, s);
+        if let Ok(a) = &mut got {
+            match self.0 {
+                5 => s.sm_cov[0] = -s.sm_cov[0],
+                10 => a.cov_off = 0,
+                11 => a.mean_off = 0,
+                _ => {}
+            }
         }
         got
     }
@@ -91,30 +110,122 @@ impl Calls for Wrong {
 
 #[test]
 fn the_reader_finds_wrong_versions() {
-    for k in 0..=5 {
+    for k in (0..=5).chain(7..=11) {
         assert!(replay(COMMITTED, &mut Wrong(k)).is_err(), "version {k}");
     }
     assert!(replay(COMMITTED, &mut Wrong(6)).is_ok());
 }
 
+/// On the usual cases, and on those of which every third runs off.
 #[test]
 fn demand_three_and_request_k_hold() {
-    let mut looked = demand3::Looked::default();
-    let mut rng = Rng::new(5);
-    for (_, case) in Cases::new(9).take(3_000) {
-        demand3::try_case(&mut rng, &case, &mut looked).unwrap();
+    for cases in [Cases::new(9), Cases::running_off(10)] {
+        let mut looked = demand3::Looked::default();
+        let mut rng = Rng::new(5);
+        for (_, case) in cases.take(3_000) {
+            demand3::try_case(&mut rng, &case, &mut looked).unwrap();
+        }
+        let enough = [looked.first, looked.second, looked.offsets]
+            .iter()
+            .all(|&n| n > 1_000);
+        assert!(enough, "{looked:?}");
     }
-    let enough = [looked.first, looked.second, looked.offsets]
-        .iter()
-        .all(|&n| n > 1_000);
-    assert!(enough, "{looked:?}");
+}
+
+/// The mean report does go by readings and by offsets: what demand 3 leaves
+/// free moves, what it holds does not.
+#[test]
+fn the_mean_report_may_move() {
+    let (mut by_values, mut by_offsets) = (0, 0);
+    let mut rng = Rng::new(6);
+    for (_, case) in Cases::running_off(12).take(3_000) {
+        let Ok(told) = run(&case).filter else {
+            continue;
+        };
+        let mean_off = |case: &Case| run(case).filter.map_or(0, |a| a.mean_off);
+        let values = mean_off(&demand3::other_values(&mut rng, &case));
+        let offsets = mean_off(&demand3::other_offsets(&mut rng, &case));
+        by_values += u64::from(values != told.mean_off);
+        by_offsets += u64::from(offsets != told.mean_off);
+    }
+    assert!(
+        by_values > 100 && by_offsets > 100,
+        "{by_values} {by_offsets}"
+    );
+}
+
+/// Each way in which a report is told, or must not be.
+#[test]
+fn what_runs_off_is_told() {
+    for (way, want) in offs::TOLD.iter().enumerate() {
+        for seed in 0..20 {
+            for room in [Room::Usual, Room::Small] {
+                let mut rng = Rng::new(seed);
+                let mut mk = Maker {
+                    rng: &mut rng,
+                    room,
+                };
+                let e = run(&mk.runs_off(way));
+                let told = |o: Outcome| match o {
+                    Ok(a) => Some((a.cov_off, a.mean_off)),
+                    Err(12) => None,
+                    Err(k) => panic!("refused {k}"),
+                };
+                let slip = pointed::SLIPS[pointed::OFFS + way];
+                assert_eq!(told(e.filter), *want, "filter: {slip}");
+                assert_eq!(told(e.smooth), *want, "smoother: {slip}");
+            }
+        }
+    }
+}
+
+/// What only seems to run off: the number that a slip would tell of is there.
+#[test]
+fn what_is_not_told_is_there() {
+    let made = |way: usize| {
+        let mut rng = Rng::new(3);
+        let mut mk = Maker {
+            rng: &mut rng,
+            room: Room::Usual,
+        };
+        run(&mk.runs_off(way))
+    };
+    let off = |words: &[u64]| words.iter().any(|&w| !f64::from_bits(w).is_finite());
+    // Place n: P*, P∞, the mean.
+    assert!(off(&made(1).written[1][1..]));
+    assert!(off(&made(2).written[2][4..]) && !off(&made(2).written[1]));
+    assert!(off(&made(12).written[0][1..]));
+    // P∞ cleared: zeros are stored. Of the other one an infinity was.
+    assert!(made(4).written[2][4..8].iter().all(|&w| w == 0));
+    let e = made(5);
+    assert!(off(&e.written[2][4..8]) && e.written[2][8..].iter().all(|&w| w == 0));
+    // The smoothed covariances, and nothing of the filter's.
+    let e = made(10);
+    assert!(off(&e.written[12]) && !e.written[..11].iter().any(|w| off(w)));
+}
+
+/// Every third case of those that run off carries a report, as wished.
+#[test]
+fn every_third_case_runs_off() {
+    let mut seen = [0; offs::WISHES.len()];
+    for (k, (scene, case)) in Cases::running_off(5).take(2_400).enumerate() {
+        check_scene(scene, &run(&case));
+        let Scene::RanOff(wish) = scene else {
+            assert_ne!(k % 3, 2);
+            continue;
+        };
+        assert!(wish.holds(&case), "{wish:?}");
+        let place = offs::WISHES.iter().position(|w| *w == wish).unwrap();
+        seen[place] += 1;
+    }
+    assert!(seen.iter().all(|&s| s >= 100), "{seen:?}");
 }
 
 /// The branches that each pointed case is made to take.
 #[test]
 fn pointed_cases_hit_their_mark() {
     use Branch::*;
-    let marks: [&[Branch]; pointed::KINDS] = [
+    let marks: [&[Branch]; pointed::OFFS] = [
         &[SuspectDiffuse],
         &[AtTolerance],
         &[AtTolerance, DiffuseRefused],
@@ -138,6 +249,7 @@ fn pointed_cases_hit_their_mark() {
         &[AtTolerance, Scale],
         &[AtTolerance, Usual],
     ];
+    // What runs off has a test of its own.
     for (k, want) in marks.iter().enumerate() {
         for seed in 0..10 {
             let mut rng = Rng::new(seed);
@@ -165,7 +277,8 @@ fn small_cases_show_every_branch() {
     }
     let shown = (0..=Branch::AtTolerance as usize).all(|k| seen[k] > 0);
     let refused = (1..=12).all(|k| seen[marks::REFUSAL + k] > 0);
-    assert!(shown && refused, "{seen:?}");
+    let told = seen[marks::COV_OFF] > 0 && seen[marks::MEAN_OFF] > 0;
+    assert!(shown && refused && told, "{seen:?}");
 }
 
 #[test]
@@ -187,9 +300,13 @@ fn the_text_form_is_the_described_one() {
 #[test]
 fn the_marks_are_the_described_ones() {
     let format = include_str!("../FORMAT.md");
-    for (k, name) in marks::NAMES.iter().enumerate().take(36) {
-        assert!(format.contains(&format!("| {k} | {name}")), "{k} {name}");
+    for (k, name) in marks::NAMES.iter().enumerate() {
+        let refusal = (marks::REFUSAL + 1..=marks::REFUSAL + 12).contains(&k);
+        let said = format.contains(&format!("| {k} | {name}"));
+        assert!(said || refusal, "{k} {name}");
     }
+    assert!(format.contains("| 36 to 47 | refusal 1 to 12 |"));
+    assert_eq!(marks::REFUSAL + 1, 36);
 }
 
 #[test]

@@ -123,6 +123,16 @@ fn holds(e: &Expected, name: &str, want: &str) {
     assert_eq!(got, &want, "{name} holds {shown:?}");
 }
 
+/// What the two reports must say, the covariances' and the means', by both calls.
+fn told(words: &str, cov_off: usize, mean_off: usize) -> Expected {
+    let e = calls(words);
+    for outcome in [e.filter, e.smooth] {
+        let a = outcome.unwrap();
+        assert_eq!((a.cov_off, a.mean_off), (cov_off, mean_off), "{words}");
+    }
+    e
+}
+
 fn met(e: &Expected, b: Branch) -> bool {
     e.hits[b as usize] > 0
 }
@@ -432,6 +442,61 @@ fn decision_102_what_may_not_be_halved() {
     covariances("m 2 P 2^1023 0 0 0 F 0 1", "2^1023 -inf -inf 2^1023");
     covariances("m 2 P 1 -0.0 0 0", "0 0 0 0");
     covariances("m 2 Z 1 0 P 1 2^1023 2^1023 0", "0 0 0 -inf");
+}
+
+// ---- numbers that ran off: document 02, request h
+
+#[test]
+fn reports_of_covariances() {
+    // T·P·T' and R·Q·R' are finite, their sum is not.
+    told("n 2 H 1 R 1 Q 2^1023 P 2^1023 y NaN NaN", 2, 0);
+    // P∞ alone.
+    let e = told("n 2 H 1 T 2^1000 F 1 y NaN NaN", 2, 0);
+    holds(&e, "pred_cov", "0 0 0");
+    // The filtered one of the only period: by an infinite gain, by symmetrising alone.
+    told("m 2 Z 1 0 T 0 0 0 0 P 2^-100 2^1000 2^1000 2^1000 y 1", 1, 1);
+    let e = told("m 2 H 1 P 2^1023 2^1023 2^1023 2^1023 y NaN", 1, 0);
+    holds(&e, "filt_cov", "2^1023 inf inf 2^1023");
+    // The first period stays, though the last is finite again.
+    let e = told("m 2 n 3 H 1 T 2^600 1 1 0 F 1 1 y NaN NaN NaN", 2, 0);
+    holds(&e, "pred_inf", "1 0 0 1 inf 2^600 2^600 1 0 0 0 0 0 0 0 0");
+}
+
+#[test]
+fn reports_of_means() {
+    // v overflows, and with it the filtered mean; no covariance does.
+    let e = told("H 1 P 2^1023 a 2^1023 y -2^1023", 0, 1);
+    holds(&e, "pred_mean", "2^1023 -inf");
+    told("n 2 H 1 P 2^1023 a 2^1023 y -2^1023 NaN", 0, 1);
+    // The second period's predicted one: by T, by c.
+    told("n 2 H 1 T 2 P 1 a 2^1023 y NaN NaN", 0, 2);
+    told("n 2 H 1 P 1 c 2^1023 a 2^1023 y NaN NaN", 0, 2);
+    // Each report has a period of its own.
+    told("n 3 H 1 T 2 P 2^1022 a 2^1022 y NaN NaN NaN", 2, 3);
+}
+
+#[test]
+fn reports_leave_out() {
+    // Place n: the covariance, P∞, the mean.
+    let e = told("H 1 R 1 Q 2^1023 P 2^1023 y NaN", 0, 0);
+    holds(&e, "pred_cov", "2^1023 inf");
+    let e = told("m 2 Z 1 0 H 1 T 1 0 0 2^600 F 1 1 y 1", 0, 0);
+    holds(&e, "pred_inf", "1 0 0 1 0 0 0 inf");
+    let e = told("H 1 T 2 P 1 a 2^1023 y NaN", 0, 0);
+    holds(&e, "pred_mean", "2^1023 inf");
+    // A NaN in P∞ ends the diffuse state, and zeros are stored.
+    told("m 2 n 2 Z 1 0 H 1 T 2^600 -2^600 2^600 2^600 F 1 1 y NaN 2", 0, 0);
+    // Refusal 12 carries no report.
+    assert_eq!(refused("n 2 H 1 R 1 Q 2^1023 P 2^1023 y NaN 1"), 12);
+    // An infinite scale, and so a skipped element; P* stays finite.
+    let e = told("p 2 Z 2^600 1 H 1 1 P 2^600", 0, 0);
+    holds(&e, "kinds", "0 1");
+    // The unresolved matrix; the smoothed covariance; v of a reading that is no news.
+    let e = told("m 2 n 2 Z 0 1 T 1 2^600 0 0 F 1 1 y 1 1", 0, 0);
+    holds(&e, "kinds", "2 0");
+    let e = told("n 2 H 2^-100 T 2^500 R 1 Q 2^-100 y NaN 1", 0, 0);
+    assert!(f64::from_bits(e.written[12][0]).is_nan());
+    told("p 2 Z 0 1 H 0 1 P 1 d 2^1023 0 y -2^1023 1", 0, 0);
 }
 
 // ---- numbers

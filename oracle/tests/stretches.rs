@@ -45,6 +45,8 @@ fn told(u: &Uncut, k: usize) -> Outcome {
         d_diffuse: s.d_diffuse,
         heard: s.heard,
         news: s.news,
+        cov_off: s.cov_off,
+        mean_off: s.mean_off,
     })
 }
 
@@ -77,7 +79,11 @@ fn encoded(case: &Case, u: &Uncut, k: usize) -> Vec<u8> {
 #[test]
 fn a_cut_changes_nothing() {
     let (mut cuts, mut silent) = (0, 0);
-    for (_, case) in Cases::new(21).take(3_000) {
+    // Stretches that go on after a report, and that are the first to have
+    // one.
+    let (mut after, mut first) = (0, 0);
+    let all = Cases::new(21).take(3_000);
+    for (_, case) in all.chain(Cases::running_off(24).take(1_500)) {
         let Ok(u) = uncut(&case.inputs()) else {
             continue;
         };
@@ -91,8 +97,14 @@ fn a_cut_changes_nothing() {
             assert_eq!(a.save, encoded(&case, &u, k));
             let b = make(&periods(&case, k, n), 0, &a.save, 1);
             assert!(same_answer(&b.outcome, &u.outcome));
-            if b.outcome.is_ok() {
+            if let Ok(end) = b.outcome {
                 same_blocks(&case, &u, &b, k, n);
+                let cut = a.outcome.unwrap();
+                for (early, late) in [(cut.cov_off, end.cov_off), (cut.mean_off, end.mean_off)] {
+                    after += usize::from(early > 0 && k < n);
+                    first += usize::from(early == 0 && late > 0 && k > 0);
+                    assert!(early == 0 && (late == 0 || late > k) || early == late);
+                }
             }
             cuts += 1;
         }
@@ -105,6 +117,52 @@ fn a_cut_changes_nothing() {
         }
     }
     assert!(cuts > 3_000 && silent > 50, "{cuts} {silent}");
+    assert!(after > 1_000 && first > 1_000, "{after} {first}");
+}
+
+/// A report in the bytes is kept, though all numbers are finite, up to the
+/// periods done; past that it is refused 15.
+#[test]
+fn a_loaded_report_is_kept() {
+    let mut kept = 0;
+    for (_, case) in Cases::new(25).take(600) {
+        let Ok(u) = uncut(&case.inputs()) else {
+            continue;
+        };
+        let n = case.n;
+        for k in 0..=n {
+            let rest = periods(&case, k, n);
+            let plain = make(&rest, 0, &encoded(&case, &u, k), 0);
+            let own = plain.outcome.unwrap();
+            for (cov_off, mean_off) in [(k, 0), (0, k), (k.min(1), k), (k + 1, 0), (0, k + 1)] {
+                let mut state = u.states[k].clone();
+                (state.cov_off, state.mean_off) = (cov_off, mean_off);
+                let bytes = encode(case.p, case.m, case.r, &state);
+                let made = make(&rest, 0, &bytes, 0);
+                if cov_off.max(mean_off) > k {
+                    assert_eq!(made.outcome.unwrap_err(), 15);
+                    assert!(made.save.iter().all(|&byte| byte == 0xA5));
+                    continue;
+                }
+                // What no earlier stretch told is this one's own.
+                let late = |told: usize| if told > k { told } else { 0 };
+                let or_own = |told: usize, own: usize| if told > 0 { told } else { late(own) };
+                let mut want = own;
+                want.cov_off = or_own(cov_off, own.cov_off);
+                want.mean_off = or_own(mean_off, own.mean_off);
+                if u.states[k].cov_off == 0 && u.states[k].mean_off == 0 {
+                    assert!(same_answer(&made.outcome, &Ok(want)));
+                    let saved = decode(case.p, case.m, case.r, 0, &made.save).unwrap();
+                    assert_eq!(
+                        (saved.cov_off, saved.mean_off),
+                        (want.cov_off, want.mean_off)
+                    );
+                    kept += usize::from(cov_off + mean_off > 0);
+                }
+            }
+        }
+    }
+    assert!(kept > 1_000, "{kept}");
 }
 
 /// What is loaded saves as it was, P∞ beside an ended diffuse state too; the
@@ -178,6 +236,11 @@ fn the_small_stretches_show_every_end() {
     for k in (1..=12).chain([15]) {
         assert!(list.iter().any(|s| s.outcome.err() == Some(k)), "{k}");
     }
+    let tells = |cov: bool, mean: bool| {
+        list.iter()
+            .any(|s| matches!(s.outcome, Ok(a) if (a.cov_off > 0, a.mean_off > 0) == (cov, mean)))
+    };
+    assert!(tells(true, false) && tells(false, true) && tells(true, true));
     let saves = |s: &&oracle::stretches::Made| s.outcome.is_ok() && s.last == 0;
     assert!(list.iter().filter(saves).count() > 20);
     // FORMAT.md names each line.

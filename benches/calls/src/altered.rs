@@ -15,12 +15,16 @@ const BITS_EVERY: [u64; 2] = [61, 1511];
 /// So many alterations of each run's bytes.
 const ALTERATIONS: usize = 6;
 /// The sections, in order.
-const SIZES: usize = 0;
+pub const SIZES: usize = 0;
 pub const MEAN: usize = 1;
 const P_INF: usize = 3;
 const ROOT: usize = 4;
 pub const LIKELIHOOD: usize = 6;
 pub const TALLIES: usize = 7;
+/// Places among the tallies: the diffuse state, and the two reports.
+pub const STATE: usize = 3;
+const REPORTS: [usize; 2] = [4, MEAN_REPORT];
+pub const MEAN_REPORT: usize = 5;
 /// Numbers outside every range. Some are 0 or small in 32 bits, or with a small number added in 64.
 const HUGE: [u64; 7] = [u64::MAX, u64::MAX - 1, u64::MAX - 4095, 1 << 63, 1 << 61, 1 << 32, (1 << 32) + 1];
 
@@ -103,6 +107,15 @@ fn other_nan(rng: &mut Rng) -> f64 {
     }
 }
 
+/// A report that a run of so many periods can hold: often none.
+pub fn report(rng: &mut Rng, done: usize) -> usize {
+    match rng.below(4) {
+        0 => rng.within(0, done),
+        1 => done,
+        _ => 0,
+    }
+}
+
 /// The bytes of a run that nobody made: numbers of all kinds, mostly mirrored, and tallies in their ranges, for a stretch of n periods.
 pub fn made_up(rng: &mut Rng, p: usize, m: usize, r: usize, n: usize) -> Vec<u8> {
     let done = rng.within(0, 4096 - n);
@@ -123,6 +136,8 @@ pub fn made_up(rng: &mut Rng, p: usize, m: usize, r: usize, n: usize) -> Vec<u8>
         heard,
         news: rng.within(0, heard),
         live: rng.chance(2, 3),
+        cov_off: report(rng, done),
+        mean_off: report(rng, done),
     };
     if rng.chance(3, 4) {
         for x in [&mut state.star, &mut state.p_inf, &mut state.unresolved] {
@@ -150,7 +165,7 @@ fn alter(rng: &mut Rng, run: &Run<'_>, k: usize, n: usize) -> Altered {
         Altered { what: format!("{what} {to}"), bytes, refused }
     };
     let told = |what: &str, bytes: Vec<u8>, refused: Option<bool>| Altered { what: what.into(), bytes, refused };
-    match rng.below(22) {
+    match rng.below(26) {
         0 => {
             let bit = rng.below(len * 8);
             bytes[bit / 8] ^= 1 << (bit % 8);
@@ -215,7 +230,7 @@ fn alter(rng: &mut Rng, run: &Run<'_>, k: usize, n: usize) -> Altered {
         16 if news > 0 => with(bytes, "heard below news,", TALLIES, 1, rng.pick(&[news - 1, 0]), Some(true)),
         16 | 17 => {
             let to = rng.pick(&[0, 1, 2, 3, 255, 256, rng.clone().pick(&HUGE)]);
-            with(bytes, "state", TALLIES, 3, to, Some(to > 1))
+            with(bytes, "state", TALLIES, STATE, to, Some(to > 1))
         }
         18 | 19 => {
             let which = rng.within(MEAN, LIKELIHOOD);
@@ -236,7 +251,22 @@ fn alter(rng: &mut Rng, run: &Run<'_>, k: usize, n: usize) -> Altered {
                 bytes[number(m, TALLIES, 2)].fill(0);
             }
             let live = rng.below(2) as u64;
-            with(bytes, "another P∞ or root, state", TALLIES, 3, live, Some(false))
+            with(bytes, "another P∞ or root, state", TALLIES, STATE, live, Some(false))
+        }
+        21 => with(bytes, "a report at its bound,", TALLIES, rng.pick(&REPORTS), done, Some(false)),
+        22 => {
+            let to = rng.pick(&[done + 1, done + 256, rng.clone().pick(&HUGE)]);
+            with(bytes, "a report past its bound,", TALLIES, rng.pick(&REPORTS), to, Some(true))
+        }
+        23 => with(bytes, "a report of", TALLIES, rng.pick(&REPORTS), rng.within(0, k) as u64, Some(false)),
+        24 => {
+            // Fewer periods done than a report tells of; the tallies before it are 0, so that it alone can be out of its range.
+            let told = state.cov_off.max(state.mean_off) as u64;
+            for place in [0, 1, 2] {
+                bytes[number(m, TALLIES, place)].fill(0);
+            }
+            let less = told.saturating_sub(1 + rng.below(2) as u64);
+            with(bytes, "done below what a report tells of,", SIZES, 3, less, Some(less < told))
         }
         _ if rng.chance(1, 8) => {
             // Least significant byte first.

@@ -1,5 +1,6 @@
 //! The comparison at scale: fresh cases of the oracle's generator through both calls of the library and of the oracle, demand 3 and request k by pairs
-//! of calls, wild calls; and each case's run in stretches. Case k of a seed is the same in every run, whatever the count and the threads.
+//! of calls, wild calls; and each case's run in stretches. Case k of a seed is the same in every run, whatever the count and the threads; where numbers
+//! are to run off, every third case is another one.
 
 use oracle::case::Case;
 use oracle::gen::Cases;
@@ -7,7 +8,7 @@ use oracle::rng::Rng;
 use oracle::time;
 
 use crate::cuts::Run;
-use crate::lent::Lent;
+use crate::lent::{Lent, COV_OFF, MEAN_OFF};
 use crate::library::{Call, CALLS};
 use crate::tally::Tally;
 use crate::{altered, cuts, values, watch, wild};
@@ -15,18 +16,42 @@ use crate::{altered, cuts, values, watch, wild};
 /// The generator's cases have 20 periods at most. After one in so many comes a long run.
 const LONG_EVERY: u64 = 997;
 
-/// How the library's call ended on a case, and the first difference from the oracle's.
-pub fn against_oracle(which: Call, case: &Case, fill: u64) -> (u32, Option<String>) {
+/// How a call must end on a case, the library's first difference from the oracle's, and the reports that the oracle's has.
+fn with_reports(which: Call, case: &Case, fill: u64) -> (u32, Option<String>, (u64, u64)) {
     let mut found = Lent::of(case, fill);
     let mut wanted = found.clone();
     let (outcome, want) = (found.library(which), wanted.oracle(which));
-    if outcome != want {
-        return (want, Some(format!("outcome {outcome}, wanted {want} (0: answered, else the refusal)")));
-    }
-    (want, found.difference(&wanted, which, want, &[]))
+    let reports = (wanted.word(COV_OFF, 0), wanted.word(MEAN_OFF, 0));
+    let difference = if outcome != want {
+        Some(format!("outcome {outcome}, wanted {want} (0: answered, else the refusal)"))
+    } else {
+        found.difference(&wanted, which, want, &[])
+    };
+    (want, difference, reports)
 }
 
-/// A run of up to 4096 periods: the timed model with gaps, elements without noise, and often a list of designs.
+/// How a call must end on a case, and the library's first difference from the oracle's.
+pub fn against_oracle(which: Call, case: &Case, fill: u64) -> (u32, Option<String>) {
+    let (want, difference, _) = with_reports(which, case, fill);
+    (want, difference)
+}
+
+/// Lets a state that nothing reads grow by T, so that its covariances overflow late in a long run, and later its mean, by c.
+fn grow(rng: &mut Rng, case: &mut Case) {
+    let m = case.m;
+    let state = rng.below(m);
+    for k in 0..m {
+        case.t[state * m + k] = 0.0;
+        case.t[k * m + state] = 0.0;
+    }
+    case.t[state * m + state] = rng.pick(&[1.125, 1.25, 1.5, 2.0, 3.0, 8.0, 64.0]);
+    case.c[state] = 1.0;
+    for z in [&mut case.z, &mut case.zs] {
+        z.iter_mut().skip(state).step_by(m).for_each(|x| *x = 0.0);
+    }
+}
+
+/// A run of up to 4096 periods: the timed model with gaps, elements without noise, often a list of designs, and often numbers that run off.
 fn long_case(rng: &mut Rng) -> Case {
     let (m, p, n) = (rng.within(1, 8), rng.within(1, 8), rng.within(21, 4096));
     let mut case = time::case(m, p, n);
@@ -43,6 +68,9 @@ fn long_case(rng: &mut Rng) -> Case {
         case.zs = (0..rng.within(1, n) * p * m).map(|_| 0.5 + rng.unit()).collect();
     }
     case.lent = case.lent.map(|len| len + rng.below(3));
+    if rng.chance(1, 2) {
+        grow(rng, &mut case);
+    }
     case
 }
 
@@ -74,8 +102,11 @@ fn one_case(cases: &Cases, seed: u64, k: u64, tally: &mut Tally) {
     let mut offset_rng = Rng::new(stretch_rng.clone().word() ^ rng.clone().word());
     let fill = rng.word();
     for which in CALLS {
-        let (outcome, difference) = against_oracle(which, &case, fill);
+        let (outcome, difference, reports) = with_reports(which, &case, fill);
         tally.ended[outcome as usize] += 1;
+        if which == Call::Filter && outcome == 0 {
+            tally.told(reports.0, reports.1);
+        }
         let line = if which == Call::Filter { &mut tally.filter } else { &mut tally.smooth };
         line.count(&format!("{name}, {}", which.name()), difference);
     }
@@ -86,8 +117,9 @@ fn one_case(cases: &Cases, seed: u64, k: u64, tally: &mut Tally) {
     if k % LONG_EVERY == 0 {
         let case = long_case(&mut wild_rng);
         for which in CALLS {
-            let difference = against_oracle(which, &case, fill).1;
+            let (outcome, difference, reports) = with_reports(which, &case, fill);
             tally.long.count(&format!("long run after {name}, {}", which.name()), difference);
+            tally.long_told += u64::from(which == Call::Filter && outcome == 0 && reports != (0, 0));
         }
         values::try_offsets(&mut offset_rng, &case, &format!("long run after {name}"), tally);
         let run = Run::of(&case).expect("a long run starts");
@@ -96,8 +128,8 @@ fn one_case(cases: &Cases, seed: u64, k: u64, tally: &mut Tally) {
 }
 
 /// Every `threads`th case below `count`, from the one with the thread's number.
-fn some_cases(seed: u64, count: u64, thread: usize, threads: usize) -> Tally {
-    let cases = Cases::new(seed);
+fn some_cases(seed: u64, count: u64, off: bool, thread: usize, threads: usize) -> Tally {
+    let cases = if off { Cases::running_off(seed) } else { Cases::new(seed) };
     let mut tally = Tally::default();
     let tenth = (count / 10).max(100_000);
     for k in (thread as u64..count).step_by(threads) {
@@ -111,11 +143,11 @@ fn some_cases(seed: u64, count: u64, thread: usize, threads: usize) -> Tally {
     tally
 }
 
-/// Compares, and prints what was compared. Whether nothing differs.
-pub fn compare(seed: u64, count: u64, threads: usize) -> bool {
+/// Compares, and prints what was compared; with `off`, on cases of which every third runs off. Whether nothing differs.
+pub fn compare(seed: u64, count: u64, off: bool, threads: usize) -> bool {
     watch::begin();
     let mut tally = std::thread::scope(|scope| {
-        let started: Vec<_> = (0..threads).map(|thread| scope.spawn(move || some_cases(seed, count, thread, threads))).collect();
+        let started: Vec<_> = (0..threads).map(|thread| scope.spawn(move || some_cases(seed, count, off, thread, threads))).collect();
         started.into_iter().fold(Tally::default(), |mut all, one| {
             all.add(one.join().expect("a thread of the comparison ended early"));
             all

@@ -6,7 +6,7 @@ use oracle::rng::Rng;
 use oracle::uncut::uncut;
 use oracle::{encode, needed, saved_len, Carried, Inputs};
 
-use crate::lent::{Ask, Lent, D_DIFFUSE, HEARD, LOGLIK, NEWS, PRED_MEAN, SAVE};
+use crate::lent::{Ask, Lent, COV_OFF, D_DIFFUSE, HEARD, LOGLIK, MEAN_OFF, NEWS, PRED_MEAN, SAVE};
 use crate::library::Call;
 use crate::tally::{Line, Tally};
 
@@ -37,6 +37,12 @@ pub fn room(rng: &mut Rng, p: usize, m: usize, n: usize) -> [usize; 13] {
     let mut lent = needed(p, m, n).map(|len| len + rng.below(3));
     lent[11..].fill(0);
     lent
+}
+
+/// The counts and reports of a run so far, each with its part.
+pub fn counts(state: &Carried) -> [(usize, u64); 5] {
+    let Carried { d_diffuse, heard, news, cov_off, mean_off, .. } = *state;
+    [(D_DIFFUSE, d_diffuse), (HEARD, heard), (NEWS, news), (COV_OFF, cov_off), (MEAN_OFF, mean_off)].map(|(part, count)| (part, count as u64))
 }
 
 /// The inputs of a case's periods `from` up to `to`.
@@ -80,8 +86,8 @@ impl<'a> Run<'a> {
             lent.put(PRED_MEAN + k, (to - from) * widths[k], &words);
         }
         lent.put(LOGLIK, 0, &[state.loglik.to_bits()]);
-        for (part, count) in [(D_DIFFUSE, state.d_diffuse), (HEARD, state.heard), (NEWS, state.news)] {
-            lent.put(part, 0, &[count as u64]);
+        for (part, count) in counts(state) {
+            lent.put(part, 0, &[count]);
         }
         if !last {
             let bytes = self.bytes(to);

@@ -1,7 +1,7 @@
 //! All that one call is lent, in one stretch of memory: the inputs, the outputs and the answer's places, each between two guard zones. Two such
 //! stretches after two calls are compared word by word, so that nothing can change unseen: no tail, no guard, no input, no place of a refused answer.
 
-use oracle::case::{one_nan, Case, INPUT_NAMES, OUTPUT_NAMES};
+use oracle::case::{answer_words, one_nan, Case, ANSWER, INPUT_NAMES, OUTPUT_NAMES};
 use oracle::{filter_call, saved_len, smooth_call, stretch_call, Inputs, Outputs, Smoothed, Stretch};
 
 use crate::library::{self, Call};
@@ -11,8 +11,8 @@ const GUARD: usize = 4;
 const INPUTS: usize = 12;
 const OUTPUTS: usize = 13;
 /// Past the inputs, the outputs and the answer: the bytes that a stretch goes on from, and those that it saves.
-const PARTS: usize = INPUTS + OUTPUTS + 4 + 2;
-const ANSWER_NAMES: [&str; 4] = ["the log-likelihood", "d_diffuse", "heard", "news"];
+const PARTS: usize = INPUTS + OUTPUTS + ANSWER + 2;
+const ANSWER_NAMES: [&str; ANSWER] = ["the log-likelihood", "d_diffuse", "heard", "news", "cov_off", "mean_off"];
 
 /// Numbers of parts, the inputs first, then the outputs, then the answer's places, then a stretch's bytes.
 pub const C: usize = 6;
@@ -29,8 +29,10 @@ pub const LOGLIK: usize = 25;
 pub const D_DIFFUSE: usize = 26;
 pub const HEARD: usize = 27;
 pub const NEWS: usize = 28;
-pub const SAVED: usize = 29;
-pub const SAVE: usize = 30;
+pub const COV_OFF: usize = 29;
+pub const MEAN_OFF: usize = 30;
+pub const SAVED: usize = 31;
+pub const SAVE: usize = 32;
 
 /// Where a part starts, in words and bytes more, and how many places it has.
 #[derive(Debug, Clone, Copy, Default)]
@@ -55,7 +57,7 @@ pub struct Args {
     pub sizes: [usize; 4],
     pub inputs: [(*mut u64, usize); INPUTS],
     pub outputs: [(*mut u64, usize); OUTPUTS],
-    pub answer: [*mut u64; 4],
+    pub answer: [*mut u64; ANSWER],
     pub begins: u8,
     pub saved: (*mut u8, usize),
     pub last: u8,
@@ -213,8 +215,7 @@ impl Lent {
         };
         match outcome {
             Ok(answer) => {
-                let told = [answer.loglik.to_bits(), answer.d_diffuse as u64, answer.heard as u64, answer.news as u64];
-                for (place, word) in a.answer.into_iter().zip(told) {
+                for (place, word) in a.answer.into_iter().zip(answer_words(&answer)) {
                     unsafe { place.write(word) };
                 }
                 0

@@ -51,7 +51,7 @@ unsafe fn whole(which: Call, a: &Args) -> u32 {
     let [p, m, r, n] = a.sizes;
     let [z, zs, h, t, rr, q, c, d, a1, ps, fl, y] = a.inputs;
     let [pm, pc, pi, fm, fc, k, v, fs, fi, ms, mi, sm, sc] = a.outputs;
-    let [loglik, d_diffuse, heard, news] = a.answer;
+    let [loglik, d_diffuse, heard, news, cov_off, mean_off] = a.answer;
     match which {
         Call::Filter => goxundar_filter(
             p, m, r, n,
@@ -60,7 +60,7 @@ unsafe fn whole(which: Call, a: &Args) -> u32 {
             a1.0.cast(), a1.1, ps.0.cast(), ps.1, fl.0.cast(), fl.1, y.0.cast(), y.1,
             pm.0.cast(), pm.1, pc.0.cast(), pc.1, pi.0.cast(), pi.1, fm.0.cast(), fm.1, fc.0.cast(), fc.1,
             k.0.cast(), k.1, v.0.cast(), v.1, fs.0.cast(), fs.1, fi.0.cast(), fi.1, ms.0.cast(), ms.1, mi.0.cast(), mi.1,
-            loglik.cast(), d_diffuse.cast(), heard.cast(), news.cast(),
+            loglik.cast(), d_diffuse.cast(), heard.cast(), news.cast(), cov_off.cast(), mean_off.cast(),
         ),
         _ => goxundar_smooth(
             p, m, r, n,
@@ -70,7 +70,7 @@ unsafe fn whole(which: Call, a: &Args) -> u32 {
             pm.0.cast(), pm.1, pc.0.cast(), pc.1, pi.0.cast(), pi.1, fm.0.cast(), fm.1, fc.0.cast(), fc.1,
             k.0.cast(), k.1, v.0.cast(), v.1, fs.0.cast(), fs.1, fi.0.cast(), fi.1, ms.0.cast(), ms.1, mi.0.cast(), mi.1,
             sm.0.cast(), sm.1, sc.0.cast(), sc.1,
-            loglik.cast(), d_diffuse.cast(), heard.cast(), news.cast(),
+            loglik.cast(), d_diffuse.cast(), heard.cast(), news.cast(), cov_off.cast(), mean_off.cast(),
         ),
     }
 }
@@ -81,7 +81,7 @@ unsafe fn stretch(a: &Args) -> u32 {
     let [p, m, r, n] = a.sizes;
     let [z, zs, h, t, rr, q, c, d, a1, ps, fl, y] = a.inputs;
     let [pm, pc, pi, fm, fc, k, v, fs, fi, ms, mi, ..] = a.outputs;
-    let [loglik, d_diffuse, heard, news] = a.answer;
+    let [loglik, d_diffuse, heard, news, cov_off, mean_off] = a.answer;
     goxundar_stretch(
         p, m, r, n,
         z.0.cast(), z.1, zs.0.cast(), zs.1, h.0.cast(), h.1, t.0.cast(), t.1,
@@ -91,6 +91,6 @@ unsafe fn stretch(a: &Args) -> u32 {
         pm.0.cast(), pm.1, pc.0.cast(), pc.1, pi.0.cast(), pi.1, fm.0.cast(), fm.1, fc.0.cast(), fc.1,
         k.0.cast(), k.1, v.0.cast(), v.1, fs.0.cast(), fs.1, fi.0.cast(), fi.1, ms.0.cast(), ms.1, mi.0.cast(), mi.1,
         a.save.0, a.save.1,
-        loglik.cast(), d_diffuse.cast(), heard.cast(), news.cast(),
+        loglik.cast(), d_diffuse.cast(), heard.cast(), news.cast(), cov_off.cast(), mean_off.cast(),
     )
 }

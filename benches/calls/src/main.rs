@@ -1,6 +1,6 @@
 //! The library's calls beside the oracle's: compared, timed, and the stack that they take.
 //!
-//! usage: calls-bench [time | stack | check SEED COUNT]
+//! usage: calls-bench [time | stack | check SEED COUNT [off]]
 mod altered;
 mod clock;
 mod compare;
@@ -16,11 +16,13 @@ mod wild;
 
 use std::process::exit;
 
+fn usage() -> ! {
+    eprintln!("usage: calls-bench [time | stack | check SEED COUNT [off]]");
+    exit(2)
+}
+
 fn number(word: Option<&String>) -> u64 {
-    word.and_then(|w| w.parse().ok()).unwrap_or_else(|| {
-        eprintln!("usage: calls-bench [time | stack | check SEED COUNT]");
-        exit(2)
-    })
+    word.and_then(|w| w.parse().ok()).unwrap_or_else(|| usage())
 }
 
 /// How many threads the comparison may use: COMPARE_THREADS, or one.
@@ -43,7 +45,12 @@ fn main() {
         Some("time") => time(),
         Some("stack") => stack::print(),
         Some("check") => {
-            let agrees = compare::compare(number(words.get(1)), number(words.get(2)), threads());
+            let off = match words.get(3).map(String::as_str) {
+                None => false,
+                Some("off") => true,
+                Some(_) => usage(),
+            };
+            let agrees = compare::compare(number(words.get(1)), number(words.get(2)), off, threads());
             exit(i32::from(!agrees));
         }
         None => {
@@ -51,6 +58,6 @@ fn main() {
             println!();
             stack::print();
         }
-        Some(_) => drop(number(None)),
+        Some(_) => usage(),
     }
 }

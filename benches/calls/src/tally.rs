@@ -36,6 +36,10 @@ pub struct Tally {
     /// How the compared calls on made cases ended: answered, or refused with 1 to 12.
     pub ended: [u64; 13],
     pub wild_ended: [u64; 13],
+    /// Cases that the filter's call answers: with a covariance report, with a mean report, with both, with neither.
+    pub reports: [u64; 4],
+    /// Long runs with a report.
+    pub long_told: u64,
     /// Wild calls whose empty parts were null.
     pub wild_nulls: u64,
     pub filter: Line,
@@ -101,6 +105,10 @@ impl Tally {
     pub fn add(&mut self, mut other: Tally) {
         self.cases += other.cases;
         self.wild_nulls += other.wild_nulls;
+        self.long_told += other.long_told;
+        for (a, b) in self.reports.iter_mut().zip(other.reports) {
+            *a += b;
+        }
         for k in 0..13 {
             self.ended[k] += other.ended[k];
             self.wild_ended[k] += other.wild_ended[k];
@@ -110,6 +118,14 @@ impl Tally {
         }
         for ((_, a), (_, b)) in self.lines().into_iter().zip(other.lines()) {
             a.add(std::mem::take(b));
+        }
+    }
+
+    /// Counts the reports of a case that is answered.
+    pub fn told(&mut self, cov_off: u64, mean_off: u64) {
+        let (cov, mean) = (cov_off > 0, mean_off > 0);
+        for (count, yes) in self.reports.iter_mut().zip([cov, mean, cov && mean, !cov && !mean]) {
+            *count += u64::from(yes);
         }
     }
 
@@ -128,6 +144,9 @@ impl Tally {
             format!("{} answered; refused {}", e[0], refused.join(", "))
         };
         println!("calls on made cases: {}", ended(&self.ended));
+        let [cov, mean, both, neither] = self.reports;
+        println!("answered cases: {cov} with a covariance report, {mean} with a mean report, {both} of these with both; {neither} with neither");
+        println!("long runs with a report: {}", self.long_told);
         println!("wild calls: {}; empty parts null in {}", ended(&self.wild_ended), self.wild_nulls);
         println!("stretches but those of cut runs: {}", ended(&self.stretch_ended));
         println!("{:<56} {:>10} {:>8}", "", "compared", "differ");

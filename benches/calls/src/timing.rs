@@ -10,7 +10,7 @@ use oracle::time;
 use crate::clock;
 use crate::compare;
 use crate::cuts::{self, Run};
-use crate::lent::{Ask, Lent, D_DIFFUSE, HEARD, LOGLIK, NEWS, Y};
+use crate::lent::{Ask, Lent, LOGLIK, Y};
 use crate::library::{self, Call, CALLS};
 use crate::tally::Line;
 
@@ -111,9 +111,9 @@ fn check_stretches() -> (u64, u64) {
         for each in [time::PERIODS, 1] {
             let mut chain = Chain::of(m, p, time::PERIODS, each);
             let refusal = chain.run();
-            let told = [LOGLIK, D_DIFFUSE, HEARD, NEWS].map(|part| chain.lent.word(part, 0));
             let end = &run.states[time::PERIODS];
-            let wanted = [end.loglik.to_bits(), end.d_diffuse as u64, end.heard as u64, end.news as u64];
+            let wanted: Vec<(usize, u64)> = [(LOGLIK, end.loglik.to_bits())].into_iter().chain(cuts::counts(end)).collect();
+            let told: Vec<(usize, u64)> = wanted.iter().map(|&(part, _)| (part, chain.lent.word(part, 0))).collect();
             let difference = (refusal != 0 || told != wanted).then(|| format!("refusal {refusal}, answer {told:x?}, wanted 0, {wanted:x?}"));
             line.count(&format!("stretches of {each}, m = {m}, p = {p}"), difference);
         }

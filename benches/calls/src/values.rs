@@ -1,5 +1,6 @@
 //! Demand 3 and request k, tried on the library by pairs of calls: the values of finite readings reach no covariance, decision, variance, gain vector,
-//! count or refusal, nor do the offsets past refusals 1 to 11; and a reading judged no news is no news. The oracle is not asked.
+//! count, refusal or report on the covariances, nor do the offsets past refusals 1 to 11; and a reading judged no news is no news, for the report on
+//! the means too. The oracle is not asked.
 
 use std::ops::Range;
 
@@ -7,14 +8,15 @@ use oracle::case::Case;
 use oracle::demand3::{other, other_offsets, other_values};
 use oracle::rng::Rng;
 
-use crate::altered::{float, number, some_periods, LIKELIHOOD, MEAN, TALLIES};
+use crate::altered::{float, number, report, some_periods, LIKELIHOOD, MEAN, MEAN_REPORT, SIZES, STATE, TALLIES};
 use crate::cuts::{self, set};
-use crate::lent::{Ask, Lent, A1, C, D, FILT_MEAN, HEARD, KINDS, LOGLIK, NEWS, PRED_MEAN, SAVE, SAVED, SM_MEAN, V, Y};
+use crate::lent::{Ask, Lent, A1, C, D, FILT_MEAN, HEARD, KINDS, LOGLIK, MEAN_OFF, NEWS, PRED_MEAN, SAVE, SAVED, SM_MEAN, V, Y};
 use crate::library::{Call, CALLS};
 use crate::tally::Tally;
 
-/// What other readings and offsets may move in a call that is answered: the means, v and the log-likelihood. A refused call has none to move.
-const MOVED: [usize; 5] = [PRED_MEAN, FILT_MEAN, V, SM_MEAN, LOGLIK];
+/// What other readings and offsets may move in a call that is answered: the means, v, the log-likelihood and the report on the means. A refused call
+/// has none to move.
+const MOVED: [usize; 6] = [PRED_MEAN, FILT_MEAN, V, SM_MEAN, LOGLIK, MEAN_OFF];
 /// How many readings of a run that were judged no news are tried.
 const READINGS: usize = 3;
 
@@ -139,7 +141,7 @@ impl Piece {
         self.last == 0 && before.refusal == 0 && after.refusal == 0
     }
 
-    /// As `seen`; of what is saved the mean and the likelihood may move.
+    /// As `seen`; of what is saved the mean, the likelihood and the report on the means may move.
     fn seen(&self, before: &mut Run, mut after: Run, handed: &[usize], m: usize) -> Option<String> {
         if self.written(before, &after) {
             for place in means(m) {
@@ -155,28 +157,43 @@ impl Piece {
 }
 
 /// Where a saved run has its mean and its likelihood.
-fn means(m: usize) -> impl Iterator<Item = Range<usize>> {
+fn mean_floats(m: usize) -> impl Iterator<Item = Range<usize>> {
     (0..m).map(move |k| number(m, MEAN, k)).chain([number(m, LIKELIHOOD, 0)])
 }
 
-/// The bytes with another mean and likelihood, where there are any.
+/// And its report on the means.
+fn means(m: usize) -> impl Iterator<Item = Range<usize>> {
+    mean_floats(m).chain([number(m, TALLIES, MEAN_REPORT)])
+}
+
+/// The number in the bytes there.
+fn whole(bytes: &[u8], place: Range<usize>) -> u64 {
+    u64::from_be_bytes(bytes[place].try_into().expect("eight bytes"))
+}
+
+/// The bytes with another mean, likelihood and report on the means, where there are any.
 fn other_means(rng: &mut Rng, bytes: &[u8], m: usize) -> Vec<u8> {
     let mut saved = bytes.to_vec();
-    for place in means(m).filter(|_| !bytes.is_empty()) {
+    if bytes.is_empty() {
+        return saved;
+    }
+    for place in mean_floats(m) {
         saved[place].copy_from_slice(&float(rng).to_bits().to_be_bytes());
     }
+    let done = whole(bytes, number(m, SIZES, 3)) as usize;
+    saved[number(m, TALLIES, MEAN_REPORT)].copy_from_slice(&(report(rng, done) as u64).to_be_bytes());
     saved
 }
 
-/// Request k in a stretch that begins a run, or goes on from saved bytes with another mean and likelihood.
+/// Request k in a stretch that begins a run, or goes on from saved bytes with another mean, likelihood and report on the means.
 pub fn try_stretch_offsets(rng: &mut Rng, run: &cuts::Run<'_>, name: &str, tally: &mut Tally) {
     let m = run.case.m;
     let begins = if rng.chance(1, 2) { set(rng) } else { 0 };
     let piece = Piece::of(rng, run.case, begins);
     let mut saved = piece.saved(run);
-    // The diffuse state is the last number, 0 or 1. With another one both calls are refused 15.
-    if let Some(state) = saved.last_mut().filter(|_| rng.chance(1, 8)) {
-        *state = 2;
+    // The diffuse state is 0 or 1. With another one both calls are refused 15.
+    if !saved.is_empty() && rng.chance(1, 8) {
+        saved[number(m, TALLIES, STATE)].copy_from_slice(&2u64.to_be_bytes());
     }
     let mut before = piece.run(run.case, &saved);
     let after = piece.run(&other_offsets(rng, run.case), &other_means(rng, &saved, m));
@@ -184,7 +201,7 @@ pub fn try_stretch_offsets(rng: &mut Rng, run: &cuts::Run<'_>, name: &str, tally
     tally.stretch_offsets.count(&format!("{name}, other offsets"), piece.seen(&mut before, after, &[C, D, A1, Y, SAVED], m));
 }
 
-/// Demand 3 in a stretch that goes on from saved bytes. Their mean and likelihood may differ too.
+/// Demand 3 in a stretch that goes on from saved bytes. Their mean, likelihood and report on the means may differ too.
 pub fn try_stretch(rng: &mut Rng, run: &cuts::Run<'_>, name: &str, tally: &mut Tally) {
     let Case { p, m, .. } = *run.case;
     let piece = Piece::of(rng, run.case, 0);
@@ -216,7 +233,7 @@ pub fn try_stretch(rng: &mut Rng, run: &cuts::Run<'_>, name: &str, tally: &mut T
         // What is saved tells as many heard as the answer.
         let told = heard(&before).to_be_bytes();
         let place = number(m, TALLIES, 1);
-        let own = u64::from_be_bytes(after.lent.bytes_mut(SAVE)[place.clone()].try_into().expect("eight bytes"));
+        let own = whole(after.lent.bytes_mut(SAVE), place.clone());
         if own == heard(&after) {
             after.lent.bytes_mut(SAVE)[place].copy_from_slice(&told);
         }

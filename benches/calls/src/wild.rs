@@ -35,7 +35,7 @@ fn first_two(which: Call, a: &Args) -> Option<u32> {
         n * m, n * m * m,
     ];
     let outputs = (0..which.outputs()).all(|k| output(k) >= least[k]);
-    let saves = which != Call::Stretch || a.last != 0 || a.save.1 as u128 >= 104 + 8 * m + 32 * m * m;
+    let saves = which != Call::Stretch || a.last != 0 || a.save.1 as u128 >= 120 + 8 * m + 32 * m * m;
     if (constant || listed) && inputs && outputs && saves {
         None
     } else {

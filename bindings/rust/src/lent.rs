@@ -94,6 +94,21 @@ pub struct Answer {
     pub heard: usize,
     /// How many readings were used.
     pub news: usize,
+    /// The first period, from 0, with a predicted, diffuse or filtered covariance that is not finite. [`crate::Run::cov_off`] says more.
+    pub cov_off: Option<usize>,
+    /// The first period, from 0, with a predicted or filtered mean that is not finite.
+    pub mean_off: Option<usize>,
+}
+
+/// The answer as the library writes it: a report is a period plus 1, or 0 for none.
+#[derive(Default)]
+struct Places {
+    loglik: f64,
+    d_diffuse: usize,
+    heard: usize,
+    news: usize,
+    cov_off: usize,
+    mean_off: usize,
 }
 
 /// The needed lengths of the outputs. All are 0 where a size is out of its range: the call is refused, and writes nothing. 0 periods are in range,
@@ -126,11 +141,11 @@ impl Lengths {
     }
 }
 
-/// How many bytes a saved run of m states has: 144 for one state, 2216 for eight. 0 where m is out of its range: the call is refused, and writes
+/// How many bytes a saved run of m states has: 160 for one state, 2232 for eight. 0 where m is out of its range: the call is refused, and writes
 /// nothing.
 pub fn saved_len(m: usize) -> usize {
     match m {
-        1..=MAX_SIZE => 104 + 8 * m + 32 * m * m,
+        1..=MAX_SIZE => 120 + 8 * m + 32 * m * m,
         _ => 0,
     }
 }
@@ -155,7 +170,7 @@ pub enum Ending<'a> {
 
 /// The filter.
 pub fn filter(i: &Inputs<'_>, o: &mut Outputs<'_>) -> Result<Answer, Refusal> {
-    let mut a = Answer::default();
+    let mut a = Places::default();
     // Safety: slices are valid for their lengths, and no `&mut` overlaps anything.
     let number = unsafe {
         raw::goxundar_filter(
@@ -213,6 +228,8 @@ pub fn filter(i: &Inputs<'_>, o: &mut Outputs<'_>) -> Result<Answer, Refusal> {
             &mut a.d_diffuse,
             &mut a.heard,
             &mut a.news,
+            &mut a.cov_off,
+            &mut a.mean_off,
         )
     };
     outcome(number, a)
@@ -220,7 +237,7 @@ pub fn filter(i: &Inputs<'_>, o: &mut Outputs<'_>) -> Result<Answer, Refusal> {
 
 /// The filter, and then the smoother.
 pub fn smooth(i: &Inputs<'_>, o: &mut Outputs<'_>, s: &mut SmoothedOutputs<'_>) -> Result<Answer, Refusal> {
-    let mut a = Answer::default();
+    let mut a = Places::default();
     // Safety: as above.
     let number = unsafe {
         raw::goxundar_smooth(
@@ -282,15 +299,18 @@ pub fn smooth(i: &Inputs<'_>, o: &mut Outputs<'_>, s: &mut SmoothedOutputs<'_>) 
             &mut a.d_diffuse,
             &mut a.heard,
             &mut a.news,
+            &mut a.cov_off,
+            &mut a.mean_off,
         )
     };
     outcome(number, a)
 }
 
 /// The filter, over the next n periods of a run. `i.y` has the readings of these alone. The rest is the run's, the same in every stretch: a list `zs`
-/// counts from the run's first period, and the start is checked each time and used at [`Origin::Start`]. The answer is since the run began.
+/// counts from the run's first period, and the start is checked each time and used at [`Origin::Start`]. The answer is since the run began, and its
+/// periods count from the run's first.
 pub fn stretch(i: &Inputs<'_>, from: Origin<'_>, o: &mut Outputs<'_>, then: Ending<'_>) -> Result<Answer, Refusal> {
-    let mut a = Answer::default();
+    let mut a = Places::default();
     let (begins, saved): (u8, &[u8]) = match from {
         Origin::Start => (1, &[]),
         Origin::Saved(bytes) => (0, bytes),
@@ -362,14 +382,17 @@ pub fn stretch(i: &Inputs<'_>, from: Origin<'_>, o: &mut Outputs<'_>, then: Endi
             &mut a.d_diffuse,
             &mut a.heard,
             &mut a.news,
+            &mut a.cov_off,
+            &mut a.mean_off,
         )
     };
     outcome(number, a)
 }
 
-fn outcome(number: u32, answer: Answer) -> Result<Answer, Refusal> {
+fn outcome(number: u32, a: Places) -> Result<Answer, Refusal> {
+    let Places { loglik, d_diffuse, heard, news, cov_off, mean_off } = a;
     match number {
-        0 => Ok(answer),
+        0 => Ok(Answer { loglik, d_diffuse, heard, news, cov_off: cov_off.checked_sub(1), mean_off: mean_off.checked_sub(1) }),
         _ => Err(Refusal::from_number(number).expect("the library returns 0, or a refusal's number")),
     }
 }

@@ -55,6 +55,9 @@
 //! # Ok::<(), goxundar::Refusal>(())
 //! ```
 //!
+//! Overflow is not refused: it is carried on. [`Run::cov_off`] and [`Run::mean_off`] name the first period in which numbers ran off, as they do if a
+//! model is mistyped.
+//!
 //! A run can be cut after any period, and carried over a power cycle as bytes: [`begin`], then [`Saved::resume`] and [`Saved::finish`].
 //!
 //! [`Model`], [`Run`], [`Smoothed`] and [`Saved`] own what they hold. [`lent`] has the same calls on slices, and allocates nothing; [`raw`] has the

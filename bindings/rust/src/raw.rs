@@ -1,14 +1,18 @@
 //! The library's functions as `goxundar.h` declares them. [`crate::lent`] is the safe form; nobody needs this one who has slices.
 //!
-//! Each returns 0 where it answers, else the refusal's number, 1 to 12, or 15 of a stretch, and then the last four places stay as they were.
+//! Each returns 0 where it answers, else the refusal's number, 1 to 12, or 15 of a stretch, and then the last six places stay as they were. `cov_off`
+//! and `mean_off` are a period plus 1, or 0 for none.
+//!
+//! The library's symbols end in the interface's number, as the header says: a crate of another interface does not link.
 //!
 //! # Safety
 //!
 //! Where a part's length is 0, its pointer is not followed, and may be null. Otherwise it points to that many elements, aligned, that may be read
-//! (`*const`) or written (`*mut`). No `*mut` part or place overlaps any other. The last four are valid.
+//! (`*const`) or written (`*mut`). No `*mut` part or place overlaps any other. The last six are valid.
 
 extern "C" {
     /// The filter.
+    #[link_name = "goxundar_filter_2"]
     pub fn goxundar_filter(
         p: usize,
         m: usize,
@@ -64,9 +68,12 @@ extern "C" {
         d_diffuse: *mut usize,
         heard: *mut usize,
         news: *mut usize,
+        cov_off: *mut usize,
+        mean_off: *mut usize,
     ) -> u32;
 
     /// The filter, and then the smoother.
+    #[link_name = "goxundar_smooth_2"]
     pub fn goxundar_smooth(
         p: usize,
         m: usize,
@@ -126,9 +133,12 @@ extern "C" {
         d_diffuse: *mut usize,
         heard: *mut usize,
         news: *mut usize,
+        cov_off: *mut usize,
+        mean_off: *mut usize,
     ) -> u32;
 
     /// Some periods of a run, from its start or from what was saved.
+    #[link_name = "goxundar_stretch_2"]
     pub fn goxundar_stretch(
         p: usize,
         m: usize,
@@ -190,5 +200,7 @@ extern "C" {
         d_diffuse: *mut usize,
         heard: *mut usize,
         news: *mut usize,
+        cov_off: *mut usize,
+        mean_off: *mut usize,
     ) -> u32;
 }

@@ -41,7 +41,8 @@ pub enum Refusal {
     /// There are readings, and none of them is news. Of a run in stretches it is judged in the last one, over all its readings.
     NoInformation = 12,
     /// The saved bytes are not a run that can go on here: their length or a section's count is wrong; p, m or r is not the call's; the periods done
-    /// and n are above 4096 together; a tally is out of its range; or a NaN has other bits than 0x7FF8000000000000.
+    /// and n are above 4096 together; a tally is out of its range; or a NaN has other bits than 0x7FF8000000000000. What the library saved before it
+    /// had [`Run::cov_off`](crate::Run::cov_off) has another length.
     BadSaved = 15,
 }
 
@@ -89,7 +90,7 @@ impl fmt::Display for Refusal {
             Refusal::MixedDriven => "T leads from a flagged state into an unflagged one",
             Refusal::NonFiniteNoise => "R·Q·R' has an entry that is not finite",
             Refusal::NoInformation => "there are readings, and none of them is news",
-            Refusal::BadSaved => "the saved bytes are damaged, of another model's sizes, or of a run with too many periods",
+            Refusal::BadSaved => "the saved bytes are damaged, of another model's sizes, of an older library, or of a run with too many periods",
         })
     }
 }

@@ -109,7 +109,8 @@ fn block(part: &[f64], k: usize, long: usize) -> &[f64] {
 
 /// What a filter's call answered and wrote, or a stretch's.
 ///
-/// Of a stretch, n is its own count of periods, and period 0 its first; the log-likelihood and the counts are since the run began.
+/// Of a stretch, n is its own count of periods, and period 0 its first; the log-likelihood and the counts are since the run began, and
+/// [`Run::cov_off`] and [`Run::mean_off`] count from the run's first period.
 ///
 /// Its views are by period, from 0, and panic as an index does where there is no such period.
 #[derive(Debug, Clone)]
@@ -156,6 +157,49 @@ impl Run {
     /// How many readings were used: records that are not skipped.
     pub fn news(&self) -> usize {
         self.answer.news
+    }
+
+    /// The first period in which a covariance ran off: where [`Run::predicted`]'s `cov` or `diffuse_cov`, or [`Run::filtered`]'s `cov`, has a number
+    /// that is not finite. None where there is no such period.
+    ///
+    /// Nothing is refused for an overflow. It is carried on, as infinities and NaNs, and a mistyped model would be seen late: look here.
+    ///
+    /// ```
+    /// use goxundar::{filter, Design, Model, Refusal};
+    /// // A rate that keeps 0.98 of itself from one period to the next; and no reading for a long time.
+    /// let rate = |keeps| Model {
+    ///     design: Design::Constant(vec![1.0]),
+    ///     h: vec![1.0],
+    ///     t: vec![keeps],
+    ///     a1: vec![1.0],
+    ///     p_star: vec![1.0],
+    ///     ..Model::zeros(1, 1, 1)
+    /// };
+    /// let gaps = [f64::NAN; 200];
+    /// let run = filter(&rate(0.98), 200, &gaps)?;
+    /// assert_eq!((run.cov_off(), run.mean_off()), (None, None));
+    /// // It was typed as 98: the variance overflows in period 78, the mean in period 155.
+    /// let run = filter(&rate(98.0), 200, &gaps)?;
+    /// assert_eq!((run.cov_off(), run.mean_off()), (Some(78), Some(155)));
+    /// # Ok::<(), Refusal>(())
+    /// ```
+    ///
+    /// - The period counts from 0, of a stretch from the run's first period. What an earlier stretch has told stays. `predicted(n)` is no period of
+    ///   this run, and is left out; the next stretch tells of it.
+    /// - The values of readings have no part in it, nor have `a1`, `c` and `d`.
+    /// - It goes by what is handed out there, and by nothing else. A NaN in the diffuse part ends the diffuse start, and zeros are handed out; a
+    ///   reading may be skipped because a number in its test overflows, while the covariance stays finite; a call may be refused, with
+    ///   [`Refusal::NoInformation`], since numbers overflow before any reading is news. None of these is told, and nothing of the smoothed moments
+    ///   and of the records.
+    pub fn cov_off(&self) -> Option<usize> {
+        self.answer.cov_off
+    }
+
+    /// The first period in which a mean ran off: where [`Run::predicted`]'s or [`Run::filtered`]'s `mean` has a number that is not finite. None where
+    /// there is no such period. What else [`Run::cov_off`] says holds here too, but that this goes by the values of readings, and by `a1`, `c` and
+    /// `d`; not by the value of a reading that was no news.
+    pub fn mean_off(&self) -> Option<usize> {
+        self.answer.mean_off
     }
 
     /// What is predicted for period t, 0 to n: `predicted(n)` is the forecast after the last one. Where the run goes on, its diffuse part has not

@@ -34,6 +34,7 @@ use crate::{Model, Refusal, Run};
 /// assert_eq!(before.filtered(1), uncut.filtered(1));
 /// assert_eq!(after.filtered(0), uncut.filtered(2));
 /// assert_eq!((after.loglik(), after.heard(), after.news()), (uncut.loglik(), uncut.heard(), uncut.news()));
+/// assert_eq!((after.cov_off(), after.mean_off()), (uncut.cov_off(), uncut.mean_off()));
 ///
 /// // Bytes that are no saved run are refused, none at all too: an emptied file does not begin a run anew.
 /// assert_eq!(Saved::from_bytes(Vec::new()).finish(&level, 1, &[6.0]).unwrap_err(), Refusal::BadSaved);

@@ -44,6 +44,9 @@ fn run(model: &Model, readings: &[f64]) -> Run {
     let other = smoothed.run();
     assert_eq!(run.loglik().to_bits(), other.loglik().to_bits());
     assert_eq!((run.d_diffuse(), run.heard(), run.news()), (other.d_diffuse(), other.heard(), other.news()));
+    for run in [&run, other] {
+        assert_eq!((run.cov_off(), run.mean_off()), (None, None), "no figure runs off");
+    }
     for t in 0..n {
         same(other.filtered(t).mean, run.filtered(t).mean);
         same(other.filtered(t).cov, run.filtered(t).cov);

@@ -26,7 +26,7 @@ fn model() -> Model {
 
 fn check(run: &Run) {
     assert_eq!((run.elements(), run.states(), run.periods()), (2, 2, 1));
-    assert_eq!((run.d_diffuse(), run.heard(), run.news()), (0, 1, 1));
+    assert_eq!((run.d_diffuse(), run.heard(), run.news(), run.cov_off(), run.mean_off()), (0, 1, 1, None, None));
     assert_eq!(run.record(0, 0), Record::Skipped);
     assert_eq!(run.record(0, 1), Record::Usual { v: 4.0, f_star: 8.0, m_star: &[0.0, 4.0] });
     assert_eq!(run.predicted(0).mean, [5.0, 3.0]);

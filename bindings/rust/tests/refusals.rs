@@ -149,7 +149,7 @@ fn what_is_written() {
 
     // An answer leaves the rest too. Figure A, with the start before it; what is smoothed over one period is what was filtered.
     let answer = lent.smooth(&one_period(&[1.0], &[1], &[2.0])).unwrap();
-    assert_eq!((answer.d_diffuse, answer.heard, answer.news), (1, 1, 1));
+    assert_eq!((answer.d_diffuse, answer.heard, answer.news, answer.cov_off, answer.mean_off), (1, 1, 1, None, None));
     assert_eq!(lent.pred, [[0.0, 2.0, 7.0], [0.0, 3.0, 7.0], [1.0, 0.0, 7.0]]);
     assert_eq!(lent.kinds, [2, 7]);
     let [filt_mean, filt_cov, v, f_star, f_inf, _, _, sm_mean, sm_cov] = lent.rest;

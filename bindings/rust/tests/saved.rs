@@ -65,8 +65,10 @@ fn record(of: Record<'_>) -> (u8, Vec<u64>) {
     }
 }
 
-fn answer(run: &Run) -> (u64, usize, usize, usize) {
-    (bits(run.loglik()), run.d_diffuse(), run.heard(), run.news())
+type Told = (u64, usize, usize, usize, Option<usize>, Option<usize>);
+
+fn answer(run: &Run) -> Told {
+    (bits(run.loglik()), run.d_diffuse(), run.heard(), run.news(), run.cov_off(), run.mean_off())
 }
 
 /// `part` is `whole` from period t on. Its last predicted place is compared where `whole` ends there too, or has not been tested.
@@ -228,11 +230,11 @@ fn damaged_bytes() {
             assert_eq!(damaged(byte, &[9]), bad, "byte {byte}");
         }
     }
-    for (at, wrong) in [(4, 2u64), (12, 2), (20, 2), (28, 4096), (112, 6), (120, 6), (120, 2), (128, 4), (136, 2)] {
+    for (at, wrong) in [(4, 2u64), (12, 2), (20, 2), (28, 4096), (112, 6), (120, 6), (120, 2), (128, 4), (136, 2), (144, 6), (152, 6)] {
         assert_eq!(damaged(at, &wrong.to_be_bytes()), bad, "{wrong} at {at}");
         assert_eq!(damaged(at, &[1]), bad, "the highest byte at {at}");
     }
-    for (at, right) in [(28, 4095u64), (112, 5), (120, 5), (128, 3), (128, 0), (136, 1), (136, 0)] {
+    for (at, right) in [(28, 4095u64), (112, 5), (120, 5), (128, 3), (128, 0), (136, 1), (136, 0), (144, 5), (152, 5)] {
         assert_eq!(damaged(at, &right.to_be_bytes()), None, "{right} at {at}");
     }
     for float in [40, 52, 64, 76, 88, 100] {
@@ -256,7 +258,28 @@ fn another_length() {
     let long = Saved::from_bytes([&bytes[..], &[0]].concat());
     assert_eq!(long.finish(&level(), 1, &[3.0]).unwrap_err(), Refusal::BadSaved);
     // More than a run can have.
-    assert_eq!(Saved::from_bytes(vec![255; 144]).periods_done(), None);
+    assert_eq!(Saved::from_bytes(vec![255; 160]).periods_done(), None);
+}
+
+/// What the library saved before it had the reports: four tallies, and 16 bytes less. docs/SAVED.md says so.
+#[test]
+fn saved_by_an_older_library() {
+    for (m, model) in [(1, level()), (3, crystal())] {
+        let p = model.p;
+        let (_, saved) = begin(&model, 1, &vec![2.0; p]).unwrap();
+        let mut bytes = saved.into_bytes();
+        bytes.truncate(104 + 8 * m + 32 * m * m);
+        bytes[68 + 8 * m + 32 * m * m + 3] = 4;
+        assert_eq!(Saved::from_bytes(bytes.clone()).periods_done(), Some(1));
+        for mended in [4, 6] {
+            bytes[68 + 8 * m + 32 * m * m + 3] = mended;
+            assert_eq!(Saved::from_bytes(bytes.clone()).finish(&model, 1, &vec![3.0; p]).unwrap_err(), Refusal::BadSaved);
+        }
+    }
+    // No length of that form is one of today's.
+    for m in 1..=8 {
+        assert!((1..=8).all(|other| lent::saved_len(other) != 104 + 8 * m + 32 * m * m));
+    }
 }
 
 #[test]
@@ -340,38 +363,38 @@ impl Lent {
 
 #[test]
 fn what_is_written() {
-    let mut save = [7; 147];
+    let mut save = [7; 163];
 
     // Too short by a byte: nothing is written.
     let mut lent = UNTOUCHED;
-    assert_eq!(lent.stretch(2.0, Origin::Start, Ending::Save(&mut save[..143])), Err(Refusal::Length));
-    assert_eq!((lent, save), (UNTOUCHED, [7; 147]));
+    assert_eq!(lent.stretch(2.0, Origin::Start, Ending::Save(&mut save[..159])), Err(Refusal::Length));
+    assert_eq!((lent, save), (UNTOUCHED, [7; 163]));
 
     // Figure A, saved. What is beyond stays.
     let mut lent = UNTOUCHED;
     assert_eq!(lent.stretch(2.0, Origin::Start, Ending::Save(&mut save)), Ok((1, 1, 1)));
     assert_eq!(lent.pred, [[0.0, 2.0, 7.0], [0.0, 3.0, 7.0], [1.0, 0.0, 7.0]]);
     assert_eq!((lent.rest[0], lent.rest[1], lent.kinds), ([2.0, 7.0], [1.0, 7.0], [2, 7]));
-    assert_eq!(save[..144], *begin(&level(), 1, &[2.0]).unwrap().1.as_bytes());
-    assert_eq!(save[144..], [7; 3]);
+    assert_eq!(save[..160], *begin(&level(), 1, &[2.0]).unwrap().1.as_bytes());
+    assert_eq!(save[160..], [7; 3]);
 
     // Figure B's second period, the last.
     let mut lent = UNTOUCHED;
-    assert_eq!(lent.stretch(6.0, Origin::Saved(&save[..144]), Ending::Last), Ok((1, 2, 2)));
+    assert_eq!(lent.stretch(6.0, Origin::Saved(&save[..160]), Ending::Last), Ok((1, 2, 2)));
     assert_eq!(lent.pred, [[2.0, 5.0, 7.0], [3.0, 2.75, 7.0], [0.0, 0.0, 7.0]]);
     assert_eq!((lent.rest[0], lent.rest[1], lent.kinds), ([5.0, 7.0], [0.75, 7.0], [1, 7]));
 
     // 12, with the reading of the first period made no news: the needed places are 0, and the rest stays.
     let (mut lent, mut no_news) = (UNTOUCHED, save);
     no_news[135] = 0;
-    assert_eq!(lent.stretch(GAP, Origin::Saved(&no_news[..144]), Ending::Last), Err(Refusal::NoInformation));
+    assert_eq!(lent.stretch(GAP, Origin::Saved(&no_news[..160]), Ending::Last), Err(Refusal::NoInformation));
     assert_eq!(lent, Lent { pred: [[0.0, 0.0, 7.0]; 3], rest: [[0.0, 7.0]; 7], kinds: [0, 7] });
 
     // 15 writes nothing, to the place for saving neither.
-    for wrong in [&save[..0], &save[..143], &save] {
-        let (mut lent, mut again) = (UNTOUCHED, [7; 147]);
+    for wrong in [&save[..0], &save[..159], &save] {
+        let (mut lent, mut again) = (UNTOUCHED, [7; 163]);
         assert_eq!(lent.stretch(6.0, Origin::Saved(wrong), Ending::Save(&mut again)), Err(Refusal::BadSaved));
-        assert_eq!((lent, again), (UNTOUCHED, [7; 147]));
+        assert_eq!((lent, again), (UNTOUCHED, [7; 163]));
     }
 }
 
@@ -380,5 +403,5 @@ fn lengths() {
     let none = Lengths::needed(2, 3, 0);
     assert_eq!((none.pred_mean, none.pred_cov, none.mean, none.cov, none.record, none.gain), (3, 9, 0, 0, 0, 0));
     assert_eq!(Lengths::needed(2, 3, 4097), Lengths::default());
-    assert_eq!([0, 1, 8, 9, usize::MAX].map(lent::saved_len), [0, 144, 2216, 0, 0]);
+    assert_eq!([0, 1, 2, 3, 8, 9, usize::MAX].map(lent::saved_len), [0, 160, 264, 432, 2232, 0, 0]);
 }

@@ -1,10 +1,10 @@
 // The filter's call by the C calling convention: numbers as themselves, a slice as pointer and length. It asks nothing of its caller. A crate of its own,
-// and so an object of its own in libgoxundar.a (DECISIONS 74).
+// and so an object of its own in libgoxundar.a (DECISIONS 74). Its name ends in the interface's number, which the header puts there.
 ghost use Rattle.promise.specs.Lent.{given, lent};
 ghost use Rattle.promise.specs.Exported.{places, FilteredC};
 
 #[no_mangle]
-pub extern "C" fn goxundar_filter<'a>(
+pub extern "C" fn goxundar_filter_2<'a>(
     p: usize,
     m: usize,
     r: usize,
@@ -36,6 +36,8 @@ pub extern "C" fn goxundar_filter<'a>(
     d_diffuse: &mut usize,
     heard: &mut usize,
     news: &mut usize,
+    cov_off: &mut usize,
+    mean_off: &mut usize,
 ) -> u32
     ensures { λ k. ⌜ FilteredC
         (given p m r n
@@ -46,14 +48,16 @@ pub extern "C" fn goxundar_filter<'a>(
         (now («filt_mean» .entry)) (now («filt_cov» .entry))
         (now (kinds .entry)) (now (v .entry)) (now («f_star» .entry)) (now («f_inf» .entry))
         (now («m_star» .entry)) (now («m_inf» .entry)))
-        (places (now (loglik .entry)) (now («d_diffuse» .entry)) (now (heard .entry)) (now (news .entry)))
+        (places (now (loglik .entry)) (now («d_diffuse» .entry)) (now (heard .entry)) (now (news .entry))
+        (now («cov_off» .entry)) (now («mean_off» .entry)))
         k
         (lent
         (now («pred_mean» .exit)) (now («pred_cov» .exit)) (now («pred_inf» .exit))
         (now («filt_mean» .exit)) (now («filt_cov» .exit))
         (now (kinds .exit)) (now (v .exit)) (now («f_star» .exit)) (now («f_inf» .exit))
         (now («m_star» .exit)) (now («m_inf» .exit)))
-        (places (now (loglik .exit)) (now («d_diffuse» .exit)) (now (heard .exit)) (now (news .exit))) ⌝ }
+        (places (now (loglik .exit)) (now («d_diffuse» .exit)) (now (heard .exit)) (now (news .exit))
+        (now («cov_off» .exit)) (now («mean_off» .exit))) ⌝ }
 {
     let o = filter::filter_univariate(
         p,
@@ -84,5 +88,5 @@ pub extern "C" fn goxundar_filter<'a>(
         m_star,
         m_inf,
     );
-    c_answer::tell(o, loglik, d_diffuse, heard, news)
+    c_answer::tell(o, loglik, d_diffuse, heard, news, cov_off, mean_off)
 }

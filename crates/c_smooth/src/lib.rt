@@ -1,11 +1,11 @@
 // The smoother's call by the C calling convention: numbers as themselves, a slice as pointer and length. It asks nothing of its caller. A crate of its own,
-// and so an object of its own in libgoxundar.a (DECISIONS 74).
+// and so an object of its own in libgoxundar.a (DECISIONS 74). Its name ends in the interface's number, which the header puts there.
 ghost use Rattle.promise.specs.Lent.{given, lentSmooth};
 ghost use Rattle.promise.specs.Exported.{places, SmoothedC};
 
 // The filter's call with two outputs more.
 #[no_mangle]
-pub extern "C" fn goxundar_smooth<'a>(
+pub extern "C" fn goxundar_smooth_2<'a>(
     p: usize,
     m: usize,
     r: usize,
@@ -39,6 +39,8 @@ pub extern "C" fn goxundar_smooth<'a>(
     d_diffuse: &mut usize,
     heard: &mut usize,
     news: &mut usize,
+    cov_off: &mut usize,
+    mean_off: &mut usize,
 ) -> u32
     ensures { λ k. ⌜ SmoothedC
         (given p m r n
@@ -50,7 +52,8 @@ pub extern "C" fn goxundar_smooth<'a>(
         (now (kinds .entry)) (now (v .entry)) (now («f_star» .entry)) (now («f_inf» .entry))
         (now («m_star» .entry)) (now («m_inf» .entry))
         (now («sm_mean» .entry)) (now («sm_cov» .entry)))
-        (places (now (loglik .entry)) (now («d_diffuse» .entry)) (now (heard .entry)) (now (news .entry)))
+        (places (now (loglik .entry)) (now («d_diffuse» .entry)) (now (heard .entry)) (now (news .entry))
+        (now («cov_off» .entry)) (now («mean_off» .entry)))
         k
         (lentSmooth
         (now («pred_mean» .exit)) (now («pred_cov» .exit)) (now («pred_inf» .exit))
@@ -58,7 +61,8 @@ pub extern "C" fn goxundar_smooth<'a>(
         (now (kinds .exit)) (now (v .exit)) (now («f_star» .exit)) (now («f_inf» .exit))
         (now («m_star» .exit)) (now («m_inf» .exit))
         (now («sm_mean» .exit)) (now («sm_cov» .exit)))
-        (places (now (loglik .exit)) (now («d_diffuse» .exit)) (now (heard .exit)) (now (news .exit))) ⌝ }
+        (places (now (loglik .exit)) (now («d_diffuse» .exit)) (now (heard .exit)) (now (news .exit))
+        (now («cov_off» .exit)) (now («mean_off» .exit))) ⌝ }
 {
     let o = smoother::smooth_univariate(
         p,
@@ -91,5 +95,5 @@ pub extern "C" fn goxundar_smooth<'a>(
         sm_mean,
         sm_cov,
     );
-    c_answer::tell(o, loglik, d_diffuse, heard, news)
+    c_answer::tell(o, loglik, d_diffuse, heard, news, cov_off, mean_off)
 }

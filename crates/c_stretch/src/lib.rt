@@ -1,10 +1,11 @@
 // A stretch's call by the C calling convention: numbers as themselves, a slice as pointer and length, yes as any byte but 0. It asks nothing of its
-// caller. A crate of its own, and so an object of its own in libgoxundar.a (DECISIONS 74).
+// caller. A crate of its own, and so an object of its own in libgoxundar.a (DECISIONS 74). Its name ends in the interface's number, which the header
+// puts there.
 ghost use Rattle.promise.specs.Lent.{given, lent, givenStretch, lentStretch};
 ghost use Rattle.promise.specs.Exported.{isYes, places, StretchedC};
 
 #[no_mangle]
-pub extern "C" fn goxundar_stretch<'a>(
+pub extern "C" fn goxundar_stretch_2<'a>(
     p: usize,
     m: usize,
     r: usize,
@@ -40,6 +41,8 @@ pub extern "C" fn goxundar_stretch<'a>(
     d_diffuse: &mut usize,
     heard: &mut usize,
     news: &mut usize,
+    cov_off: &mut usize,
+    mean_off: &mut usize,
 ) -> u32
     ensures { λ k. ⌜ StretchedC
         (givenStretch
@@ -54,7 +57,8 @@ pub extern "C" fn goxundar_stretch<'a>(
         (now (kinds .entry)) (now (v .entry)) (now («f_star» .entry)) (now («f_inf» .entry))
         (now («m_star» .entry)) (now («m_inf» .entry)))
         (now (save .entry)))
-        (places (now (loglik .entry)) (now («d_diffuse» .entry)) (now (heard .entry)) (now (news .entry)))
+        (places (now (loglik .entry)) (now («d_diffuse» .entry)) (now (heard .entry)) (now (news .entry))
+        (now («cov_off» .entry)) (now («mean_off» .entry)))
         k
         (lentStretch
         (lent
@@ -63,7 +67,8 @@ pub extern "C" fn goxundar_stretch<'a>(
         (now (kinds .exit)) (now (v .exit)) (now («f_star» .exit)) (now («f_inf» .exit))
         (now («m_star» .exit)) (now («m_inf» .exit)))
         (now (save .exit)))
-        (places (now (loglik .exit)) (now («d_diffuse» .exit)) (now (heard .exit)) (now (news .exit))) ⌝ }
+        (places (now (loglik .exit)) (now («d_diffuse» .exit)) (now (heard .exit)) (now (news .exit))
+        (now («cov_off» .exit)) (now («mean_off» .exit))) ⌝ }
 {
     let o = stretch::stretch(
         p,
@@ -98,5 +103,5 @@ pub extern "C" fn goxundar_stretch<'a>(
         m_inf,
         save,
     );
-    c_answer::tell(o, loglik, d_diffuse, heard, news)
+    c_answer::tell(o, loglik, d_diffuse, heard, news, cov_off, mean_off)
 }

@@ -14,6 +14,7 @@ use Rattle.definition.specs.Tracks.{by-classes}
 use Rattle.demands.specs.Conditions.{Room, table, First}
 use Rattle.demands.specs.Refusals as refusals
 use Rattle.demands.specs.Totals.{totals}
+use Rattle.demands.specs.Reports as report
 use Rattle.demands.specs.Values as demand
 use Rattle.demands.specs.Offsets as offset
 use Rattle.promise.specs.declared.Outcome.{Outcome}
@@ -44,6 +45,10 @@ module _ (x : Model) (o : Offsets) (y : List Float) (w : CovParts) (w′ : MeanP
   -- and its counts are counts
   pub counts : seen.refusalOf r ≡ 0 → seen.Totals x y r b
   counts e = seen.totals call e (totals x o y w w′)
+
+  -- and its reports name what stands in the parts
+  pub reports : seen.refusalOf r ≡ 0 → seen.Named x r b b′
+  reports e = seen.named (seen.reported call e (report.reports x o y w w′))
 
   -- demand 3: the values of finite readings reach no refusal, no count, no decision and no covariance
   pub values : (y′ : List Float) → demand.Alike y y′ → {s : Outcome} {c : CovParts} {c′ : MeanParts} → Called x o y′ w w′ s c c′ → seen.Blind r s b c

@@ -61,6 +61,9 @@ module _ (x : Model) (o : Offsets) (y : List Float) (w : CovParts) (w′ : MeanP
   pub counts : seen.refusalOf r ≡ 0 → seen.Totals x y r b
   counts e = either-way x old (λ t. filter.counts x o y w w′ (enough call t) e) (λ t. absurd (short-not (short call t) (inl e)))
 
+  pub reports : seen.refusalOf r ≡ 0 → seen.Named x r b b′
+  reports e = either-way x old (λ t. filter.reports x o y w w′ (enough call t) e) (λ t. absurd (short-not (short call t) (inl e)))
+
   with-list : {o′ : Offsets} {y′ : List Float} {v′ : MeanParts} {s : Outcome} {c : CovParts} {c′ : MeanParts} {also : List Record} → WithRecords x o′ y′ w v′ old s c c′ also → seen.Blind r s b c → seen.Blind r s b c × SameVariances new also
   with-list other z = (z, list-blind (call .promise) _ old (call .told) (other .promise) (other .told) (z .refusals) (z .parts))
 

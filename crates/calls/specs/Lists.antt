@@ -14,7 +14,7 @@ use Rattle.definition.specs.Num.{0ᶠ, tabFrom}
 use Rattle.definition.specs.Inputs.{Model, Offsets, classOf}
 use Rattle.definition.specs.Refusals.{outside, badLength, refusal, tests, firstOf}
 use Rattle.definition.specs.Parts.{fStar, fInf, innovations}
-use Rattle.definition.specs.Outcome.{CovParts, MeanParts, CovOutcome, MeanOutcome, Counts, Ending, turned, ending, endingOf, numberOf, after, countsIn, kindsNeed, roomy, covOutcome, meanOutcome, outcome, outcomeAt}
+use Rattle.definition.specs.Outcome.{CovParts, MeanParts, CovOutcome, MeanOutcome, Counts, Ending, turned, ending, endingOf, numberOf, after, countsIn, reportIn, kindsNeed, roomy, covOutcome, meanOutcome, outcome, outcomeAt}
 use Rattle.laws.specs.Lists.{length-tab, tab-cong}
 use Rattle.demands.specs.Conditions.{Lengths, Room, table, First}
 use Rattle.demands.specs.Refusals as refusals
@@ -77,18 +77,23 @@ none = record { dDiffuse = 0; heard = 0; news = 0 }
 pub record Short (x : Model) (w b : CovParts) (w′ b′ : MeanParts) (r : Outcome) : Type 0 where
   pub refusals : seen.refusalOf r ≡ tooShort x
   pub counts : seen.countsOf r ≡ none
+  pub covOff : seen.covOffOf r ≡ 0
   pub parts : seen.SameParts b w b′ w′
 
 no-counts : (n : ℕ) → seen.countsBy n none ≡ none
 no-counts zero = refl
 no-counts (suc n) = refl
 
+no-report : (n : ℕ) → seen.reportBy n 0 ≡ 0
+no-report zero = refl
+no-report (suc n) = refl
+
 pub short-so : (x : Model) (o : Offsets) (y : List Float) (w : CovParts) (w′ : MeanParts) (room : Bool) (have : ℕ) {r : Outcome} {b : CovParts} {b′ : MeanParts}
     → Promise (End x o y w w′ (endingWithRecords x o y room have)) r b b′ → leb (kindsNeed x) have ≡ false → Short x w b w′ b′ r
-unfolding covOutcome meanOutcome numberOf countsIn after
+unfolding covOutcome meanOutcome numberOf countsIn reportIn after
 short-so x o y w w′ room have {r} {b} {b′} p e =
     let q = subst (λ (f : Ending). Promise (End x o y w w′ f) r b b′) (without-room x o y room have e) p in
-    record { refusals = seen.refusal-is q; counts = seen.counts-are q ∙ no-counts (tooShort x); parts = seen.parts-are q refl refl }
+    record { refusals = seen.refusal-is q; counts = seen.counts-are q ∙ no-counts (tooShort x); covOff = seen.cov-off-is q ∙ no-report (tooShort x); parts = seen.parts-are q refl refl }
 
 -- nothing of it depends on the readings
 pub short-blind : {x : Model} {w b c : CovParts} {w′ b′ c′ : MeanParts} {r s : Outcome} → Short x w b w′ b′ r → Short x w c w′ c′ s → seen.Blind r s b c
@@ -96,6 +101,7 @@ short-blind h g =
     record {
       refusals = h .refusals ∙ sym (g .refusals);
       counts = h .counts ∙ sym (g .counts);
+      covOff = h .covOff ∙ sym (g .covOff);
       parts =
           record {
             kinds = h .parts .covs .kinds ∙ sym (g .parts .covs .kinds);

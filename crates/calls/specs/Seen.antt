@@ -11,10 +11,14 @@ use lib.Ieee.{Float, isNan}
 use Rattle.definition.specs.Num.{0ᶠ, isFinite, at}
 use Rattle.definition.specs.Run.{count}
 use Rattle.definition.specs.Cov.{CovPeriod}
-use Rattle.definition.specs.Parts.{CovPart, MeanPart}
+use Rattle.definition.specs.Parts.{CovPart, predCov, predInf, filtCov, MeanPart, predMean, filtMean}
+use Rattle.definition.specs.Reports.{firstFrom, toldBefore}
 use Rattle.definition.specs.Inputs.{Model}
 use Rattle.definition.specs.Outcome.{CovParts, MeanParts, Counts, CovOutcome, MeanOutcome, kindsNeed, covNeed, meanNeed}
+use Rattle.laws.specs.Reports.{Names, first-names}
 use Rattle.demands.specs.Refusals.{Blanked, Blank}
+use Rattle.demands.specs.Reports as report
+use Rattle.demands.specs.Reports.{covSeen, meanSeen}
 use Rattle.demands.specs.Values as values
 use Rattle.demands.specs.Offsets as offset
 use Rattle.demands.specs.Unheard.{noPeriod}
@@ -26,7 +30,7 @@ use Rattle.promise.specs.Calls.{answerIn, answerBy, Promise}
 use Rattle.promise.specs.declared.Outcome.{Outcome}
 use Rattle.promise.specs.declared.Outcome.the-variants.{Refused, Answered}
 
--- ---- what comes back: the refusal's number, 0 for an answer (`refusalOf`); an answer's counts and log-likelihood
+-- ---- what comes back: the refusal's number, 0 for an answer (`refusalOf`); an answer's counts, log-likelihood and reports
 
 abbrev pub countsOf : Outcome → Counts
 countsOf (Refused k) = record { dDiffuse = 0; heard = 0; news = 0 }
@@ -35,6 +39,14 @@ countsOf (Answered a) = record { dDiffuse = a .«d_diffuse»; heard = a .heard; 
 abbrev pub loglikOf : Outcome → Float
 loglikOf (Refused k) = 0ᶠ
 loglikOf (Answered a) = a .loglik
+
+abbrev pub covOffOf : Outcome → ℕ
+covOffOf (Refused k) = 0
+covOffOf (Answered a) = a .«cov_off»
+
+abbrev pub meanOffOf : Outcome → ℕ
+meanOffOf (Refused k) = 0
+meanOffOf (Answered a) = a .«mean_off»
 
 -- request k: the call got past refusals 1 to 11
 abbrev pub Admitted : Outcome → Type 0
@@ -57,10 +69,12 @@ pub record BlankParts (x : Model) (w b : CovParts) (w′ b′ : MeanParts) : Typ
   pub covs : (q : CovPart) → Blanked (covNeed x q) 0ᶠ (w .part q) (b .part q)
   pub means : (q : MeanPart) → Blanked (meanNeed x q) 0ᶠ (w′ q) (b′ q)
 
--- demand 3, first half, and request k: the same refusal or the same counts, and the same decisions, variances and covariances
+-- demand 3, first half, and request k: the same refusal or the same counts and the same report on the covariances, and the same decisions, variances
+-- and covariances
 pub record Blind (r s : Outcome) (b c : CovParts) : Type 0 where
   pub refusals : refusalOf r ≡ refusalOf s
   pub counts : countsOf r ≡ countsOf s
+  pub covOff : covOffOf r ≡ covOffOf s
   pub parts : SameCovs b c
 
 -- demand 3, second half: a call that was answered, with news somewhere, judged the finite reading at place k of y no news
@@ -76,6 +90,8 @@ pub record OneLess (r s : Outcome) : Type 0 where
   pub heard : suc (countsOf s .heard) ≡ countsOf r .heard
   pub news : countsOf s .news ≡ countsOf r .news
   pub dDiffuse : countsOf s .dDiffuse ≡ countsOf r .dDiffuse
+  pub covOff : covOffOf s ≡ covOffOf r
+  pub meanOff : meanOffOf s ≡ meanOffOf r
 
 -- the counts of an answered call, over its readings, the kinds that it left and the periods of its run: the diffuse ones are the first
 pub record Totals (x : Model) (y : List Float) (r : Outcome) (b : CovParts) : Type 0 where
@@ -83,6 +99,16 @@ pub record Totals (x : Model) (y : List Float) (r : Outcome) (b : CovParts) : Ty
   pub news : countsOf r .news ≡ count (λ (k : ℕ). not (eqb k 0)) (take (kindsNeed x) (b .kinds))
   pub dDiffuse : countsOf r .dDiffuse ≡ count (λ (c : CovPeriod). c .diffuse) (periodsOf x y)
   pub firsts : (t : ℕ) → t < x .n → getD (periodsOf x y) t noPeriod .diffuse ≡ ltb t (countsOf r .dDiffuse)
+
+-- the reports of an answered call, over the parts as they stand afterwards, after t periods of which k and l were told
+pub record Reported (x : Model) (t k l : ℕ) (r : Outcome) (b : CovParts) (b′ : MeanParts) : Type 0 where
+  pub cov : covOffOf r ≡ toldBefore k (firstFrom t (covSeen x b))
+  pub mean : meanOffOf r ≡ toldBefore l (firstFrom t (meanSeen x b′))
+
+-- of a run from its start: 0 says that all is finite, t + 1 that period t is the first of which something is not
+pub record Named (x : Model) (r : Outcome) (b : CovParts) (b′ : MeanParts) : Type 0 where
+  pub cov : Names 0 (covOffOf r) (covSeen x b)
+  pub mean : Names 0 (meanOffOf r) (meanSeen x b′)
 
 -- ---- through the promise
 
@@ -94,20 +120,36 @@ abbrev loglikBy : ℕ → Float → Float
 loglikBy zero l = l
 loglikBy (suc n) l = 0ᶠ
 
+abbrev pub reportBy : ℕ → ℕ → ℕ
+reportBy zero t = t
+reportBy (suc n) t = 0
+
 refusal-by : (n : ℕ) (a : Answer) → refusalOf (answerBy n a) ≡ n
 unfolding answerBy
 refusal-by zero a = refl
 refusal-by (suc n) a = refl
 
-counts-by : (n : ℕ) (k : Counts) (l : Float) → countsOf (answerBy n (answerIn k l)) ≡ countsBy n k
-unfolding answerBy
-counts-by zero k l = refl
-counts-by (suc n) k l = refl
+-- of an answer with counts k, reports t and u, and log-likelihood l
+module _ (k : Counts) (t : ℕ) (l : Float) (u : ℕ) where
+  counts-by : (n : ℕ) → countsOf (answerBy n (answerIn k t l u)) ≡ countsBy n k
+  unfolding answerBy
+  counts-by zero = refl
+  counts-by (suc n) = refl
 
-loglik-by : (n : ℕ) (k : Counts) (l : Float) → loglikOf (answerBy n (answerIn k l)) ≡ loglikBy n l
-unfolding answerBy
-loglik-by zero k l = refl
-loglik-by (suc n) k l = refl
+  loglik-by : (n : ℕ) → loglikOf (answerBy n (answerIn k t l u)) ≡ loglikBy n l
+  unfolding answerBy
+  loglik-by zero = refl
+  loglik-by (suc n) = refl
+
+  cov-off-by : (n : ℕ) → covOffOf (answerBy n (answerIn k t l u)) ≡ reportBy n t
+  unfolding answerBy
+  cov-off-by zero = refl
+  cov-off-by (suc n) = refl
+
+  mean-off-by : (n : ℕ) → meanOffOf (answerBy n (answerIn k t l u)) ≡ reportBy n u
+  unfolding answerBy
+  mean-off-by zero = refl
+  mean-off-by (suc n) = refl
 
 news-by : (n : ℕ) (k : Counts) → 0 < countsBy n k .news → (n ≡ 0) × (0 < k .news)
 news-by zero k h = (refl, h)
@@ -121,10 +163,16 @@ module _ {u : CovOutcome × MeanOutcome} {r : Outcome} {b : CovParts} {b′ : Me
   admitted = subst offset.Admitted refusal-is
 
   pub counts-are : countsOf r ≡ countsBy (u .0 .refused) (u .0 .counts)
-  counts-are = ap countsOf (p .answer) ∙ counts-by (u .0 .refused) (u .0 .counts) (u .1 .loglik)
+  counts-are = ap countsOf (p .answer) ∙ counts-by _ _ _ _ (u .0 .refused)
 
   loglik-is : loglikOf r ≡ loglikBy (u .0 .refused) (u .1 .loglik)
-  loglik-is = ap loglikOf (p .answer) ∙ loglik-by (u .0 .refused) (u .0 .counts) (u .1 .loglik)
+  loglik-is = ap loglikOf (p .answer) ∙ loglik-by _ _ _ _ (u .0 .refused)
+
+  pub cov-off-is : covOffOf r ≡ reportBy (u .0 .refused) (u .0 .covOff)
+  cov-off-is = ap covOffOf (p .answer) ∙ cov-off-by _ _ _ _ (u .0 .refused)
+
+  pub mean-off-is : meanOffOf r ≡ reportBy (u .0 .refused) (u .1 .meanOff)
+  mean-off-is = ap meanOffOf (p .answer) ∙ mean-off-by _ _ _ _ (u .0 .refused)
 
   -- the parts are c and c′ where the outcome's are
   pub parts-are : {c : CovParts} {c′ : MeanParts} → u .0 .parts ≡ c → u .1 .parts ≡ c′ → SameParts b c b′ c′
@@ -159,6 +207,22 @@ module _ {u : CovOutcome × MeanOutcome} {r : Outcome} {b : CovParts} {b′ : Me
         firsts = λ i l. t z .firsts i l ∙ ap (λ (k : Counts). ltb i (k .dDiffuse)) (sym c);
       }
 
+  pub reported : {x : Model} {t k l : ℕ} → refusalOf r ≡ 0 → (u .0 .refused ≡ 0 → report.Reports x t k l (u .0) (u .1)) → Reported x t k l r b b′
+  reported {x} {t} {k} {l} e h =
+      let z : u .0 .refused ≡ 0 = sym refusal-is ∙ e in
+      record {
+        cov = rw (p .cov predCov, p .cov predInf, p .cov filtCov) (cov-off-is ∙ ap (λ (n : ℕ). reportBy n (u .0 .covOff)) z ∙ h z .cov);
+        mean = rw (p .mean predMean, p .mean filtMean) (mean-off-is ∙ ap (λ (n : ℕ). reportBy n (u .1 .meanOff)) z ∙ h z .mean);
+      }
+
+pub named : {x : Model} {r : Outcome} {b : CovParts} {b′ : MeanParts} → Reported x 0 0 0 r b b′ → Named x r b b′
+unfolding toldBefore
+named {x} {r} {b} {b′} h =
+    record {
+      cov = subst (λ (k : ℕ). Names 0 k (covSeen x b)) (sym (h .cov)) (first-names 0 (covSeen x b));
+      mean = subst (λ (k : ℕ). Names 0 k (meanSeen x b′)) (sym (h .mean)) (first-names 0 (meanSeen x b′));
+    }
+
 -- two calls of one outcome: nothing is left open
 pub record Same (r s : Outcome) (b c : CovParts) (b′ c′ : MeanParts) : Type 0 where
   pub results : r ≡ s
@@ -168,7 +232,7 @@ module _ {u v : CovOutcome × MeanOutcome} {r s : Outcome} {b c : CovParts} {b�
   pub same : u ≡ v → Same r s b c b′ c′
   same e =
       record {
-        results = p .answer ∙ ap (λ (z : CovOutcome × MeanOutcome). answerBy (z .0 .refused) (answerIn (z .0 .counts) (z .1 .loglik))) e ∙ sym (q .answer);
+        results = p .answer ∙ ap (λ (z : CovOutcome × MeanOutcome). answerBy (z .0 .refused) (answerIn (z .0 .counts) (z .0 .covOff) (z .1 .loglik) (z .1 .meanOff))) e ∙ sym (q .answer);
         parts =
             record {
               covs =
@@ -180,12 +244,13 @@ module _ {u v : CovOutcome × MeanOutcome} {r s : Outcome} {b c : CovParts} {b�
             };
       }
 
-  -- of one number, with the same counts and log-likelihood
-  pub results-are : u .0 .refused ≡ v .0 .refused → u .0 .counts ≡ v .0 .counts → u .1 .loglik ≡ v .1 .loglik → r ≡ s
-  results-are e f g =
+  -- of one number, with the same counts, reports and log-likelihood
+  pub results-are : u .0 .refused ≡ v .0 .refused → u .0 .counts ≡ v .0 .counts → u .0 .covOff ≡ v .0 .covOff → u .1 .loglik ≡ v .1 .loglik → u .1 .meanOff ≡ v .1 .meanOff → r ≡ s
+  results-are e f h g i =
       p .answer
-      ∙ ap (λ (n : ℕ). answerBy n (answerIn (u .0 .counts) (u .1 .loglik))) e
-      ∙ ap₂ (λ (k : Counts) (l : Float). answerBy (v .0 .refused) (answerIn k l)) f g
+      ∙ ap (λ (n : ℕ). answerBy n (answerIn (u .0 .counts) (u .0 .covOff) (u .1 .loglik) (u .1 .meanOff))) e
+      ∙ ap₂ (λ (k : Counts) (t : ℕ). answerBy (v .0 .refused) (answerIn k t (u .1 .loglik) (u .1 .meanOff))) f h
+      ∙ ap₂ (λ (l : Float) (t : ℕ). answerBy (v .0 .refused) (answerIn (v .0 .counts) (v .0 .covOff) l t)) g i
       ∙ sym (q .answer)
 
   -- of one covariance half
@@ -194,6 +259,7 @@ module _ {u v : CovOutcome × MeanOutcome} {r s : Outcome} {b c : CovParts} {b�
       record {
         refusals = refusal-is p ∙ ap (λ (z : CovOutcome). z .refused) e ∙ sym (refusal-is q);
         counts = counts-are p ∙ ap (λ (z : CovOutcome). countsBy (z .refused) (z .counts)) e ∙ sym (counts-are q);
+        covOff = cov-off-is p ∙ ap (λ (z : CovOutcome). reportBy (z .refused) (z .covOff)) e ∙ sym (cov-off-is q);
         parts =
             record {
               kinds = p .kinds ∙ ap (λ (z : CovOutcome). z .parts .kinds) e ∙ sym (q .kinds);
@@ -213,6 +279,8 @@ module _ {u v : CovOutcome × MeanOutcome} {r s : Outcome} {b c : CovParts} {b�
           heard = ap (λ (z : Counts). suc (z .heard)) cs ∙ d .heard ∙ ap (λ (z : Counts). z .heard) (sym cr);
           news = ap (λ (z : Counts). z .news) cs ∙ d .news ∙ ap (λ (z : Counts). z .news) (sym cr);
           dDiffuse = ap (λ (z : Counts). z .dDiffuse) cs ∙ d .dDiffuse ∙ ap (λ (z : Counts). z .dDiffuse) (sym cr);
+          covOff = cov-off-is q ∙ ap₂ reportBy (d .refusals) (d .covOff) ∙ sym (cov-off-is p);
+          meanOff = mean-off-is q ∙ ap₂ (λ (n : ℕ) (z : MeanOutcome). reportBy n (z .meanOff)) (d .refusals) e ∙ sym (mean-off-is p);
         },
         record {
           covs =

@@ -15,6 +15,7 @@ use Rattle.demands.specs.Conditions.{RoomSmooth, table, First}
 use Rattle.demands.specs.Refusals as refusals
 use Rattle.demands.specs.Refusals.{Blanked}
 use Rattle.demands.specs.Totals.{totals-smooth}
+use Rattle.demands.specs.Reports as report
 use Rattle.demands.specs.Values as demand
 use Rattle.demands.specs.Offsets as offset
 use Rattle.promise.specs.declared.Outcome.{Outcome}
@@ -69,6 +70,10 @@ module _ (x : Model) (o : Offsets) (y : List Float) (w : CovParts) (w′ : MeanP
 
   pub counts : seen.refusalOf r ≡ 0 → seen.Totals x y r b
   counts e = seen.totals (call .filter) e (totals-smooth x o y w w′ sm sc)
+
+  -- and its reports name what stands in the parts
+  pub reports : seen.refusalOf r ≡ 0 → seen.Named x r b b′
+  reports e = seen.named (seen.reported (call .filter) e (report.reports-smooth x o y w w′ sm sc))
 
   -- demand 3: the values of finite readings reach no smoothed covariance either
   pub values : (y′ : List Float) → demand.Alike y y′ → {s : Outcome} {c : CovParts} {c′ : MeanParts} {sm″ sc″ : List Float} → Called x o y′ w w′ sm sc s c c′ sm″ sc″ → seen.Blind r s b c × (sc′ ≡ sc″)

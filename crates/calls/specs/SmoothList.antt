@@ -73,6 +73,9 @@ module _ (x : Model) (o : Offsets) (y : List Float) (w : CovParts) (w′ : MeanP
   pub counts : seen.refusalOf r ≡ 0 → seen.Totals x y r b
   counts e = either-way x old (λ t. smooth.counts x o y w w′ sm sc (enough call t) e) (λ t. absurd (short-not (short call t) (inl e)))
 
+  pub reports : seen.refusalOf r ≡ 0 → seen.Named x r b b′
+  reports e = either-way x old (λ t. smooth.reports x o y w w′ sm sc (enough call t) e) (λ t. absurd (short-not (short call t) (inl e)))
+
   with-list : {o′ : Offsets} {y′ : List Float} {v′ : MeanParts} {sn : List Float} {s : Outcome} {c : CovParts} {c′ : MeanParts} {sm″ sc″ : List Float} {also : List Record}
       → WithRecordsSmooth x o′ y′ w v′ sn sc old s c c′ sm″ sc″ also → seen.Blind r s b c × (sc′ ≡ sc″) → seen.Blind r s b c × (sc′ ≡ sc″) × SameVariances new also
   with-list other z = (z .0, z .1, list-blind (call .promise .filter) _ old (call .told) (other .promise .filter) (other .told) (z .0 .refusals) (z .0 .parts))

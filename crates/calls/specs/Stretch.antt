@@ -16,7 +16,7 @@ use Rattle.definition.specs.Parts.{CovPart, MeanPart}
 use Rattle.definition.specs.Inputs.{Model, Offsets}
 use Rattle.definition.specs.Outcome.{CovParts, MeanParts, Counts, kindsNeed, covNeed, meanNeed}
 use Rattle.definition.specs.Saved.{savedNeed}
-use Rattle.definition.specs.Stretch.{From, StretchOutcome, roomyStretch, stretchOutcome}
+use Rattle.definition.specs.Stretch.{From, StretchOutcome, pastIn, meanToldIn, roomyStretch, stretchOutcome}
 use Rattle.laws.specs.All.{AllOf, all-map}
 use Rattle.laws.specs.Bytes.{Byte}
 use Rattle.laws.specs.Cut.{lasting}
@@ -25,6 +25,7 @@ use Rattle.laws.specs.AcceptedStretch.{Ready, resume}
 use Rattle.laws.specs.AcceptedStretch as accepted
 use Rattle.demands.specs.Conditions.{First}
 use Rattle.demands.specs.Values.{Alike}
+use Rattle.demands.specs.Reports as report
 use Rattle.demands.specs.WholeStretch.{start}
 use Rattle.demands.specs.WholeStretch as alone
 use Rattle.demands.specs.CutOnce.{Lent}
@@ -99,15 +100,19 @@ module _ (x : Model) (o : Offsets) (w : From) (last : Bool) (y : List Float) (v 
   pub determined : {s : Outcome} {c : CovParts} {c′ : MeanParts} {save″ : List ℕ} → Called x o w last y v v′ save s c c′ save″ → Same r s b c b′ c′ save′ save″
   determined other = same call other refl
 
-  -- request k: of calls past refusals 1 to 11, the offsets, the values of finite readings, and of the saved mean and likelihood, reach no later refusal,
-  -- no count, no decision and no covariance. The parts lent to the means, and the part to save in, may be others too
+  -- the reports: what was told before stays, and else they name what stands in the parts; the periods count from the run's first
+  pub reports : seen.refusalOf r ≡ 0 → seen.Reported x (pastIn x w .done) (pastIn x w .covOff) (meanToldIn x w) r b b′
+  reports e = seen.reported (call .filter) e (report.reports-stretch x o w last y v v′ save)
+
+  -- request k: of calls past refusals 1 to 11, the offsets, the values of finite readings, and the saved mean, likelihood and mean report reach no later
+  -- refusal, no count, no report on the covariances, no decision and no covariance. The parts lent to the means, and the part to save in, may be others too
   module _ (o′ : Offsets) (bs : List ℕ) (akin : Akin (x .p) (x .m) (x .r) (x .n) (w .saved) bs) (y′ : List Float) (alike : Alike y y′) (u′ : MeanParts) (also : List ℕ) {s : Outcome} {c : CovParts} {c′ : MeanParts} {save″ : List ℕ} (other : Called x o′ (from (w .begins) bs) last y′ v u′ also s c c′ save″) where
     pub offsets : seen.Admitted r → seen.Admitted s → seen.Blind r s b c
     offsets h h′ =
         seen.blind (call .filter) (other .filter)
         (offset.offsets-stretch x o o′ y y′ alike v v′ u′ (w .begins) last (w .saved) bs akin save also (seen.admitted (call .filter) h) (seen.admitted (other .filter) h′))
 
-    -- and what is saved differs in those two sections alone: a stretch of any length may follow
+    -- and what is saved differs in those three alone: a stretch of any length may follow
     pub offsets-saved : last ≡ false → Ready x o w → Ready x o′ (from (w .begins) bs) → seen.refusalOf r ≡ 0 → seen.Admitted s → (n : ℕ) → Akin (x .p) (x .m) (x .r) n (take (savedNeed (x .m)) save′) (take (savedNeed (x .m)) save″)
     offsets-saved z ready ready′ e h n =
         rw (call .save, other .save)
@@ -220,7 +225,7 @@ module _ (x : Model) (o : Offsets) (w : From) (n k : ℕ) (last : Bool) (y y′ 
       record {
         first = seen.refusal-is (early .filter) ∙ t .first;
         bytes = subst (λ (z : List ℕ). AllOf Byte (take (savedNeed (x .m)) z)) (sym (early .save)) (t .bytes);
-        result = seen.results-are (late′ .filter) (uncut .filter) (t .number) (t .counts) (t .loglik);
+        result = seen.results-are (late′ .filter) (uncut .filter) (t .number) (t .counts) (t .covOff) (t .loglik) (t .meanOff);
         saved = λ z. ap (take (savedNeed (x .m))) (late′ .save) ∙ sym (t .saved z) ∙ ap (take (savedNeed (x .m))) (sym (uncut .save));
         kinds = λ z. uncut .filter .kinds ∙ t .kinds (sym number ∙ z) ∙ ap₂ (λ (f g : List ℕ). lay (take (n * x .p) f ++ take (kindsNeed (lasting k x)) g) (u .cov .kinds)) (sym (early .filter .kinds)) (sym (late′ .filter .kinds));
         covs = λ z q. uncut .filter .cov q ∙ t .covs (sym number ∙ z) q ∙ ap₂ (λ (f g : List Float). lay (take (n * covUnit (x .p) (x .m) q) f ++ take (covNeed (lasting k x) q) g) (u .cov .part q)) (sym (early .filter .cov q)) (sym (late′ .filter .cov q));
@@ -319,7 +324,7 @@ module _ (x : Model) (o : Offsets) (last : Bool) where
         let zero : seen.refusalOf r ≡ 0 → many.runs x o w last (pieces cs) (z .piece) .cov .refused ≡ 0 = λ e. s .number ∙ sym number ∙ e in
         record {
           firsts = t .answers (s .firsts);
-          result = seen.results-are (t .final .filter) (uncut .filter) (s .number) (s .counts) (s .loglik);
+          result = seen.results-are (t .final .filter) (uncut .filter) (s .number) (s .counts) (s .covOff) (s .loglik) (s .meanOff);
           saved = λ e. ap (take (savedNeed (x .m))) (t .final .save) ∙ s .saved e ∙ ap (take (savedNeed (x .m))) (sym (uncut .save));
           kinds = λ e. ap (take (kindsNeed (lasting (long cs z) x))) (uncut .filter .kinds) ∙ sym (s .kinds (zero e)) ∙ t .kinds;
           covs = λ e q. ap (take (covNeed (lasting (long cs z) x) q)) (uncut .filter .cov q) ∙ sym (s .covs (zero e) q) ∙ t .covs q;

@@ -3,16 +3,17 @@ use mathlib.Core.Path.{_≡_, refl, sym, ap, _∙_, subst}
 use mathlib.Core.Bool.{Bool, true, false, _&&_, cond, true≢false}
 use mathlib.Core.List.{List, _++_, append-assoc, append-nil}
 use Prim.Native.Nat.{ℕ, _+_, _-_, _≤_, _<_}
+use native.Mathlib.Nat.{le-refl, sub-self}
 use native.Mathlib.Omega.{arith}
-use lib.ListN.{length, take, drop, replicate, length-append, length-replicate, replicate-append-replicate, drop-of-length-le}
+use lib.ListN.{length, take, drop, replicate, length-append, length-drop, length-replicate, replicate-append-replicate, drop-of-length-le}
 use lib.Seq.{length-take-le, take-at, drop-at, take-length}
 use lib.Dec.{leb}
 use borrow.Author.Tests.{leb-false, le-leb, lt-leb}
 use borrow.Rule.Slice.PartMut.{midOf, putMid}
 use Rattle.decimal.specs.declared.answers.Units.{Units}
 use Rattle.decimal.specs.declared.answers.Units.the-variants.{Whole}
-use Rattle.decimal.specs.Printed.{Onto, textOf, shown, fitsIn, putIn}
-use Rattle.decimal.proofs.Printing.{whole}
+use Rattle.decimal.specs.Printed.{Onto, textOf, shown, fitsIn, putIn, Added}
+use Rattle.decimal.proofs.Printing.{whole, added}
 use Rattle.cells.specs.Cells.{rightOf, leftOf, fits, written, tooLarge, saidOf, cellOf}
 use Rattle.cells.specs.Kept.{said-fits, fits-is}
 
@@ -138,3 +139,18 @@ wide at width d u old r new h s =
     let e : leb (length (saidOf width d u)) width ≡ leb 9 width = le-leb (length (saidOf width d u)) width (said-fits width d u h) ∙ sym (le-leb 9 width h) in
     let f : fits (length old) at width (length (saidOf width d u)) ≡ fits (length old) at width 9 = ap (λ (b : Bool). leb (at + width) (length old) && b) e in
     (s .0 ∙ f, s .1 ∙ ap (λ (b : Bool). cond b (take at old ++ (cellOf width d u ++ drop (at + width) old)) old) f)
+
+-- ---- words with no field around them
+pub bare : (at e : ℕ) (w old new : List ℕ) → at + length w ≤ length old → e ≡ at + length w → new ≡ written (length w) at (length w) (leftOf (length w) w) old → Added at w old e new
+unfolding leftOf
+bare at e w old new h q n =
+    let c = w ++ replicate (length w - length w) 32 in
+    let z : c ≡ w = ap (λ (k : ℕ). w ++ replicate k 32) (sub-self (length w)) ∙ append-nil w in
+    let l = drop (at + length w) old in
+    let g : new ≡ take at old ++ (w ++ l) = n ∙ sym (yes (length w) at (length w) c old _ h (le-refl (length w)) refl .1) ∙ ap (λ (x : List ℕ). take at old ++ (x ++ l)) z in
+    let f : length (take at old) ≡ at = length-take-le at old (omega arith) in
+    added at e w l old new (omega arith) q (record {
+      before = ap (take at) g ∙ take-at (take at old) (w ++ l) at f;
+      after = ap (drop at) g ∙ drop-at (take at old) (w ++ l) at f;
+      long = ap length g ∙ omega (arith, length-append (take at old) (w ++ l), length-append w l, length-drop (at + length w) old);
+    })

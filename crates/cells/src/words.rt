@@ -1,8 +1,9 @@
-// A word in a field, with blanks around it.
+// A word in a field, with blanks around it; and words from a place on, with none.
 ghost use mathlib.Core.Path.{_≡_};
 ghost use Prim.Native.Nat.{_+_, _-_, _≤_};
 ghost use mathlib.Core.List.{_++_};
 ghost use lib.ListN.{length, replicate};
+ghost use Rattle.decimal.specs.Printed.{Added};
 ghost use Rattle.cells.specs.Cells.{rightOf, leftOf, fits, written};
 
 // The field: `pad` blanks, the word, and blanks up to its end. The field's end is not added up before the test: the sum could wrap.
@@ -44,4 +45,13 @@ pub fn word_left(out: &mut [u8], at: usize, width: usize, text: &[u8]) -> bool
         return false;
     }
     word(out, at, width, 0, text)
+}
+
+// The words from `at` on, with nothing around them. Answers where they end.
+pub fn text(out: &mut [u8], at: usize, words: &[u8]) -> usize
+    requires { ⌜ at + length (now words) ≤ length (now out) ⌝ }
+    ensures { λ r. ⌜ Added at (now (words .entry)) (now (out .entry)) r (now (out .exit)) ⌝ }
+{
+    word_left(out, at, words.len(), words);
+    at + words.len()
 }

@@ -6,6 +6,8 @@
 use sheet::answers::Settings;
 use sheet::answers::Spread;
 use sheet::answers::Start;
+ghost use mathlib.Core.Path.{_≡_};
+ghost use Rattle.clock.specs.Transition.{doubleOf, keptOf, transitionOf};
 
 // What a ppb has of the rate's unit.
 const PER_PPB: f64 = 1000.0;
@@ -13,7 +15,12 @@ const PER_PPB: f64 = 1000.0;
 // A rate of one unit moves the offset by a microsecond in so many seconds.
 const SECONDS: f64 = 1000000.0;
 
-fn double(n: u64) -> f64 {
+// The thousandths of a rate that is kept whole.
+const WHOLE: f64 = 1000.0;
+
+fn double(n: u64) -> f64
+    ensures { λ r. ⌜ r ≡ doubleOf n ⌝ }
+{
     std::num::nearest_u64_to_f64(n)
 }
 
@@ -67,19 +74,23 @@ pub fn noise(s: Settings) -> [f64; 4] {
     [variance(first, 1.0), 0.0, 0.0, variance(second, 1.0)]
 }
 
-// The offset grows by the rate; of the radio's error nothing stays.
-pub fn transition(s: Settings) -> [f64; 9] {
-    [
-        1.0,
-        double(s.period) / SECONDS,
-        0.0,
-        0.0,
-        1.0,
-        0.0,
-        0.0,
-        0.0,
-        0.0,
-    ]
+// How much of the rate stays: all of it where nothing is given, and 1.0 exactly of 1000 thousandths.
+fn kept(thousandths: u64) -> f64
+    ensures { λ r. ⌜ r ≡ keptOf thousandths ⌝ }
+{
+    if thousandths == 0 {
+        return 1.0;
+    }
+    double(thousandths) / WHOLE
+}
+
+// The offset grows by the rate; of the rate some is kept; of the radio's error nothing stays.
+pub fn transition(s: Settings) -> [f64; 9]
+    ensures { λ r. ⌜ r ≡ transitionOf s ⌝ }
+{
+    let step = double(s.period) / SECONDS;
+    let kept = kept(s.rate_keeps);
+    [1.0, step, 0.0, 0.0, kept, 0.0, 0.0, 0.0, 0.0]
 }
 
 pub fn disturbances(s: Settings) -> [f64; 9] {

@@ -7,10 +7,10 @@ use native.Mathlib.Nat.{le-refl, zero-add, add-zero, pow-suc}
 use native.Mathlib.Numerals.{add-one}
 use native.Mathlib.Omega.{arith}
 use lib.ListN.{length, take, drop, set, replicate, length-set, length-append, take-append-drop}
-use lib.Seq.{drop-cons, take-set-le, drop-set-lt, getD-set-same, take-take}
+use lib.Seq.{drop-cons, take-set-le, drop-set-lt, getD-set-same, take-take, take-at, length-take-le}
 use lib.Dec.{leb}
 use borrow.Author.Tests.{lt-ltb, le-ltb, le-leb, lt-leb}
-use Rattle.decimal.specs.Printed.{digitsOnto, placesIn, placesOf, signOf, signWidth, fractionOnto, pointWidth, textOf, shown, fitsIn, putIn, Onto}
+use Rattle.decimal.specs.Printed.{digitsOnto, placesIn, placesOf, signOf, signWidth, fractionOnto, pointWidth, textOf, shown, fitsIn, putIn, Onto, plainOf, Added}
 
 -- ---- one byte, where what stands before it is as it was
 pub byte-before : (old out : List ℕ) (j b : ℕ) → take (suc j) out ≡ take (suc j) old → take j (set out j b) ≡ take j old
@@ -255,3 +255,22 @@ put-by old new at width d minus n p k need P K N S h g o =
           ∙ sym (append-assoc (replicate (width - length t) 32) t l))
           ∙ sym (ap (λ (x : Bool). cond x (take at old ++ (replicate (width - length t) 32 ++ t ++ l)) old) yes),
     )
+
+-- ---- what stands from a place on, with nothing around it
+pub added : (a e : ℕ) (t l old new : List ℕ) → a ≤ length old → e ≡ a + length t → Onto a (t ++ l) old new → Added a t old e new
+added a e t l old new h q o =
+    let f : length (take a old) ≡ a = length-take-le a old h in
+    let g : length (take a old ++ t) ≡ e = length-append (take a old) t ∙ omega arith in
+    record {
+      end = q;
+      said = ap (take e) (whole a (t ++ l) old new o ∙ sym (append-assoc (take a old) t l)) ∙ take-at (take a old ++ t) l e g;
+      long = o .long;
+    }
+
+pub plain-by : (a k n : ℕ) (old new : List ℕ) → a ≤ length old → k ≡ placesOf n → Onto a (digitsOnto k n (drop (a + k) old)) old new → Added a (plainOf n) old (a + k) new
+unfolding plainOf
+plain-by a k n old new h q o =
+    let l = drop (a + k) old in
+    let e : digitsOnto k n l ≡ digitsOnto (placesOf n) n [] ++ l = ap (λ (x : ℕ). digitsOnto x n l) q ∙ digits-append (placesOf n) n [] l in
+    let m : a + k ≡ a + length (digitsOnto (placesOf n) n []) = let d = length-digits (placesOf n) n [] in omega arith in
+    added a (a + k) (digitsOnto (placesOf n) n []) l old new h m (subst (λ (t : List ℕ). Onto a t old new) e o)

@@ -61,6 +61,16 @@ pub record Onto (a : ℕ) (tail old new : List ℕ) : Type 0 where
   pub after : drop a new ≡ tail
   pub long : length new ≡ length old
 
+-- ---- with no field: the digits of n, from a place on
+unfoldable pub plainOf : ℕ → List ℕ
+plainOf n = digitsOnto (placesOf n) n []
+
+-- text stands at place a and ends at place e; before it, and in length, the list is as it was
+pub record Added (a : ℕ) (text old : List ℕ) (e : ℕ) (new : List ℕ) : Type 0 where
+  pub end : e ≡ a + length text
+  pub said : take e new ≡ take a old ++ text
+  pub long : length new ≡ length old
+
 -- ---- `placesOf` is the fewest digits that hold a number, and at least one: of all below 10 ^ 20, so of every u64
 holds : (f n : ℕ) → n < 10 ^ suc f → n < 10 ^ placesIn f n
 unfolding placesIn

@@ -7,6 +7,7 @@ mod small;
 mod words;
 
 pub use printed::blanks;
+pub use printed::plain;
 pub use printed::put;
 pub use reading::read;
 pub use scaled::units;

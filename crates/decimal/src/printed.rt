@@ -4,7 +4,7 @@ ghost use mathlib.Core.Path.{_≡_};
 ghost use Prim.Native.Nat.{_+_, _≤_, _<_};
 ghost use mathlib.Core.List.{_++_};
 ghost use lib.ListN.{length, drop, replicate};
-ghost use Rattle.decimal.specs.Printed.{placesOf, digitsOnto, signOf, signWidth, fractionOnto, pointWidth, Onto, fitsIn, putIn};
+ghost use Rattle.decimal.specs.Printed.{placesOf, digitsOnto, signOf, signWidth, fractionOnto, pointWidth, Onto, fitsIn, putIn, plainOf, Added};
 
 // How many digits n has, one for 0.
 fn places(n: u64) -> usize
@@ -134,4 +134,14 @@ pub fn put(out: &mut [u8], at: usize, width: usize, minus: bool, size: u64, deci
     }
     field(out, at, width - need, minus, k, whole, decimals, size % p);
     true
+}
+
+// The digits of n from `at` on, with nothing around them. Answers where they end.
+pub fn plain(out: &mut [u8], at: usize, n: u64) -> usize
+    requires { ⌜ at + 20 ≤ length (now out) ⌝ }
+    ensures { λ r. ⌜ Added at (plainOf n) (now (out .entry)) r (now (out .exit)) × (r ≤ at + 20) ⌝ }
+{
+    let k = places(n);
+    spell(out, at, k, n);
+    at + k
 }

@@ -8,23 +8,26 @@ use Rattle.definition.specs.Run.{chunks, pairs}
 use Rattle.definition.specs.Cov.{Cov, CovPeriod, covRun}
 use Rattle.definition.specs.Mean.{Mean, MeanPeriod, meanRun}
 use Rattle.definition.specs.Inputs.{Model, Offsets, Class, classOf, systemOf, frameOf, startOf, gapRows}
+use Rattle.definition.specs.Reports.{covReport, meanReport, toldBefore}
 use Rattle.definition.specs.Outcome.{Counts, countsOf, decisionsOf}
 
--- how many periods are done, the covariances that they left, and the counts since the run began
+-- how many periods are done, the covariances that they left; the counts and the covariance report since the run began
 pub record Past : Type 0 where
   pub done : ℕ
   pub cov : Cov
   pub counts : Counts
+  pub covOff : ℕ
 
--- and the mean, with the log-likelihood since the run began
+-- and the mean, with the log-likelihood and the mean report since the run began
 pub record Carried : Type 0 where
   pub past : Past
   pub mean : Mean
+  pub meanOff : ℕ
 
 -- ---- a run begins
 
 unfoldable pub begunPast : Model → Past
-begunPast x = record { done = 0; cov = startOf x; counts = record { dDiffuse = 0; heard = 0; news = 0 } }
+begunPast x = record { done = 0; cov = startOf x; counts = record { dDiffuse = 0; heard = 0; news = 0 }; covOff = 0 }
 
 unfoldable pub begunMean : Offsets → Mean
 begunMean o = record { a = o .a1; loglik = 0ᶠ }
@@ -44,10 +47,18 @@ plus l k = record { dDiffuse = l .dDiffuse + k .dDiffuse; heard = l .heard + k .
 unfoldable pub pastOn : Model → Past → List Class → Past
 pastOn x s ks =
     let r = covFrom x s ks in
-    record { done = s .done + x .n; cov = r .1; counts = plus (s .counts) (countsOf (r .0) ks) }
+    record {
+      done = s .done + x .n;
+      cov = r .1;
+      counts = plus (s .counts) (countsOf (r .0) ks);
+      covOff = toldBefore (s .covOff) (covReport (s .done) (r .0));
+    }
 
 unfoldable pub meanOn : Model → Offsets → Carried → List Float → List MeanPeriod × Mean
 meanOn x o s y = meanFrom x o (s .past .done) (s .mean) (covFrom x (s .past) (map classOf y) .0) y
 
+unfoldable pub meanOffOn : Model → Offsets → Carried → List Float → ℕ
+meanOffOn x o s y = toldBefore (s .meanOff) (meanReport (s .past .done) (meanOn x o s y .0))
+
 unfoldable pub went : Model → Offsets → Carried → List Float → Carried
-went x o s y = record { past = pastOn x (s .past) (map classOf y); mean = meanOn x o s y .1 }
+went x o s y = record { past = pastOn x (s .past) (map classOf y); mean = meanOn x o s y .1; meanOff = meanOffOn x o s y }

@@ -15,6 +15,7 @@ use Rattle.definition.specs.Mean
 use Rattle.definition.specs.Smooth
 use Rattle.definition.specs.Inputs
 use Rattle.definition.specs.Refusals
+use Rattle.definition.specs.Reports
 use Rattle.definition.specs.Parts
 use Rattle.definition.specs.Outcome
 use lib.Ieee.{Float, binary64, add, sub, mul, div, neg, lt, le, eq, ne, ofInt, ofBits, toBits, size, round, units}
@@ -87,14 +88,18 @@ unfoldable ofRefusals : Unit {0}
 unfolding Refusals.outside Refusals.designFits Refusals.inputsFit Refusals.badLength Refusals.badSystem Refusals.badStart Refusals.negativeAt Refusals.negative Refusals.notPsd Refusals.offAt Refusals.offRow Refusals.offDiagonal Refusals.shapeAt Refusals.shapeRow Refusals.shapeOf Refusals.startShape Refusals.drivenAt Refusals.drivenRow Refusals.mixedDriven Refusals.firstOf Refusals.tests Refusals.refusal
 ofRefusals = tt
 
+unfoldable ofReports : Unit {0}
+unfolding Reports.firstFrom Reports.covIsOff Reports.meanIsOff Reports.covReport Reports.meanReport Reports.toldBefore
+ofReports = tt
+
 unfoldable ofParts : Unit {0}
 unfolding Parts.kindBlock Parts.covBlock Parts.meanBlock
 ofParts = tt
 
 unfoldable ofOutcome : Unit {0}
-unfolding Outcome.kindsNeed Outcome.covNeed Outcome.meanNeed Outcome.smoothedCovNeed Outcome.smoothedMeanNeed Outcome.roomy Outcome.roomySmoothed Outcome.kindsWritten Outcome.covWritten Outcome.meanWritten Outcome.covOf Outcome.meanOf Outcome.countsOf Outcome.noInformation Outcome.endingOf Outcome.numberOf Outcome.after Outcome.countsIn Outcome.loglikIn Outcome.ending Outcome.covOutcome Outcome.meanOutcome Outcome.outcomeAt Outcome.outcome Outcome.smoothedCov Outcome.smoothedMean Outcome.smoothOutcomeAt Outcome.smoothOutcome
+unfolding Outcome.kindsNeed Outcome.covNeed Outcome.meanNeed Outcome.smoothedCovNeed Outcome.smoothedMeanNeed Outcome.roomy Outcome.roomySmoothed Outcome.kindsWritten Outcome.covWritten Outcome.meanWritten Outcome.covOf Outcome.meanOf Outcome.countsOf Outcome.noInformation Outcome.endingOf Outcome.numberOf Outcome.after Outcome.countsIn Outcome.loglikIn Outcome.reportIn Outcome.ending Outcome.covOutcome Outcome.meanOutcome Outcome.outcomeAt Outcome.outcome Outcome.smoothedCov Outcome.smoothedMean Outcome.smoothOutcomeAt Outcome.smoothOutcome
 ofOutcome = tt
 
 unfoldable pub opened : Unit {0}
-unfolding ieee ofNum ofRun ofDense ofRoot ofLog ofStar ofCov ofMean ofSmooth ofInputs ofRefusals ofParts ofOutcome
+unfolding ieee ofNum ofRun ofDense ofRoot ofLog ofStar ofCov ofMean ofSmooth ofInputs ofRefusals ofReports ofParts ofOutcome
 opened = tt

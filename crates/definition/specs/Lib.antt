@@ -9,6 +9,7 @@ pub mod Mean
 pub mod Smooth
 pub mod Inputs
 pub mod Refusals
+pub mod Reports
 pub mod Parts
 pub mod Outcome
 pub mod Carried
@@ -19,3 +20,4 @@ pub mod SavedExample
 pub mod Resumed
 pub mod Edges
 pub mod Tracks
+pub mod RanOff

@@ -14,6 +14,7 @@ use Rattle.definition.specs.Smooth.{smoothCov, smoothMean}
 use Rattle.definition.specs.Parts.{CovPart, predCov, predInf, filtCov, fStar, fInf, mStar, mInf, MeanPart, predMean, filtMean, innovations, kindBlock, covBlock, meanBlock, isNews}
 use Rattle.definition.specs.Inputs.{Model, Offsets, Class, classOf, isGap, isInfinity, systemOf, frameOf, startOf, gapRows}
 use Rattle.definition.specs.Refusals.{refusal}
+use Rattle.definition.specs.Reports.{covReport, meanReport}
 
 -- ---- the lent outputs
 
@@ -139,15 +140,22 @@ loglikIn (turned k) l = 0ᶠ
 loglikIn silent l = 0ᶠ
 loglikIn answered l = l
 
+unfoldable pub reportIn : Ending → ℕ → ℕ
+reportIn (turned k) t = 0
+reportIn silent t = 0
+reportIn answered t = t
+
 -- ---- the outcome, in its halves
 
 pub record CovOutcome : Type 0 where
   pub refused : ℕ
   pub counts : Counts
+  pub covOff : ℕ
   pub parts : CovParts
 
 pub record MeanOutcome : Type 0 where
   pub loglik : Float
+  pub meanOff : ℕ
   pub parts : MeanParts
 
 module _ (x : Model) where
@@ -155,12 +163,13 @@ module _ (x : Model) where
   ending o ks room =
       endingOf (refusal x o (length ks) (anyOf isInfinity ks) room) (noInformation (countsOf (covOf x ks .0) ks))
 
-  -- of a run r, of the counts l
-  abbrev pub covEnded : Ending → List CovPeriod × Cov → Counts → CovParts → CovOutcome
-  covEnded f r l b =
+  -- of a run r, of the counts l and of the report t
+  abbrev pub covEnded : Ending → List CovPeriod × Cov → Counts → ℕ → CovParts → CovOutcome
+  covEnded f r l t b =
       record {
         refused = numberOf f;
         counts = countsIn f l;
+        covOff = reportIn f t;
         parts =
             record {
               kinds = after f (kindsWritten r) (replicate (kindsNeed x) 0) (b .kinds);
@@ -168,15 +177,19 @@ module _ (x : Model) where
             };
       }
 
-  abbrev pub meanEnded : Ending → List MeanPeriod × Mean → MeanParts → MeanOutcome
-  meanEnded f r b =
-      record { loglik = loglikIn f (r .1 .loglik); parts = λ q. after f (meanWritten r q) (zeros (meanNeed x q)) (b q) }
+  abbrev pub meanEnded : Ending → List MeanPeriod × Mean → ℕ → MeanParts → MeanOutcome
+  meanEnded f r t b =
+      record {
+        loglik = loglikIn f (r .1 .loglik);
+        meanOff = reportIn f t;
+        parts = λ q. after f (meanWritten r q) (zeros (meanNeed x q)) (b q);
+      }
 
   unfoldable pub covOutcome : Ending → List Class → CovParts → CovOutcome
-  covOutcome f ks b = let r = covOf x ks in covEnded f r (countsOf (r .0) ks) b
+  covOutcome f ks b = let r = covOf x ks in covEnded f r (countsOf (r .0) ks) (covReport 0 (r .0)) b
 
   unfoldable pub meanOutcome : Ending → Offsets → List Class → List Float → MeanParts → MeanOutcome
-  meanOutcome f o ks y b = meanEnded f (meanOf x o (covOf x ks .0) y) b
+  meanOutcome f o ks y b = let r = meanOf x o (covOf x ks .0) y in meanEnded f r (meanReport 0 (r .0)) b
 
   -- the filter's call
   unfoldable pub outcomeAt : Offsets → List Class → List Float → CovParts → MeanParts → CovOutcome × MeanOutcome

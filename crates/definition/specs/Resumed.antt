@@ -13,6 +13,7 @@ use Rattle.definition.specs.Run.{anyOf, scan, chunks, pairs}
 use Rattle.definition.specs.Cov.{Cov, CovPeriod, period, covRun}
 use Rattle.definition.specs.Mean.{meanRun}
 use Rattle.definition.specs.Inputs.{Model, Offsets, Class, isGap, isInfinity, noise, systemOf, frameOf, gapRows}
+use Rattle.definition.specs.Reports.{firstFrom, covIsOff, covReport, toldBefore}
 use Rattle.definition.specs.Refusals.{notFinite, mixedDriven, firstOf, ofLengths, ofSystem, ofStart, ofH, ofReadings}
 use Rattle.definition.specs.Outcome.{Ending, turned, silent, answered, endingOf, after, noInformation}
 use Rattle.definition.specs.Carried.{Past, Carried, covFrom, meanFrom, plus, pastOn, meanOn, went}
@@ -39,6 +40,22 @@ pub two-means : (x : Model) (o : Offsets) (s : Carried) (u v : Float)
     ≡ (meanOn (lone 1 x) o s (u ∷ []) .0 ++ meanOn (lone 1 x) o (went (lone 1 x) o s (u ∷ [])) (v ∷ []) .0, meanOn (lone 1 x) o (went (lone 1 x) o s (u ∷ [])) (v ∷ []) .1)
 unfolding meanOn meanFrom meanRun went covFrom pastOn covRun gapRows systemOf frameOf noise chunks pairs scan
 two-means x o s u v = rw add-one
+
+-- ---- its report: what was told before stays, and a period counts from the run's first
+
+two-told : (k t : ℕ) (a b : Bool) → toldBefore k (firstFrom t (a ∷ b ∷ [])) ≡ toldBefore (toldBefore k (firstFrom t (a ∷ []))) (firstFrom (suc t) (b ∷ []))
+unfolding toldBefore firstFrom
+two-told (suc k) t a b = refl
+two-told zero t true b = refl
+two-told zero t false b = refl
+
+pub two-reports : (x : Model) (s : Past) (k l : Class) → pastOn (lone 2 x) s (k ∷ l ∷ []) .covOff ≡ pastOn (lone 1 x) (pastOn (lone 1 x) s (k ∷ [])) (l ∷ []) .covOff
+unfolding pastOn covFrom covRun gapRows systemOf noise chunks scan covReport
+two-reports x s k l =
+    let y = systemOf (lone 1 x) in
+    let a = period y (s .done) (s .cov) (isGap k ∷ []) in
+    let then-at : ℕ → ℕ = λ t. toldBefore (toldBefore (s .covOff) (firstFrom (s .done) (covIsOff (a .0) ∷ []))) (firstFrom t (covIsOff (period y t (a .1) (isGap l ∷ []) .0) ∷ [])) in
+    two-told (s .covOff) (s .done) (covIsOff (a .0)) (covIsOff (period y (suc (s .done)) (a .1) (isGap l ∷ []) .0)) ∙ ap then-at (sym (add-one (s .done)))
 
 -- ---- the refusals
 

@@ -44,7 +44,7 @@ sections p m r s =
     ∷ map bits (c .root)
     ∷ map bits (c .unres)
     ∷ (bits (s .mean .loglik) ∷ [])
-    ∷ (l .dDiffuse ∷ l .heard ∷ l .news ∷ cond (c .live) 1 0 ∷ [])
+    ∷ (l .dDiffuse ∷ l .heard ∷ l .news ∷ cond (c .live) 1 0 ∷ past .covOff ∷ s .meanOff ∷ [])
     ∷ []
 
 unfoldable pub savedOf : ℕ → ℕ → ℕ → Carried → List ℕ
@@ -53,7 +53,7 @@ savedOf p m r s = join (map section (sections p m r s))
 -- ---- reading: each section's count, for m states; the length of all; the numbers
 
 unfoldable pub widths : ℕ → List ℕ
-widths m = 4 ∷ m ∷ m * m ∷ m * m ∷ m * m ∷ m * m ∷ 1 ∷ 4 ∷ []
+widths m = 4 ∷ m ∷ m * m ∷ m * m ∷ m * m ∷ m * m ∷ 1 ∷ 6 ∷ []
 
 unfoldable pub lengthOf : List ℕ → ℕ
 lengthOf [] = 0
@@ -93,6 +93,12 @@ newsIn ns = numberAt ns 7 2
 abbrev pub stateIn : List (List ℕ) → ℕ
 stateIn ns = numberAt ns 7 3
 
+abbrev pub covOffIn : List (List ℕ) → ℕ
+covOffIn ns = numberAt ns 7 4
+
+abbrev pub meanOffIn : List (List ℕ) → ℕ
+meanOffIn ns = numberAt ns 7 5
+
 -- ---- 15 BadSaved
 
 -- a NaN with other bits
@@ -104,10 +110,11 @@ unfoldable pub badSizes : ℕ → ℕ → ℕ → ℕ → List (List ℕ) → Bo
 badSizes p m r n ns =
     not (eqb (numberAt ns 0 0) p) || not (eqb (numberAt ns 0 1) m) || not (eqb (numberAt ns 0 2) r) || ltb 4096 (doneIn ns + n)
 
--- diffuse periods above done, heard above done times p, news above heard, state not 0 or 1
+-- diffuse periods above done, heard above done times p, news above heard, state not 0 or 1, a report above done
 unfoldable pub badTallies : ℕ → List (List ℕ) → Bool
 badTallies p ns =
     ltb (doneIn ns) (diffuseIn ns) || ltb (doneIn ns * p) (heardIn ns) || ltb (heardIn ns) (newsIn ns) || ltb 1 (stateIn ns)
+    || ltb (doneIn ns) (covOffIn ns) || ltb (doneIn ns) (meanOffIn ns)
 
 unfoldable pub badFloats : List (List ℕ) → Bool
 badFloats ns = let o : ℕ → Bool = λ k. anyOf otherNan (sectionAt ns k) in o 1 || o 2 || o 3 || o 4 || o 5 || o 6
@@ -133,6 +140,7 @@ loadedPast ns =
             live = eqb (stateIn ns) 1;
           };
       counts = record { dDiffuse = diffuseIn ns; heard = heardIn ns; news = newsIn ns };
+      covOff = covOffIn ns;
     }
 
 unfoldable pub loadedMean : List (List ℕ) → Mean

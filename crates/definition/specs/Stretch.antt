@@ -11,8 +11,8 @@ use Rattle.definition.specs.Mean.{Mean}
 use Rattle.definition.specs.Inputs.{Model, Offsets, Class, classOf, isInfinity}
 use Rattle.definition.specs.Refusals.{beyond, firstOf, ofInputs}
 use Rattle.definition.specs.Outcome.{CovParts, MeanParts, CovOutcome, MeanOutcome, Ending, endingOf, after, noInformation, roomy, covEnded, meanEnded}
-use Rattle.definition.specs.Carried.{Past, Carried, begunPast, begunMean, covFrom, pastOn, meanOn, went}
-use Rattle.definition.specs.Saved.{savedOf, savedNeed, badSaved, widths, numbersIn, loadedPast, loadedMean}
+use Rattle.definition.specs.Carried.{Past, Carried, begunPast, begunMean, covFrom, pastOn, meanOn, meanOffOn, went}
+use Rattle.definition.specs.Saved.{savedOf, savedNeed, badSaved, widths, numbersIn, loadedPast, loadedMean, meanOffIn}
 
 -- where a stretch goes on from: the run's start, or what was saved
 pub record From : Type 0 where
@@ -25,8 +25,11 @@ pastIn x w = cond (w .begins) (begunPast x) (loadedPast (numbersIn (widths (x .m
 unfoldable pub meanIn : Model → Offsets → From → Mean
 meanIn x o w = cond (w .begins) (begunMean o) (loadedMean (numbersIn (widths (x .m)) (w .saved)))
 
+unfoldable pub meanToldIn : Model → From → ℕ
+meanToldIn x w = cond (w .begins) 0 (meanOffIn (numbersIn (widths (x .m)) (w .saved)))
+
 abbrev pub carriedIn : Model → Offsets → From → Carried
-carriedIn x o w = record { past = pastIn x w; mean = meanIn x o w }
+carriedIn x o w = record { past = pastIn x w; mean = meanIn x o w; meanOff = meanToldIn x w }
 
 -- ---- the refusals: 1, which allows 0 periods here; 2 to 11 as in the filter's call; 15
 
@@ -49,7 +52,7 @@ stretchRefusal x o readings infinity room bad = firstOf (stretchTests x o readin
 unfoldable pub roomyStretch : Model → Bool → CovParts → MeanParts → List ℕ → Bool
 roomyStretch x last b b′ save = roomy x b b′ && (last || leb (savedNeed (x .m)) (length save))
 
--- ---- the outcome: its two halves as the filter's, with the counts and the likelihood since the run began; and the part to save in
+-- ---- the outcome: its two halves as the filter's, with the counts, the reports and the likelihood since the run began; and the part to save in
 
 pub record StretchOutcome : Type 0 where
   pub cov : CovOutcome
@@ -63,10 +66,10 @@ module _ (x : Model) where
       endingOf (stretchRefusal x o (length ks) (anyOf isInfinity ks) room bad) (last && noInformation (pastOn x s ks .counts))
 
   unfoldable pub covStretch : Ending → Past → List Class → CovParts → CovOutcome
-  covStretch f s ks b = covEnded x f (covFrom x s ks) (pastOn x s ks .counts) b
+  covStretch f s ks b = let s′ = pastOn x s ks in covEnded x f (covFrom x s ks) (s′ .counts) (s′ .covOff) b
 
   unfoldable pub meanStretch : Ending → Offsets → Carried → List Float → MeanParts → MeanOutcome
-  meanStretch f o s y b = meanEnded x f (meanOn x o s y) b
+  meanStretch f o s y b = meanEnded x f (meanOn x o s y) (meanOffOn x o s y) b
 
   unfoldable pub saveStretch : Ending → Offsets → Carried → Bool → List Float → List ℕ → List ℕ
   saveStretch f o s last y save = after f (cond last [] (savedOf (x .p) (x .m) (x .r) (went x o s y))) [] save

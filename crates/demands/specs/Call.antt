@@ -47,7 +47,7 @@ pub record Call : Type 0 where
   pub m-star : Lent
   pub m-inf : Lent
 
--- a case, through both calls. An answer is a refusal's number alone, or 0 with log-likelihood, d_diffuse, heard and news
+-- a case, through both calls. An answer is a refusal's number alone, or 0 with log-likelihood, d_diffuse, heard, news and the two reports
 pub record Case : Type 0 where
   pub call : Call
   pub filter : List ℕ
@@ -113,12 +113,12 @@ meanParts k = λ q. filled (mean k q)
 
 -- ---- what it gives, and what the oracle says
 
-abbrev answerBy : ℕ → Float → CovOutcome → List ℕ
-answerBy zero l c = 0 ∷ toBits binary64 l ∷ c .counts .dDiffuse ∷ c .counts .heard ∷ c .counts .news ∷ []
-answerBy (suc k) l c = suc k ∷ []
+abbrev answerBy : ℕ → CovOutcome → MeanOutcome → List ℕ
+answerBy zero c s = 0 ∷ toBits binary64 (s .loglik) ∷ c .counts .dDiffuse ∷ c .counts .heard ∷ c .counts .news ∷ c .covOff ∷ s .meanOff ∷ []
+answerBy (suc k) c s = suc k ∷ []
 
 abbrev pub answerOf : CovOutcome → MeanOutcome → List ℕ
-answerOf c s = answerBy (c .refused) (s .loglik) c
+answerOf c s = answerBy (c .refused) c s
 
 -- a call that is refused writes nothing, but for refusal 12
 abbrev pub writes : List ℕ → Bool

@@ -17,10 +17,10 @@ use Rattle.definition.specs.Mean.{Mean, MeanPeriod}
 use Rattle.definition.specs.Inputs.{Model, Offsets, Class, classOf, isInfinity, noise, startOf}
 use Rattle.definition.specs.Parts.{CovPart, predCov, predInf, filtCov, fStar, fInf, mStar, mInf, MeanPart, predMean, filtMean, innovations}
 use Rattle.definition.specs.Refusals.{beyond, badLength, inputsFit}
-use Rattle.definition.specs.Outcome.{CovParts, MeanParts, Ending, answered, endingOf, numberOf, after, countsIn, loglikIn, noInformation, kindsNeed, covNeed, meanNeed, kindsWritten, covWritten, meanWritten}
+use Rattle.definition.specs.Outcome.{CovParts, MeanParts, Ending, answered, endingOf, numberOf, after, countsIn, loglikIn, reportIn, noInformation, kindsNeed, covNeed, meanNeed, kindsWritten, covWritten, meanWritten}
 use Rattle.definition.specs.Carried.{Past, Carried, begunPast, covFrom, pastOn, meanOn, went}
 use Rattle.definition.specs.Saved.{savedOf, savedNeed, widths, wrongCount, numbersIn, numberAt, doneIn, badSizes, badTallies, badFloats, badSaved}
-use Rattle.definition.specs.Stretch.{From, StretchOutcome, pastIn, meanIn, carriedIn, outsideStretch, badFrom, stretchRefusal, roomyStretch, stretchEnding, covStretch, meanStretch, stretchOutcome}
+use Rattle.definition.specs.Stretch.{From, StretchOutcome, pastIn, meanIn, meanToldIn, carriedIn, outsideStretch, badFrom, stretchRefusal, roomyStretch, stretchEnding, covStretch, meanStretch, stretchOutcome}
 use Rattle.laws.specs.Any.{either-false, of-split}
 use Rattle.laws.specs.All.{AllOf}
 use Rattle.laws.specs.Passes.{map-append}
@@ -124,6 +124,8 @@ module _ (x : Model) (o : Offsets) (w : From) (n k : ℕ) (last : Bool) (y y′ 
     pub number : late .cov .refused ≡ uncut .cov .refused
     pub counts : late .cov .counts ≡ uncut .cov .counts
     pub loglik : late .mean .loglik ≡ uncut .mean .loglik
+    pub covOff : late .cov .covOff ≡ uncut .cov .covOff
+    pub meanOff : late .mean .meanOff ≡ uncut .mean .meanOff
     pub kinds : uncut .cov .refused ≡ 0 → uncut .cov .parts .kinds ≡ lay (take (n * x .p) (early .cov .parts .kinds) ++ take (kindsNeed (lasting k x)) (late .cov .parts .kinds)) (u .cov .kinds)
     pub covs : uncut .cov .refused ≡ 0 → (q : CovPart) → uncut .cov .parts .part q ≡ lay (take (n * covUnit (x .p) (x .m) q) (early .cov .parts .part q) ++ take (covNeed (lasting k x) q) (late .cov .parts .part q)) (u .cov .part q)
     pub means : uncut .cov .refused ≡ 0 → (q : MeanPart) → uncut .mean .parts q ≡ lay (take (n * meanUnit (x .p) (x .m) q) (early .mean .parts q) ++ take (meanNeed (lasting k x) q) (late .mean .parts q)) (u .mean q)
@@ -192,7 +194,7 @@ module _ (x : Model) (o : Offsets) (w : From) (n k : ℕ) (last : Bool) (y y′ 
     cut = went (lasting n x) o (carriedIn (lasting n x) o w) y
 
     same-begin : carriedIn (lasting (n + k) x) o w ≡ carriedIn (lasting n x) o w
-    unfolding pastIn meanIn begunPast startOf
+    unfolding pastIn meanIn meanToldIn begunPast startOf
     same-begin = refl
 
     begin-kept : Kept (x .m) begin
@@ -212,7 +214,7 @@ module _ (x : Model) (o : Offsets) (w : From) (n k : ℕ) (last : Bool) (y y′ 
     cut-saves = stretch.saved-is (lasting n x) o w false y (e .cov) (e .mean) (e .save) (readyOf n) early-free refl
 
     same-cut : carriedIn (lasting k x) o (resume handed) ≡ cut
-    unfolding pastIn meanIn
+    unfolding pastIn meanIn meanToldIn
     same-cut = ap (loaded (x .m)) cut-saves ∙ loads (x .p) (x .m) (x .r) cut cut-ended
 
     handed-bytes : AllOf Byte handed
@@ -360,7 +362,7 @@ module _ (x : Model) (o : Offsets) (w : From) (n k : ℕ) (last : Bool) (y y′ 
         ∙ sym (stretch.saved-is (lasting k x) o (resume handed) last y′ (l .cov) (l .mean) (l .save) late-ready late-free z)
 
     pub cut-call : Same
-    unfolding stretchOutcome covStretch meanStretch numberOf
+    unfolding stretchOutcome covStretch meanStretch numberOf went
     cut-call =
         record {
           first = ap numberOf early-ending;
@@ -368,6 +370,8 @@ module _ (x : Model) (o : Offsets) (w : From) (n k : ℕ) (last : Bool) (y y′ 
           number = ap numberOf same-ending;
           counts = ap₂ (λ (f : Ending) (s : Past). countsIn f (s .counts)) same-ending (sym same-past);
           loglik = ap₂ (λ (f : Ending) (r : List MeanPeriod × Mean). loglikIn f (r .1 .loglik)) same-ending (sym same-means);
+          covOff = ap₂ (λ (f : Ending) (s : Past). reportIn f (s .covOff)) same-ending (sym same-past);
+          meanOff = ap₂ (λ (f : Ending) (s : Carried). reportIn f (s .meanOff)) same-ending (sym ends);
           kinds = λ z. parts _ _ _ _ (answers z) (kinds-are (answers z));
           covs = λ z q. parts _ _ _ _ (answers z) (covs-are (answers z) q);
           means = λ z q. parts _ _ _ _ (answers z) (means-are (answers z) q);

@@ -16,8 +16,8 @@ use Rattle.definition.specs.Num.{0ᶠ, zeros}
 use Rattle.definition.specs.Run.{anyOf}
 use Rattle.definition.specs.Inputs.{Model, Offsets, Class, classOf, isInfinity}
 use Rattle.definition.specs.Parts.{CovPart, predCov, predInf, filtCov, fStar, fInf, mStar, mInf, MeanPart, predMean, filtMean, innovations}
-use Rattle.definition.specs.Outcome.{Ending, answered, endingOf, numberOf, after, countsIn, loglikIn, noInformation, kindsNeed, covNeed, meanNeed, roomy}
-use Rattle.definition.specs.Carried.{pastOn, meanOn}
+use Rattle.definition.specs.Outcome.{Ending, answered, endingOf, numberOf, after, countsIn, loglikIn, reportIn, noInformation, kindsNeed, covNeed, meanNeed, roomy}
+use Rattle.definition.specs.Carried.{pastOn, meanOn, meanOffOn}
 use Rattle.definition.specs.Saved.{savedNeed}
 use Rattle.definition.specs.Stretch.{From, StretchOutcome, pastIn, carriedIn, badFrom, stretchRefusal, roomyStretch, stretchEnding, covStretch, meanStretch, stretchOutcome}
 use Rattle.laws.specs.All.{AllOf}
@@ -110,6 +110,8 @@ module _ (x : Model) (o : Offsets) (last : Bool) where
     pub number : runs x o w last cs z .cov .refused ≡ call (lasting (allLong cs z) x) o w last (allReadings cs z) u .cov .refused
     pub counts : runs x o w last cs z .cov .counts ≡ call (lasting (allLong cs z) x) o w last (allReadings cs z) u .cov .counts
     pub loglik : runs x o w last cs z .mean .loglik ≡ call (lasting (allLong cs z) x) o w last (allReadings cs z) u .mean .loglik
+    pub covOff : runs x o w last cs z .cov .covOff ≡ call (lasting (allLong cs z) x) o w last (allReadings cs z) u .cov .covOff
+    pub meanOff : runs x o w last cs z .mean .meanOff ≡ call (lasting (allLong cs z) x) o w last (allReadings cs z) u .mean .meanOff
     pub saved : last ≡ false → take (savedNeed (x .m)) (runs x o w last cs z .save) ≡ take (savedNeed (x .m)) (call (lasting (allLong cs z) x) o w last (allReadings cs z) u .save)
     pub kinds : runs x o w last cs z .cov .refused ≡ 0 → kindsIn x o w last cs z ≡ take (kindsNeed (lasting (allLong cs z) x)) (call (lasting (allLong cs z) x) o w last (allReadings cs z) u .cov .parts .kinds)
     pub covs : runs x o w last cs z .cov .refused ≡ 0 → (q : CovPart) → covsIn x o w last cs z q ≡ take (covNeed (lasting (allLong cs z) x) q) (call (lasting (allLong cs z) x) o w last (allReadings cs z) u .cov .parts .part q)
@@ -143,6 +145,8 @@ module _ (x : Model) (o : Offsets) (last : Bool) where
         number = ap numberOf endings;
         counts = ap (λ (f : Ending). countsIn f (pastOn X (s .past) ks .counts)) endings;
         loglik = ap (λ (f : Ending). loglikIn f (meanOn X o s y .1 .loglik)) endings;
+        covOff = ap (λ (f : Ending). reportIn f (pastOn X (s .past) ks .covOff)) endings;
+        meanOff = ap (λ (f : Ending). reportIn f (meanOffOn X o s y)) endings;
         saved = λ q. stretch.saved-is X o w last y (v .cov) (v .mean) (v .save) ready′ ok′ q ∙ sym (stretch.saved-is X o w last y (u .cov) (u .mean) (u .save) ready′ ok q);
         kinds = λ q. fronts _ _ _ _ _ _ _ (answers q) (sym endings ∙ answers q) (kinds-written X (s .past) ks full);
         covs = λ q p. fronts _ _ _ _ _ _ _ (answers q) (sym endings ∙ answers q) (cov-written X (s .past) ks full (kept .cov) p);
@@ -166,6 +170,8 @@ module _ (x : Model) (o : Offsets) (last : Bool) where
         number = r .number ∙ s .number;
         counts = r .counts ∙ s .counts;
         loglik = r .loglik ∙ s .loglik;
+        covOff = r .covOff ∙ s .covOff;
+        meanOff = r .meanOff ∙ s .meanOff;
         saved = λ q. r .saved q ∙ sym (s .saved q);
         kinds = λ q. ap (λ (l : List ℕ). take (c .long * x .p) (run x o w false c .cov .parts .kinds) ++ l) (r .kinds q) ∙ sym (s .allKinds (sym (r .number ∙ s .number) ∙ q));
         covs = λ q p. ap (λ (l : List Float). take (c .long * covUnit (x .p) (x .m) p) (run x o w false c .cov .parts .part p) ++ l) (r .covs q p) ∙ sym (s .allCovs (sym (r .number ∙ s .number) ∙ q) p);

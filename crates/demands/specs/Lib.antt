@@ -2,6 +2,7 @@ pub mod Figures
 pub mod Unheard
 pub mod Values
 pub mod Totals
+pub mod Reports
 pub mod Conditions
 pub mod Refusals
 pub mod Call

@@ -39,7 +39,7 @@ agreed (e ∷ es) = stretchRows e ++ agreed es
 -- ---- opened, for theorems by computation: `Computed.opened`, and the definitions of a run in stretches
 
 unfoldable ofCarried : Unit {0}
-unfolding Carried.begunPast Carried.begunMean Carried.covFrom Carried.meanFrom Carried.plus Carried.pastOn Carried.meanOn Carried.went
+unfolding Carried.begunPast Carried.begunMean Carried.covFrom Carried.meanFrom Carried.plus Carried.pastOn Carried.meanOn Carried.meanOffOn Carried.went
 ofCarried = tt
 
 unfoldable ofSaved : Unit {0}
@@ -47,7 +47,7 @@ unfolding lib.Ieee.isNan Saved.bytesOf Saved.fromBytes Saved.section Saved.secti
 ofSaved = tt
 
 unfoldable ofStretch : Unit {0}
-unfolding Stretch.pastIn Stretch.meanIn Stretch.outsideStretch Stretch.badFrom Stretch.stretchTests Stretch.stretchRefusal Stretch.roomyStretch Stretch.stretchEnding Stretch.covStretch Stretch.meanStretch Stretch.saveStretch Stretch.stretchOutcome
+unfolding Stretch.pastIn Stretch.meanIn Stretch.meanToldIn Stretch.outsideStretch Stretch.badFrom Stretch.stretchTests Stretch.stretchRefusal Stretch.roomyStretch Stretch.stretchEnding Stretch.covStretch Stretch.meanStretch Stretch.saveStretch Stretch.stretchOutcome
 ofStretch = tt
 
 unfoldable pub opened : Unit {0}

@@ -9,7 +9,7 @@ use lib.Ieee.{Float, isNan}
 use Rattle.definition.specs.Inputs.{Model, Offsets, classOf}
 use Rattle.definition.specs.Outcome.{CovParts, MeanParts, Counts}
 use Rattle.definition.specs.Carried.{pastOn}
-use Rattle.definition.specs.Saved.{float, fromBytes, widths, savedNeed, numbersIn, sectionAt, numberAt, doneIn, diffuseIn, heardIn, newsIn, stateIn}
+use Rattle.definition.specs.Saved.{float, fromBytes, widths, savedNeed, numbersIn, sectionAt, numberAt, doneIn, diffuseIn, heardIn, newsIn, stateIn, covOffIn, meanOffIn}
 use Rattle.definition.specs.Stretch.{From, pastIn}
 use Rattle.laws.specs.Says.{_or_, Within}
 use Rattle.demands.specs.Conditions.{OutOf, Room, OfInputs}
@@ -35,7 +35,9 @@ abbrev pub OtherSizes : ℕ → ℕ → ℕ → ℕ → List (List ℕ) → Type
 OtherSizes p m r n ns = (numberAt ns 0 0 ≡ p → ⊥) or (numberAt ns 0 1 ≡ m → ⊥) or (numberAt ns 0 2 ≡ r → ⊥) or (4096 < doneIn ns + n)
 
 abbrev pub OutOfRange : ℕ → List (List ℕ) → Type 0
-OutOfRange p ns = (doneIn ns < diffuseIn ns) or (doneIn ns * p < heardIn ns) or (heardIn ns < newsIn ns) or (1 < stateIn ns)
+OutOfRange p ns =
+    (doneIn ns < diffuseIn ns) or (doneIn ns * p < heardIn ns) or (heardIn ns < newsIn ns) or (1 < stateIn ns)
+    or (doneIn ns < covOffIn ns) or (doneIn ns < meanOffIn ns)
 
 abbrev pub SomeOtherNan : List (List ℕ) → Type 0
 SomeOtherNan ns =

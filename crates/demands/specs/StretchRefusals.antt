@@ -15,7 +15,7 @@ use Rattle.definition.specs.Run.{anyOf}
 use Rattle.definition.specs.Inputs.{Model, Offsets, classOf, isInfinity}
 use Rattle.definition.specs.Outcome.{CovParts, MeanParts, Ending, turned, silent, answered, after, noInformation, kindsNeed, covNeed, meanNeed}
 use Rattle.definition.specs.Carried.{went}
-use Rattle.definition.specs.Saved.{float, fromBytes, widths, savedNeed, wrongCount, numbersIn, sectionAt, numberAt, doneIn, diffuseIn, heardIn, newsIn, stateIn, otherNan, badSizes, badTallies, badFloats, badSaved, savedOf}
+use Rattle.definition.specs.Saved.{float, fromBytes, widths, savedNeed, wrongCount, numbersIn, sectionAt, numberAt, doneIn, diffuseIn, heardIn, newsIn, stateIn, covOffIn, meanOffIn, otherNan, badSizes, badTallies, badFloats, badSaved, savedOf}
 use Rattle.definition.specs.Stretch.{From, StretchOutcome, pastIn, carriedIn, outsideStretch, badFrom, stretchTests, stretchRefusal, roomyStretch, stretchEnding, covStretch, meanStretch, saveStretch, stretchOutcome}
 use Rattle.laws.specs.Says.{_or_, Within, Says, says-itself, says-as, says-not, says-and, says-or, says-eq, says-le, says-lt, says-within}
 use Rattle.laws.specs.SavedBack.{saved-length}
@@ -58,7 +58,9 @@ says-bad p m r n bs =
     (says-or
     (says-or (says-not (says-eq (length bs) (savedNeed m))) (says-count (widths m) bs))
     (says-or (says-or (says-or (same 0 p) (same 1 m)) (same 2 r)) (says-lt 4096 (doneIn ns + n))))
-    (says-or (says-or (says-or (says-lt (doneIn ns) (diffuseIn ns)) (says-lt (doneIn ns * p) (heardIn ns))) (says-lt (heardIn ns) (newsIn ns))) (says-lt 1 (stateIn ns))))
+    (says-or
+    (says-or (says-or (says-or (says-or (says-lt (doneIn ns) (diffuseIn ns)) (says-lt (doneIn ns * p) (heardIn ns))) (says-lt (heardIn ns) (newsIn ns))) (says-lt 1 (stateIn ns))) (says-lt (doneIn ns) (covOffIn ns)))
+    (says-lt (doneIn ns) (meanOffIn ns))))
     (says-or (says-or (says-or (says-or (says-or (nan 1) (nan 2)) (nan 3)) (nan 4)) (nan 5)) (nan 6))
 
 chosen : (c a b : Bool) (P Q : Type 0) → Says a P → Says b Q → Says (cond c a b) ((T c × P) or ((T c → ⊥) × Q))

@@ -17,15 +17,16 @@ use Rattle.definition.specs.Cov.{Cov, CovPeriod, diffuse}
 use Rattle.definition.specs.Mean.{Mean, MeanPeriod}
 use Rattle.definition.specs.Inputs.{Model, Offsets, Class, gap, classOf, isInfinity}
 use Rattle.definition.specs.Parts.{isNews}
-use Rattle.definition.specs.Outcome.{CovParts, MeanParts, CovOutcome, MeanOutcome, Counts, Ending, answered, endingOf, numberOf, after, countsIn, countsOf, decisionsOf, noInformation, kindsNeed, kindsWritten, meanEnded}
-use Rattle.definition.specs.Carried.{Past, Carried, covFrom, meanFrom, plus, pastOn, meanOn, went}
-use Rattle.definition.specs.Saved.{bits, sectionAt, numberAt, sections, savedOf, savedNeed, widths, numbersIn, diffuseIn, heardIn, newsIn, stateIn}
-use Rattle.definition.specs.Stretch.{From, StretchOutcome, pastIn, carriedIn, badFrom, stretchRefusal, roomyStretch, stretchEnding, covStretch, meanStretch, saveStretch, stretchOutcome}
+use Rattle.definition.specs.Reports.{covReport, meanReport, toldBefore}
+use Rattle.definition.specs.Outcome.{CovParts, MeanParts, CovOutcome, MeanOutcome, Counts, Ending, answered, endingOf, numberOf, after, countsIn, reportIn, countsOf, decisionsOf, noInformation, kindsNeed, kindsWritten, meanEnded}
+use Rattle.definition.specs.Carried.{Past, Carried, covFrom, meanFrom, plus, pastOn, meanOn, meanOffOn, went}
+use Rattle.definition.specs.Saved.{bits, sectionAt, numberAt, sections, savedOf, savedNeed, widths, numbersIn, diffuseIn, heardIn, newsIn, stateIn, covOffIn, meanOffIn}
+use Rattle.definition.specs.Stretch.{From, StretchOutcome, pastIn, meanToldIn, carriedIn, badFrom, stretchRefusal, roomyStretch, stretchEnding, covStretch, meanStretch, saveStretch, stretchOutcome}
 use Rattle.laws.specs.Accepted.{lengths-pass}
 use Rattle.laws.specs.SavedBack.{Savable, read}
 use Rattle.laws.specs.AcceptedStretch.{passes, Ready}
 use Rattle.laws.specs.AcceptedStretch as stretch
-use Rattle.demands.specs.Unheard.{deaf, quiet, gap-classes, same-classes, one-less, same-many, same-infinity, informed, within, answered-by, place}
+use Rattle.demands.specs.Unheard.{deaf, quiet, gap-classes, same-classes, one-less, same-many, same-infinity, informed, within, answered-by, zero-answers, place}
 use Rattle.demands.specs.Values.{OneLess, partsFrom}
 
 -- the same past, but for one reading less heard
@@ -35,6 +36,7 @@ pub record PastLess (p p′ : Past) : Type 0 where
   pub dDiffuse : p′ .counts .dDiffuse ≡ p .counts .dDiffuse
   pub heard : suc (p′ .counts .heard) ≡ p .counts .heard
   pub news : p′ .counts .news ≡ p .counts .news
+  pub covOff : p′ .covOff ≡ p .covOff
 
 -- period t, element i of a stretch of x from the state s, whose record stands in the lent kinds as skipped: a gap there, or another number
 module _ (x : Model) (o : Offsets) (s : Carried) (y : List Float) (old : List ℕ) (t i : ℕ) (inT : t < x .n) (inI : i < x .p) (fit : length (map classOf y) ≡ x .n * x .p) (read : T (isFinite (at y (t * x .p + i)))) (skip : getD (lay (kindsWritten (covFrom x (s .past) (map classOf y))) old) (t * x .p + i) 9 ≡ 0) where
@@ -48,6 +50,7 @@ module _ (x : Model) (o : Offsets) (s : Carried) (y : List Float) (old : List �
         dDiffuse = ap (λ (r : List CovPeriod × Cov). s .past .counts .dDiffuse + count (λ (c : CovPeriod). c .diffuse) (r .0)) same;
         heard = sym (add-suc (s .past .counts .heard) _) ∙ ap (λ (j : ℕ). s .past .counts .heard + j) (one-less x o s y old t i inT inI fit read skip);
         news = ap (λ (r : List CovPeriod × Cov). s .past .counts .news + count isNews (join (decisionsOf (r .0)))) same;
+        covOff = ap (λ (r : List CovPeriod × Cov). toldBefore (s .past .covOff) (covReport (s .past .done) (r .0))) same;
       }
 
   -- the refusals before the run are the same
@@ -78,20 +81,15 @@ pub record NoNews (y : List Float) (last : Bool) (c : CovOutcome) (k : ℕ) : Ty
   pub skip : getD (c .parts .kinds) k 9 ≡ 0
   pub news : (0 < c .counts .news) ⊎ (last ≡ false)
 
-zero-answers : (r : ℕ) (q : Bool) → numberOf (endingOf r q) ≡ 0 → endingOf r q ≡ answered
-unfolding endingOf numberOf
-zero-answers zero true e = absurd (omega arith)
-zero-answers zero false e = refl
-zero-answers (suc r) q e = absurd (omega arith)
-
 informs : (last heard : Bool) (news : ℕ) → (0 < news) ⊎ (last ≡ false) → (last && (heard && eqb news 0)) ≡ false
 informs false heard n h = refl
 informs true heard n h = ⊎-elim (λ (l : 0 < n). informed heard n l) (λ (e : true ≡ false). absurd (let z : _≡_ {A = ℕ} 0 1 = cc in omega arith)) h
 
--- the state that is saved has the mean of the other, and its past but for one reading less heard
+-- the state that is saved has the mean and the mean report of the other, and its past but for one reading less heard
 pub record Less (s s′ : Carried) : Type 0 where
   pub past : PastLess (s .past) (s′ .past)
   pub mean : s′ .mean ≡ s .mean
+  pub meanOff : s′ .meanOff ≡ s .meanOff
 
 pub record Unmoved (x : Model) (o : Offsets) (w : From) (last : Bool) (y : List Float) (b : CovParts) (b′ : MeanParts) (save : List ℕ) (k : ℕ) : Type 0 where
   -- another finite number at place k changes nothing
@@ -168,6 +166,7 @@ module _ (x : Model) (o : Offsets) (w : From) (last : Bool) (y : List Float) (b 
           heard = ap (λ (l : Counts). suc (l .heard)) new ∙ less-heard .heard ∙ sym (ap (λ (l : Counts). l .heard) old);
           news = ap (λ (l : Counts). l .news) new ∙ less-heard .news ∙ sym (ap (λ (l : Counts). l .news) old);
           dDiffuse = ap (λ (l : Counts). l .dDiffuse) new ∙ less-heard .dDiffuse ∙ sym (ap (λ (l : Counts). l .dDiffuse) old);
+          covOff = ap₂ (λ (f : Ending) (t : ℕ). reportIn f t) ended (less-heard .covOff);
           refusals = ap numberOf ended;
           parts = ap₂ (λ (f : Ending) (r : List CovPeriod × Cov). partsFrom x f r b) ended same-covs;
         }
@@ -176,19 +175,22 @@ module _ (x : Model) (o : Offsets) (w : From) (last : Bool) (y : List Float) (b 
   abbrev half : List Class → CovOutcome
   half ks = covStretch x (endingAt ks) (pastIn x w) ks b
 
+  abbrev report : List MeanPeriod × Mean → ℕ
+  report r = toldBefore (meanToldIn x w) (meanReport (pastIn x w .done) (r .0))
+
   abbrev means : Ending → List MeanPeriod × Mean → MeanOutcome
-  means f r = meanEnded x f r b′
+  means f r = meanEnded x f r (report r) b′
 
   abbrev all : List Class → List MeanPeriod × Mean → StretchOutcome
   all ks r =
       record {
         cov = half ks;
         mean = means (endingAt ks) r;
-        save = after (endingAt ks) (cond last [] (savedOf (x .p) (x .m) (x .r) (record { past = pastOn x (pastIn x w) ks; mean = r .1 }))) [] save;
+        save = after (endingAt ks) (cond last [] (savedOf (x .p) (x .m) (x .r) (record { past = pastOn x (pastIn x w) ks; mean = r .1; meanOff = report r }))) [] save;
       }
 
   at-element : (t i : ℕ) → t < x .n → i < x .p → NoNews y last (stretchOutcome x o w last y b b′ save .cov) (t * x .p + i) → Unmoved x o w last y b b′ save (t * x .p + i)
-  unfolding stretchOutcome meanStretch saveStretch went
+  unfolding stretchOutcome meanStretch saveStretch went meanOffOn
   at-element t i inT inI h =
       let k = t * x .p + i in
       let ks = map classOf y in
@@ -210,6 +212,7 @@ module _ (x : Model) (o : Offsets) (w : From) (last : Bool) (y : List Float) (b 
             record {
               past = subst (λ (gs : List Class). PastLess (pastOn x (pastIn x w) ks) (pastOn x (pastIn x w) gs)) (sym gaps) less;
               mean = ap (λ (r : List MeanPeriod × Mean). r .1) still;
+              meanOff = ap report still;
             };
       }
 
@@ -230,6 +233,8 @@ pub record SavedLess (m : ℕ) (bs bs′ : List ℕ) : Type 0 where
   pub heard : suc (heardIn (numbersIn (widths m) bs′)) ≡ heardIn (numbersIn (widths m) bs)
   pub news : newsIn (numbersIn (widths m) bs′) ≡ newsIn (numbersIn (widths m) bs)
   pub state : stateIn (numbersIn (widths m) bs′) ≡ stateIn (numbersIn (widths m) bs)
+  pub covOff : covOffIn (numbersIn (widths m) bs′) ≡ covOffIn (numbersIn (widths m) bs)
+  pub meanOff : meanOffIn (numbersIn (widths m) bs′) ≡ meanOffIn (numbersIn (widths m) bs)
 
 sections-less : (p m r : ℕ) (s s′ : Carried) → Less s s′ → (j : ℕ) → (j ≡ 7 → ⊥) → sectionAt (sections p m r s′) j ≡ sectionAt (sections p m r s) j
 unfolding sections
@@ -256,6 +261,8 @@ less-saved p m r s s′ a b l =
       heard = ap suc (is 1) ∙ l .past .heard ∙ sym (was 1);
       news = is 2 ∙ l .past .news ∙ sym (was 2);
       state = is 3 ∙ ap (λ (c : Cov). cond (c .live) 1 0) (l .past .cov) ∙ sym (was 3);
+      covOff = is 4 ∙ l .past .covOff ∙ sym (was 4);
+      meanOff = is 5 ∙ l .meanOff ∙ sym (was 5);
     }
 
 -- of a call

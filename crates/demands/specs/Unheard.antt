@@ -18,7 +18,7 @@ use Rattle.definition.specs.Mean.{Frame, Shift, Mean, MeanPeriod, hear, meanEnd
 use Rattle.definition.specs.Inputs.{Model, Offsets, Class, gap, finite, classOf, isGap, isInfinity, systemOf, frameOf, gapRows}
 use Rattle.definition.specs.Refusals.{refusal}
 use Rattle.definition.specs.Parts.{kindNo, kindBlock}
-use Rattle.definition.specs.Outcome.{answered, endingOf, kindsWritten, decisionsOf}
+use Rattle.definition.specs.Outcome.{answered, endingOf, numberOf, kindsWritten, decisionsOf}
 use Rattle.definition.specs.Carried.{Carried, begunPast, begunMean, covFrom, meanFrom}
 use Rattle.definition.specs.Tracks.{finite-class, skip-unheard}
 use Rattle.laws.specs.Lists.{scan-set, map-set, pairs-set, pairs-at, chunks-set, length-chunks, chunks-each, Each, join-at, length-join, each-at, place-lt, count-set, anyOf-set}
@@ -129,6 +129,12 @@ answered-by zero true e = absurd (let z : _≡_ {A = ℕ} 0 1 = cc in omega arit
 answered-by zero false e = (refl, refl)
 answered-by (suc r) quiet e = absurd (let z : _≡_ {A = ℕ} 0 1 = cc in omega arith)
 
+pub zero-answers : (r : ℕ) (q : Bool) → numberOf (endingOf r q) ≡ 0 → endingOf r q ≡ answered
+unfolding endingOf numberOf
+zero-answers zero true e = absurd (omega arith)
+zero-answers zero false e = refl
+zero-answers (suc r) q e = absurd (omega arith)
+
 pub readings-fit : (x : Model) (o : Offsets) (readings : ℕ) (infinity room : Bool) → refusal x o readings infinity room ≡ 0 → readings ≡ x .n * x .p
 readings-fit x o readings infinity room e = accepted x o readings infinity room e .readings
 
@@ -148,10 +154,6 @@ pub informed : (heard : Bool) (news : ℕ) → 0 < news → (heard && eqb news 0
 informed true zero h = absurd (omega arith)
 informed true (suc n) h = eqb·suc-zero n
 informed false n h = refl
-
--- a run's start, as a state to go on from: the filter's call goes on from there
-abbrev pub begun : Model → Offsets → Carried
-begun x o = record { past = begunPast x; mean = begunMean o }
 
 -- period t, element i of a stretch of x from the state s: its reading is finite, and its record, which stands in the lent kinds, is skipped
 module _

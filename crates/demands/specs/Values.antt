@@ -1,5 +1,5 @@
 -- Demand 3 of document 00, for the filter's call and the smoother's: a finite reading's value reaches no refusal, covariance, decision, variance, gain
--- or count; and a finite reading that a run with news elsewhere judged no news reaches nothing, but that it was heard.
+-- or count, nor the report on the covariances; and a finite reading that a run with news elsewhere judged no news reaches nothing, but that it was heard.
 use mathlib.Core.Path.{_≡_, refl, sym, ap, ap₂, _∙_, subst}
 use Prim.Native.Nat.{ℕ, suc, _+_, _*_, _/_, _%_, _<_}
 use native.Mathlib.Nat.{div-add-mod'}
@@ -18,12 +18,14 @@ use Rattle.definition.specs.Mean.{Mean, MeanPeriod}
 use Rattle.definition.specs.Smooth.{smoothCov, smoothMean}
 use Rattle.definition.specs.Inputs.{Model, Offsets, Class, gap, classOf, isGap, isInfinity, frameOf}
 use Rattle.definition.specs.Parts.{predCov, predInf, filtCov, fStar, fInf, mStar, mInf, isNews}
-use Rattle.definition.specs.Outcome.{CovParts, MeanParts, CovOutcome, MeanOutcome, SmoothedCov, SmoothedMean, Counts, Ending, turned, silent, answered, endingOf, ending, noInformation, after, countsIn, numberOf, roomy, roomySmoothed, kindsWritten, kindsNeed, covNeed, covWritten, meanEnded, smoothedCovNeed, smoothedMeanNeed, covOf, meanOf, countsOf, decisionsOf, covOutcome, meanOutcome, outcome, outcomeAt, smoothedCov, smoothedMean, smoothOutcome, smoothOutcomeAt}
+use Rattle.definition.specs.Outcome.{CovParts, MeanParts, CovOutcome, MeanOutcome, SmoothedCov, SmoothedMean, Counts, Ending, turned, silent, answered, endingOf, ending, noInformation, after, countsIn, reportIn, numberOf, roomy, roomySmoothed, kindsWritten, kindsNeed, covNeed, covWritten, meanEnded, smoothedCovNeed, smoothedMeanNeed, covOf, meanOf, countsOf, decisionsOf, covOutcome, meanOutcome, outcome, outcomeAt, smoothedCov, smoothedMean, smoothOutcome, smoothOutcomeAt}
 use Rattle.definition.specs.Refusals.{refusal}
+use Rattle.definition.specs.Reports.{covReport, meanReport}
 use Rattle.definition.specs.Carried.{begunPast, begunMean, covFrom, meanFrom}
 use Rattle.definition.specs.Tracks.{finite-class, by-classes, smooth-by-classes}
 use Rattle.laws.specs.Lists.{map-set}
-use Rattle.demands.specs.Unheard.{begun, deaf, same-classes, quiet, one-less, same-many, same-infinity, informed, within, readings-fit, answered-by, place}
+use Rattle.laws.specs.Kept.{begun}
+use Rattle.demands.specs.Unheard.{deaf, same-classes, quiet, one-less, same-many, same-infinity, informed, within, readings-fit, answered-by, place}
 
 -- ---- the first half
 
@@ -32,10 +34,11 @@ pub record Alike (y y′ : List Float) : Type 0 where
   pub many : length y ≡ length y′
   pub each : (k : ℕ) → k < length y → (at y k ≡ at y′ k) ⊎ (T (isFinite (at y k)) × T (isFinite (at y′ k)))
 
--- the refusal, the counts, each accept or skip, all covariances, each variance in the records, the gain vectors
+-- the refusal, the counts, the report on the covariances, each accept or skip, all covariances, each variance in the records, the gain vectors
 pub record Same (c c′ : CovOutcome) : Type 0 where
   pub refusals : c .refused ≡ c′ .refused
   pub counts : c .counts ≡ c′ .counts
+  pub covOff : c .covOff ≡ c′ .covOff
   pub kinds : c .parts .kinds ≡ c′ .parts .kinds
   pub predicted : c .parts .part predCov ≡ c′ .parts .part predCov
   pub predictedDiffuse : c .parts .part predInf ≡ c′ .parts .part predInf
@@ -50,6 +53,7 @@ all-same c c′ e =
     record {
       refusals = ap (λ (c : CovOutcome). c .refused) e;
       counts = ap (λ (c : CovOutcome). c .counts) e;
+      covOff = ap (λ (c : CovOutcome). c .covOff) e;
       kinds = ap (λ (c : CovOutcome). c .parts .kinds) e;
       predicted = ap (λ (c : CovOutcome). c .parts .part predCov) e;
       predictedDiffuse = ap (λ (c : CovOutcome). c .parts .part predInf) e;
@@ -97,6 +101,7 @@ pub record OneLess (c c′ : CovOutcome) : Type 0 where
   pub heard : suc (c′ .counts .heard) ≡ c .counts .heard
   pub news : c′ .counts .news ≡ c .counts .news
   pub dDiffuse : c′ .counts .dDiffuse ≡ c .counts .dDiffuse
+  pub covOff : c′ .covOff ≡ c .covOff
   pub refusals : c′ .refused ≡ c .refused
   pub parts : c′ .parts ≡ c .parts
 
@@ -206,6 +211,7 @@ module _ (x : Model) (o : Offsets) (y : List Float) (b : CovParts) (room : Bool)
             ap (λ (l : Counts). l .dDiffuse) new
             ∙ ap (λ (r : List CovPeriod × Cov). count (λ (c : CovPeriod). c .diffuse) (r .0)) gap-run
             ∙ sym (ap (λ (l : Counts). l .dDiffuse) old);
+        covOff = ap₂ (λ (f : Ending) (r : List CovPeriod × Cov). reportIn f (covReport 0 (r .0))) gap-ending gap-run;
         refusals = ap numberOf gap-ending;
         parts = ap₂ (λ (f : Ending) (r : List CovPeriod × Cov). partsFrom x f r b) gap-ending gap-run;
       }
@@ -235,7 +241,7 @@ module _ (x : Model) (o : Offsets) (y : List Float) (b : CovParts) (b′ : MeanP
   at-element t i inT inI h =
       let room = roomy x b b′ in
       let f = ending x o (map classOf y) room in
-      let made : Ending → List MeanPeriod × Mean → MeanOutcome = λ f r. meanEnded x f r b′ in
+      let made : Ending → List MeanPeriod × Mean → MeanOutcome = λ f r. meanEnded x f r (meanReport 0 (r .0)) b′ in
       record {
         number = λ v fv.
             ap (λ (ks : List Class). outcomeAt x o ks (set y (t * x .p + i) v) b b′) (classes x o y b room t i inT inI h v fv)
@@ -270,7 +276,7 @@ module _ (x : Model) (o : Offsets) (y : List Float) (b : CovParts) (b′ : MeanP
       let f = ending x o (map classOf y) room in
       let made : Ending → List CovPeriod → List MeanPeriod × Mean → SmoothedMean =
       λ f cs r. record {
-        filter = meanEnded x f r b′;
+        filter = meanEnded x f r (meanReport 0 (r .0)) b′;
         smoothed = after f (join (smoothMean (frameOf x) cs (r .0))) (zeros (smoothedMeanNeed x)) sm;
       } in
       let cs = covOf x (map classOf y) .0 in

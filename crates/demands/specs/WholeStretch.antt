@@ -12,11 +12,12 @@ use borrow.Author.Tests.{ne-eqb}
 use Rattle.definition.specs.Run.{anyOf}
 use Rattle.definition.specs.Inputs.{Model, Offsets, Class, classOf, isInfinity}
 use Rattle.definition.specs.Refusals.{outside, firstOf, ofInputs, tests, refusal}
+use Rattle.definition.specs.Reports.{covReport, toldBefore}
 use Rattle.definition.specs.Outcome.{CovParts, MeanParts, CovOutcome, MeanOutcome, Counts, Ending, turned, silent, answered, endingOf, ending, after, countsOf, covOf, meanOf, covEnded, covOutcome, meanOutcome, noInformation, outcome, outcomeAt, roomy}
-use Rattle.definition.specs.Carried.{begunPast, begunMean, covFrom, meanFrom, plus, pastOn, meanOn}
-use Rattle.definition.specs.Stretch.{From, StretchOutcome, pastIn, meanIn, outsideStretch, badFrom, stretchTests, stretchRefusal, roomyStretch, stretchEnding, covStretch, meanStretch, saveStretch, stretchOutcome}
+use Rattle.definition.specs.Carried.{begunPast, begunMean, covFrom, meanFrom, plus, pastOn, meanOn, meanOffOn}
+use Rattle.definition.specs.Stretch.{From, StretchOutcome, pastIn, meanIn, meanToldIn, outsideStretch, badFrom, stretchTests, stretchRefusal, roomyStretch, stretchEnding, covStretch, meanStretch, saveStretch, stretchOutcome}
 use Rattle.laws.specs.Numbered.{first-more}
-use Rattle.demands.specs.Unheard.{begun}
+use Rattle.laws.specs.Kept.{begun}
 
 -- a run's start
 abbrev pub start : From
@@ -50,11 +51,11 @@ module _ (x : Model) (o : Offsets) (some : 0 < x .n) where
       (ap noInformation (same-counts ks))
 
   same-cov : (f : Ending) (ks : List Class) (b : CovParts) → covStretch x f (begunPast x) ks b ≡ covOutcome x f ks b
-  unfolding covStretch covOutcome covFrom begunPast covOf
-  same-cov f ks b = ap (λ (l : Counts). covEnded x f (covOf x ks) l b) (same-counts ks)
+  unfolding covStretch covOutcome pastOn covFrom begunPast covOf toldBefore
+  same-cov f ks b = ap (λ (l : Counts). covEnded x f (covOf x ks) l (covReport 0 (covOf x ks .0)) b) (same-counts ks)
 
   same-mean : (f : Ending) (y : List Float) (b : MeanParts) → meanStretch x f o (begun x o) y b ≡ meanOutcome x f o (map classOf y) y b
-  unfolding meanStretch meanOutcome meanOn meanFrom begunMean covFrom begunPast covOf meanOf
+  unfolding meanStretch meanOutcome meanOn meanOffOn meanFrom begunMean covFrom begunPast covOf meanOf toldBefore
   same-mean f y b = refl
 
   same-save : (f : Ending) (y : List Float) (save : List ℕ) → saveStretch x f o (begun x o) true y save ≡ save
@@ -64,7 +65,7 @@ module _ (x : Model) (o : Offsets) (some : 0 < x .n) where
   same-save answered y save = refl
 
   pub whole : (y : List Float) (b : CovParts) (b′ : MeanParts) (save : List ℕ) → stretchOutcome x o start true y b b′ save ≡ record { cov = outcome x o y b b′ .0; mean = outcome x o y b b′ .1; save = save }
-  unfolding stretchOutcome pastIn meanIn badFrom outcome outcomeAt
+  unfolding stretchOutcome pastIn meanIn meanToldIn badFrom outcome outcomeAt
   whole y b b′ save =
       let ks = map classOf y in
       let f = ending x o ks (roomy x b b′) in

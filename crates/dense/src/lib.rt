@@ -232,7 +232,8 @@ fn sub_column_kept(p: &mut [f64; 64], a: &[f64; 8], b: &[f64; 8], m: usize, j: u
 // P - a b', a column whose multiplier equals 0 left out; and whether all of it is finite.
 pub fn outer_sub(p: &mut [f64; 64], a: &[f64; 8], b: &[f64; 8], m: usize) -> bool
     requires { ⌜ m ≤ 8 ⌝ }
-    ensures { λ r. ⌜ Told (outerSub m (mat m (now (p .entry))) (vec m (now (a .entry))) (vec m (now (b .entry)))) (mat m (now (p .exit))) r ⌝ }
+    ensures { λ r. ⌜ Told (outerSub m (mat m (now (p .entry))) (vec m (now (a .entry))) (vec m (now (b .entry))))
+        (mat m (now (p .exit))) r ⌝ }
 {
     sized(p);
     for j in 0..m {

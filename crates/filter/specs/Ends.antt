@@ -13,7 +13,8 @@ use Rattle.definition.specs.Run.{anyOf}
 use Rattle.definition.specs.Cov.{Cov, CovPeriod}
 use Rattle.definition.specs.Inputs.{Model, Offsets, Class, classOf, isInfinity, startOf}
 use Rattle.definition.specs.Refusals.{refusal}
-use Rattle.definition.specs.Outcome.{CovParts, MeanParts, Counts, CovOutcome, MeanOutcome, Ending, turned, endingOf, ending, numberOf, after, countsIn, loglikIn, covOf, meanOf, countsOf, noInformation, covOutcome, meanOutcome, roomy}
+use Rattle.definition.specs.Reports.{covReport, meanReport, toldBefore}
+use Rattle.definition.specs.Outcome.{CovParts, MeanParts, Counts, CovOutcome, MeanOutcome, Ending, turned, endingOf, ending, numberOf, after, countsIn, loglikIn, reportIn, covOf, meanOf, countsOf, noInformation, covOutcome, meanOutcome, roomy}
 use Rattle.carried.specs.State.{covFrom, meanFrom}
 use Rattle.forward.specs.View.{onward, covOn, meanOn}
 use Rattle.judged.specs.declared.Judged.{Judged}
@@ -27,10 +28,11 @@ none h e = omega arith
 
 -- the answer before the first period
 abbrev pub nothing : Answer
-nothing = record { loglik = 0ᶠ; «d_diffuse» = 0; heard = 0; news = 0 }
+nothing = record { loglik = 0ᶠ; «d_diffuse» = 0; heard = 0; news = 0; «cov_off» = 0; «mean_off» = 0 }
 
-from-nothing : (k : Counts) (l : Float) → onward nothing k l ≡ answerIn k l
-from-nothing k l = rw (zero-add, zero-add, zero-add) refl
+from-nothing : (k : Counts) (t : ℕ) (l : Float) (u : ℕ) → onward nothing k t l u ≡ answerIn k t l u
+unfolding toldBefore
+from-nothing k t l u = rw (zero-add, zero-add, zero-add) refl
 
 module _ (x : Model) (o : Offsets) (y : List Float) where
   abbrev kinds : List Class
@@ -58,7 +60,7 @@ module _ (x : Model) (o : Offsets) (y : List Float) where
     turned-away k = record { answer = refl; kinds = refl; cov = λ q. refl; mean = λ q. refl }
 
     -- the run from the start, and refusal 12
-    module _ {s s′ : List Float} {live : Bool} {e : Judged} {b : CovParts} {b′ : MeanParts} (begins : length s ≡ 0) (r : Went x o y s live nothing true e s′ w b w′ b′) where
+    module _ {s s′ : List Float} {live : Bool} {e : Judged} {b : CovParts} {b′ : MeanParts} (begins : length s ≡ 0) (r : Went x o y s live 0 nothing true e s′ w b w′ b′) where
       cov-same : covOn x s live kinds ≡ covOf x kinds
       unfolding covOn covFrom covOf startOf
       cov-same = rw (eq-eqb _ _ begins) refl
@@ -70,15 +72,16 @@ module _ (x : Model) (o : Offsets) (y : List Float) where
       mean-same : meanOn x o s 0ᶠ (covOn x s live kinds .0) y ≡ meanOf x o (covOf x kinds .0) y
       mean-same = mean-begun (covOn x s live kinds .0) ∙ ap (λ (c : List CovPeriod × Cov). meanOf x o (c .0) y) cov-same
 
-      answer-same : e .answer ≡ answerIn (countsOf (covOf x kinds .0) kinds) (meanOf x o (covOf x kinds .0) y .1 .loglik)
-      answer-same = rw (mean-same, cov-same) at (r .answer) ∙ from-nothing _ _
+      answer-same : e .answer
+          ≡ answerIn (countsOf (covOf x kinds .0) kinds) (covReport 0 (covOf x kinds .0)) (meanOf x o (covOf x kinds .0) y .1 .loglik) (meanReport 0 (meanOf x o (covOf x kinds .0) y .0))
+      answer-same = rw (mean-same, cov-same) at (r .answer) ∙ from-nothing _ _ _ _
 
       pub judged-so : (room : Bool) → 0 ≡ number room → ending x o kinds room ≡ endingOf 0 (e .silent)
       unfolding isSilent
       judged-so room q = by-number room 0 q ∙ ap (endingOf 0) (sym (r .silent ∙ ap (λ (a : Answer). noInformation (tallyOf a)) answer-same))
 
       by : (t : Bool) → e .silent ≡ t → Promise (End (endingOf 0 t)) (answerBy (numberOf (endingOf 0 t)) (e .answer)) b b′
-      unfolding covOutcome meanOutcome answerBy numberOf endingOf after countsIn loglikIn
+      unfolding covOutcome meanOutcome answerBy numberOf endingOf after countsIn loglikIn reportIn
       by true h =
           record {
             answer = refl;

@@ -122,11 +122,14 @@ pub fn filter_univariate<'a>(
         m_inf,
         &mut none,
         false,
+        0,
         promise::Answer {
             loglik: 0.0,
             d_diffuse: 0,
             heard: 0,
             news: 0,
+            cov_off: 0,
+            mean_off: 0,
         },
         true,
     ))

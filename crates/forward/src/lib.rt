@@ -1,8 +1,9 @@
-// Both passes over the periods, one after the other: the covariance pass is crates/cov, the mean pass crates/mean.
+// Both passes over the periods, one after the other, and what ran off in them: the covariance pass is crates/cov, the mean pass crates/mean, the reports
+// are crates/reports.
 ghost use mathlib.Core.Path.{_≡_};
 ghost use lib.ListN.{length};
 ghost use Rattle.promise.specs.Lent.{modelOf, offsetsOf, covParts, meanParts};
-ghost use Rattle.forward.specs.View.{Few, FitOn, Ran, countedOn};
+ghost use Rattle.forward.specs.View.{Few, FitOn, Ran, countedOn, reportedOn};
 
 // Where a stretch of periods ends: the answer since the run began, and whether the diffuse state lasts.
 pub struct End {
@@ -10,21 +11,43 @@ pub struct End {
     pub live: bool,
 }
 
-// A stretch's counts, added to those before it.
-fn counted(before: promise::Answer, diffuse: usize, heard: usize, news: usize) -> promise::Answer
+// A stretch's counts, added to those before it, and its report on the covariances.
+fn counted(
+    before: promise::Answer,
+    diffuse: usize,
+    heard: usize,
+    news: usize,
+    cov_off: usize,
+) -> promise::Answer
     requires { ⌜ Few before diffuse heard news ⌝ }
-    ensures { λ r. ⌜ r ≡ countedOn before diffuse heard news ⌝ }
+    ensures { λ r. ⌜ r ≡ countedOn before diffuse heard news «cov_off» ⌝ }
 {
     promise::Answer {
         loglik: before.loglik,
         d_diffuse: before.d_diffuse + diffuse,
         heard: before.heard + heard,
         news: before.news + news,
+        cov_off: reports::told(before.cov_off, cov_off),
+        mean_off: before.mean_off,
     }
 }
 
-// The two passes over n periods: every part written, the state carried on, and the answer, which goes on from the one
-// before. An empty state: the run begins at the start, and its state is not kept. There may be no periods.
+// And its report on the means.
+fn reported(a: promise::Answer, mean_off: usize) -> promise::Answer
+    ensures { λ r. ⌜ r ≡ reportedOn a «mean_off» ⌝ }
+{
+    promise::Answer {
+        loglik: a.loglik,
+        d_diffuse: a.d_diffuse,
+        heard: a.heard,
+        news: a.news,
+        cov_off: a.cov_off,
+        mean_off: reports::told(a.mean_off, mean_off),
+    }
+}
+
+// The two passes over n periods, after `done` others: every part written, the state carried on, and the answer, which goes
+// on from the one before. An empty state: the run begins at the start, and its state is not kept. There may be no periods.
 // `rqr` is R Q R', which the checks have worked out; R and Q are there for the contract, which speaks of the model.
 pub fn run<'a>(
     p: usize,
@@ -57,6 +80,7 @@ pub fn run<'a>(
     m_inf: &mut [f64],
     state: &mut [f64],
     live: bool,
+    done: usize,
     before: promise::Answer,
 ) -> End
     requires { ⌜ FitOn
@@ -64,12 +88,12 @@ pub fn run<'a>(
         (offsetsOf (now c) (now d) (now a1)) (length (now y)) (now rqr)
         (covParts (now «pred_cov») (now «pred_inf») (now «filt_cov») (now kinds)
         (now «f_star») (now «f_inf») (now «m_star») (now «m_inf»))
-        (meanParts (now «pred_mean») (now «filt_mean») (now v)) (length (now state)) before ⌝ }
+        (meanParts (now «pred_mean») (now «filt_mean») (now v)) (length (now state)) done before ⌝ }
     ensures { λ e. ⌜ Ran
         (modelOf p m r n (now (z .entry)) (now (zs .entry)) (now (h .entry)) (now (t .entry))
         (now (rr .entry)) (now (q .entry)) (now («p_star» .entry)) (now (flags .entry)))
         (offsetsOf (now (c .entry)) (now (d .entry)) (now (a1 .entry))) (now (y .entry))
-        (now (state .entry)) live before e (now (state .exit))
+        (now (state .entry)) live done before e (now (state .exit))
         (covParts (now («pred_cov» .entry)) (now («pred_inf» .entry)) (now («filt_cov» .entry)) (now (kinds .entry))
         (now («f_star» .entry)) (now («f_inf» .entry)) (now («m_star» .entry)) (now («m_inf» .entry)))
         (covParts (now («pred_cov» .exit)) (now («pred_inf» .exit)) (now («filt_cov» .exit)) (now (kinds .exit))
@@ -104,8 +128,9 @@ pub fn run<'a>(
     );
     let heard = cov::counts::heard(y);
     let news = cov::counts::news(kinds, n * p);
+    let cov_off = reports::covs(pred_cov, pred_inf, filt_cov, ended.diffuse, m, n, done);
     let answer = mean::mean_pass(
-        counted(before, ended.diffuse, heard, news),
+        counted(before, ended.diffuse, heard, news, cov_off),
         z,
         zs,
         t,
@@ -127,8 +152,9 @@ pub fn run<'a>(
         n,
         listed,
     );
+    let mean_off = reports::means(pred_mean, filt_mean, m, n, done);
     End {
-        answer,
+        answer: reported(answer, mean_off),
         live: ended.live,
     }
 }

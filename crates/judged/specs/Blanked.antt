@@ -17,7 +17,7 @@ use Rattle.forward.specs.View.{FitOn}
 
 -- ---- past refusal 2 the stretches are there, in parts that are as long as they were lent
 
-module _ {x : Model} {o : Offsets} {y : ℕ} {rqr : List Float} {w : CovParts} {w′ : MeanParts} {size : ℕ} {before : Answer} (f : FitOn x o y rqr w w′ size before) where
+module _ {x : Model} {o : Offsets} {y : ℕ} {rqr : List Float} {w : CovParts} {w′ : MeanParts} {size done : ℕ} {before : Answer} (f : FitOn x o y rqr w w′ size done before) where
   sizes : Sizes (x .p) (x .m) (x .n)
   sizes = record { p8 = f .sizes .p8; m8 = f .sizes .m8; n4096 = f .sizes .n4096 }
 

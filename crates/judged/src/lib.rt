@@ -21,7 +21,7 @@ fn is_silent(a: promise::Answer, last: bool) -> bool
     last & ((0 < a.heard) & (a.news == 0))
 }
 
-// n periods from the state that is lent. Where refusal 12 applies, what they wrote is blank; the state is carried on.
+// n periods from the state that is lent, after `done` others. Where refusal 12 applies, what they wrote is blank; the state is carried on.
 // `rqr` is R Q R', which the checks have worked out; R and Q are there for the contract, which speaks of the model.
 pub fn run<'a>(
     p: usize,
@@ -54,6 +54,7 @@ pub fn run<'a>(
     m_inf: &mut [f64],
     state: &mut [f64],
     live: bool,
+    done: usize,
     before: promise::Answer,
     last: bool,
 ) -> Judged
@@ -62,12 +63,12 @@ pub fn run<'a>(
         (offsetsOf (now c) (now d) (now a1)) (length (now y)) (now rqr)
         (covParts (now «pred_cov») (now «pred_inf») (now «filt_cov») (now kinds)
         (now «f_star») (now «f_inf») (now «m_star») (now «m_inf»))
-        (meanParts (now «pred_mean») (now «filt_mean») (now v)) (length (now state)) before ⌝ }
+        (meanParts (now «pred_mean») (now «filt_mean») (now v)) (length (now state)) done before ⌝ }
     ensures { λ e. ⌜ Went
         (modelOf p m r n (now (z .entry)) (now (zs .entry)) (now (h .entry)) (now (t .entry))
         (now (rr .entry)) (now (q .entry)) (now («p_star» .entry)) (now (flags .entry)))
         (offsetsOf (now (c .entry)) (now (d .entry)) (now (a1 .entry))) (now (y .entry))
-        (now (state .entry)) live before last e (now (state .exit))
+        (now (state .entry)) live done before last e (now (state .exit))
         (covParts (now («pred_cov» .entry)) (now («pred_inf» .entry)) (now («filt_cov» .entry)) (now (kinds .entry))
         (now («f_star» .entry)) (now («f_inf» .entry)) (now («m_star» .entry)) (now («m_inf» .entry)))
         (covParts (now («pred_cov» .exit)) (now («pred_inf» .exit)) (now («filt_cov» .exit)) (now (kinds .exit))
@@ -106,6 +107,7 @@ pub fn run<'a>(
         m_inf,
         state,
         live,
+        done,
         before,
     );
     let answer = end.answer;

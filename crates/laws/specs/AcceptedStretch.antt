@@ -17,10 +17,11 @@ use Rattle.definition.specs.Cov.{covRun}
 use Rattle.definition.specs.Mean.{meanRun}
 use Rattle.definition.specs.Inputs.{Model, Offsets, classOf, isInfinity, gapRows}
 use Rattle.definition.specs.Refusals.{beyond, outside, inputsFit, badLength, firstOf, ofSystem, ofStart, ofH, ofStep}
+use Rattle.definition.specs.Reports.{firstFrom, covReport, meanReport}
 use Rattle.definition.specs.Outcome.{CovParts, MeanParts, Ending, answered, endingOf, numberOf, after, countsOf, noInformation}
-use Rattle.definition.specs.Carried.{begunPast, begunMean, covFrom, meanFrom, plus, pastOn, meanOn, went, Carried}
+use Rattle.definition.specs.Carried.{begunPast, begunMean, covFrom, meanFrom, plus, pastOn, meanOn, meanOffOn, went, Carried}
 use Rattle.definition.specs.Saved.{savedOf, savedNeed, badSaved, loadedPast}
-use Rattle.definition.specs.Stretch.{From, pastIn, meanIn, carriedIn, outsideStretch, badFrom, stretchTests, stretchRefusal, roomyStretch, stretchEnding, covStretch, saveStretch, stretchOutcome}
+use Rattle.definition.specs.Stretch.{From, pastIn, meanIn, meanToldIn, carriedIn, outsideStretch, badFrom, stretchTests, stretchRefusal, roomyStretch, stretchEnding, covStretch, saveStretch, stretchOutcome}
 use Rattle.laws.specs.Any.{either-false}
 use Rattle.laws.specs.All.{AllOf}
 use Rattle.laws.specs.Numbered.{first-none, first-passes}
@@ -28,6 +29,7 @@ use Rattle.laws.specs.Accepted.{InRange, in-range, InputsFit, inputs-fit
 use Rattle.laws.specs.Bytes.{Byte}
 use Rattle.laws.specs.Kept.{Double, Kept, Tallied, went-kept, begun-kept, begun-tallied, tallies-kept}
 use Rattle.laws.specs.SavedBack.{Savable, loaded, saved-length, not-bad, saves, loaded-kept, loaded-tallied}
+use Rattle.laws.specs.Reports.{told-none}
 use Rattle.laws.specs.Cut.{lasting}
 
 -- ---- a call that is not turned away fails every test, and the other way round
@@ -101,20 +103,26 @@ pub record Ready (x : Model) (o : Offsets) (w : From) : Type 0 where
   pub a1 : AllOf Double (o .a1)
   pub bytes : AllOf Byte (w .saved)
 
+-- what a stretch is handed: the start, or what is loaded
+abbrev begunOr : Model → Offsets → From → Bool → Carried
+begunOr x o w b =
+    let s = loaded (x .m) (w .saved) in
+    record { past = cond b (begunPast x) (s .past); mean = cond b (begunMean o) (s .mean); meanOff = cond b 0 (s .meanOff) }
+
 ready-kept : (x : Model) (o : Offsets) (w : From) → Ready x o w → InputsFit x o → Kept (x .m) (carriedIn x o w)
-unfolding pastIn meanIn
+unfolding pastIn meanIn meanToldIn
 ready-kept x o w h f = go (w .begins)
   where
-    go : (b : Bool) → Kept (x .m) (record { past = cond b (begunPast x) (loaded (x .m) (w .saved) .past); mean = cond b (begunMean o) (loaded (x .m) (w .saved) .mean) })
+    go : (b : Bool) → Kept (x .m) (begunOr x o w b)
     go true = begun-kept x o (record { long = f .pStar; each = h .pStar }) (record { long = f .a1; each = h .a1 })
     go false = loaded-kept (x .m) (w .saved)
 
-ready-tallied : (x : Model) (w : From) → AllOf Byte (w .saved) → badFrom x w ≡ false → Tallied (x .p) (pastIn x w)
-unfolding pastIn badFrom
-ready-tallied x w bytes e = go (w .begins) e
+ready-tallied : (x : Model) (o : Offsets) (w : From) → AllOf Byte (w .saved) → badFrom x w ≡ false → Tallied (x .p) (carriedIn x o w)
+unfolding pastIn meanIn meanToldIn badFrom
+ready-tallied x o w bytes e = go (w .begins) e
   where
-    go : (b : Bool) → cond b (not (eqb (length (w .saved)) 0)) (badSaved (x .p) (x .m) (x .r) (x .n) (w .saved)) ≡ false → Tallied (x .p) (cond b (begunPast x) (loaded (x .m) (w .saved) .past))
-    go true e = begun-tallied x
+    go : (b : Bool) → cond b (not (eqb (length (w .saved)) 0)) (badSaved (x .p) (x .m) (x .r) (x .n) (w .saved)) ≡ false → Tallied (x .p) (begunOr x o w b)
+    go true e = begun-tallied x o
     go false e = loaded-tallied (x .p) (x .m) (x .r) (x .n) (w .saved) bytes e
 
 -- the periods done and the stretch's are 4096 at most
@@ -168,7 +176,7 @@ module _ (x : Model) (o : Offsets) (w : From) (last : Bool) (y : List Float) (b 
           m8 = sizes .m8;
           r8 = sizes .r8;
           kept = went-kept x o (carriedIn x o w) y begins-kept;
-          tallies = tallies-kept x (pastIn x w) (map classOf y) fits (ready-tallied x w (ready .bytes) (all .saved));
+          tallies = tallies-kept x o (carriedIn x o w) y fits (ready-tallied x o w (ready .bytes) (all .saved));
           early = sum-early;
         }
 
@@ -187,13 +195,13 @@ module _ (x : Model) (o : Offsets) (w : From) (last : Bool) (y : List Float) (b 
 -- ---- no periods
 
 stays : (x : Model) (o : Offsets) (s : Carried) → went (lasting 0 x) o s [] ≡ s
-unfolding went pastOn covFrom covRun gapRows chunks scan pairs meanOn meanFrom meanRun plus countsOf count join
-stays x o s = rw (add-zero (s .past .done), add-zero (s .past .counts .dDiffuse), add-zero (s .past .counts .heard), add-zero (s .past .counts .news))
+unfolding went pastOn covFrom covRun gapRows chunks scan pairs meanOn meanFrom meanRun meanOffOn plus countsOf count join covReport meanReport firstFrom
+stays x o s = rw (add-zero (s .past .done), add-zero (s .past .counts .dDiffuse), add-zero (s .past .counts .heard), add-zero (s .past .counts .news), told-none (s .past .covOff), told-none (s .meanOff))
 
 pub again : (x : Model) (o : Offsets) (bs : List ℕ) (b : CovParts) (b′ : MeanParts) (save : List ℕ) → Ready (lasting 0 x) o (resume bs)
     → stretchOutcome (lasting 0 x) o (resume bs) false [] b b′ save .cov .refused ≡ 0
     → take (savedNeed (x .m)) (stretchOutcome (lasting 0 x) o (resume bs) false [] b b′ save .save) ≡ bs
-unfolding pastIn meanIn badFrom
+unfolding pastIn meanIn meanToldIn badFrom
 again x o bs b b′ save ready e =
     let ok = free (lasting 0 x) o (resume bs) false [] b b′ save (inl e) in
     let good : badSaved (x .p) (x .m) (x .r) 0 bs ≡ false = passes _ _ _ _ _ _ ok .saved in

@@ -120,12 +120,12 @@ at-row : (n p m : ℕ) (r : Flat) (t : ℕ) → t < n → decisionsAt p m r t �
 unfolding decisionRows
 at-row n p m r t h = ap (decisionsAt p m r) (sym (zero-add t)) ∙ sym (tab-at n 0 t (decisionsAt p m r) [] h)
 
-each-pred : (m : ℕ) (cs : List CovPeriod) → AllOf (SizedP m) cs → Each (m * m) (map (covBlock m predCov) cs)
+pub each-pred : (m : ℕ) (cs : List CovPeriod) → AllOf (SizedP m) cs → Each (m * m) (map (covBlock m predCov) cs)
 unfolding covBlock
 each-pred m [] h = tt
 each-pred m (c ∷ cs) h = (h .0 .pred, each-pred m cs (h .1))
 
-each-inf : (m : ℕ) (cs : List CovPeriod) → AllOf (SizedP m) cs → Each (m * m) (map (covBlock m predInf) cs)
+pub each-inf : (m : ℕ) (cs : List CovPeriod) → AllOf (SizedP m) cs → Each (m * m) (map (covBlock m predInf) cs)
 unfolding covBlock
 each-inf m [] h = tt
 each-inf m (c ∷ cs) h = (h .0 .predInf, each-inf m cs (h .1))

@@ -12,11 +12,14 @@ use Rattle.definition.specs.Cov.{Cov, CovPeriod, period, covRun}
 use Rattle.definition.specs.Mean.{Mean, MeanPeriod, meanPeriod, meanRun}
 use Rattle.definition.specs.Inputs.{Model, Offsets, Class, classOf, isGap, noise, systemOf, frameOf, gapRows}
 use Rattle.definition.specs.Parts.{CovPart, predCov, predInf, filtCov, fStar, fInf, mStar, mInf, MeanPart, predMean, filtMean, innovations, kindBlock, covBlock, meanBlock, isNews}
+use Rattle.definition.specs.Reports.{covReport, meanReport, toldBefore}
 use Rattle.definition.specs.Outcome.{Counts, countsOf, decisionsOf, kindsWritten, covWritten, meanWritten}
-use Rattle.definition.specs.Carried.{Past, Carried, covFrom, meanFrom, plus, pastOn, meanOn, went}
+use Rattle.definition.specs.Carried.{Past, Carried, covFrom, meanFrom, plus, pastOn, meanOn, meanOffOn, went}
 use Rattle.laws.specs.Lists.{scan-append, length-chunks, chunks-append, pairs-append, length-pairs}
 use Rattle.laws.specs.Passes.{join-append, count-append, map-append, blocks-append, blocks-then}
 use Rattle.laws.specs.Shapes.{run-length}
+use Rattle.laws.specs.Reports.{cov-append, mean-append, told-assoc}
+use Rattle.laws.specs.Kept.{means-length}
 
 -- the same model, over k periods
 abbrev pub lasting : ℕ → Model → Model
@@ -52,20 +55,22 @@ module _ (x : Model) (n k : ℕ) where
       let many : length (chunks n p (map isGap ks)) ≡ n = length-chunks n p (map isGap ks) in
       ap (scan (period (systemOf x)) (s .done) (s .cov)) rows ∙ rw many at (scan-append (period (systemOf x)) (chunks n p (map isGap ks)) (chunks k p (map isGap ks′)) (s .done) (s .cov))
 
+  pub covs-length : (s : Past) (ks : List Class) → length (covFrom (lasting n x) s ks .0) ≡ n
+  unfolding covFrom
+  covs-length s ks = run-length (systemOf (lasting n x)) (s .done) (s .cov) ks n (x .p)
+
   pub cut-past : (s : Past) (ks ks′ : List Class) → length ks ≡ n * x .p → pastOn (lasting (n + k) x) s (ks ++ ks′) ≡ pastOn (lasting k x) (pastOn (lasting n x) s ks) ks′
   unfolding pastOn
   cut-past s ks ks′ e =
       let r = cut-covs s ks ks′ e in
       let cs = covFrom (lasting n x) s ks .0 in
       let cs′ = covFrom (lasting k x) (pastOn (lasting n x) s ks) ks′ .0 in
-      let made : List CovPeriod × Cov → ℕ → Past = λ r d. record { done = d; cov = r .1; counts = plus (s .counts) (countsOf (r .0) (ks ++ ks′)) } in
+      let made : List CovPeriod × Cov → ℕ → Past = λ r d. record { done = d; cov = r .1; counts = plus (s .counts) (countsOf (r .0) (ks ++ ks′)); covOff = toldBefore (s .covOff) (covReport (s .done) (r .0)) } in
       let d : s .done + (n + k) ≡ s .done + n + k = omega arith in
-      ap₂ made r d ∙ ap (λ (l : Counts). record { done = s .done + n + k; cov = covFrom (lasting k x) (pastOn (lasting n x) s ks) ks′ .1; counts = l })
+      ap₂ made r d
+      ∙ ap₂ (λ (l : Counts) (t : ℕ). record { done = s .done + n + k; cov = covFrom (lasting k x) (pastOn (lasting n x) s ks) ks′ .1; counts = l; covOff = t })
       (ap (plus (s .counts)) (counts-append cs cs′ ks ks′) ∙ sym (plus-assoc (s .counts) (countsOf cs ks) (countsOf cs′ ks′)))
-
-  pub covs-length : (s : Past) (ks : List Class) → length (covFrom (lasting n x) s ks .0) ≡ n
-  unfolding covFrom
-  covs-length s ks = run-length (systemOf (lasting n x)) (s .done) (s .cov) ks n (x .p)
+      (ap (toldBefore (s .covOff)) (cov-append (s .done) n cs cs′ (covs-length s ks)) ∙ sym (told-assoc (s .covOff) (covReport (s .done) cs) (covReport (s .done + n) cs′)))
 
   -- the means, given the periods' covariances
   cut-runs : (o : Offsets) (t : ℕ) (s : Mean) (cs cs′ : List CovPeriod) (y y′ : List Float) → length cs ≡ n → length y ≡ n * x .p → meanFrom (lasting (n + k) x) o t s (cs ++ cs′) (y ++ y′) ≡ (meanFrom (lasting n x) o t s cs y .0 ++ meanFrom (lasting k x) o (t + n) (meanFrom (lasting n x) o t s cs y .1) cs′ y′ .0, meanFrom (lasting k x) o (t + n) (meanFrom (lasting n x) o t s cs y .1) cs′ y′ .1)
@@ -93,12 +98,23 @@ module _ (x : Model) (n k : ℕ) where
       ∙ ap (λ (r : List CovPeriod × Cov). meanFrom (lasting (n + k) x) o (s .past .done) (s .mean) (r .0) (y ++ y′)) (cut-covs (s .past) ks ks′ kl)
       ∙ cut-runs o (s .past .done) (s .mean) (covFrom (lasting n x) (s .past) ks .0) (covFrom (lasting k x) (pastOn (lasting n x) (s .past) ks) ks′ .0) y y′ (covs-length (s .past) ks) e
 
+  cut-mean-off : (o : Offsets) (s : Carried) (y y′ : List Float) → length y ≡ n * x .p → meanOffOn (lasting (n + k) x) o s (y ++ y′) ≡ meanOffOn (lasting k x) o (went (lasting n x) o s y) y′
+  unfolding meanOffOn went pastOn
+  cut-mean-off o s y y′ e =
+      let t = s .past .done in
+      let ss = meanOn (lasting n x) o s y .0 in
+      let ss′ = meanOn (lasting k x) o (went (lasting n x) o s y) y′ .0 in
+      ap (λ (r : List MeanPeriod × Mean). toldBefore (s .meanOff) (meanReport t (r .0))) (cut-means o s y y′ e)
+      ∙ ap (toldBefore (s .meanOff)) (mean-append t n ss ss′ (means-length (lasting n x) o s y))
+      ∙ sym (told-assoc (s .meanOff) (meanReport t ss) (meanReport (t + n) ss′))
+
   pub cut-state : (o : Offsets) (s : Carried) (y y′ : List Float) → length y ≡ n * x .p → went (lasting (n + k) x) o s (y ++ y′) ≡ went (lasting k x) o (went (lasting n x) o s y) y′
   unfolding went
   cut-state o s y y′ e =
-      ap₂ (λ (a : Past) (r : List MeanPeriod × Mean). record { past = a; mean = r .1 })
+      ap₂ (λ (a : Past) (r : List MeanPeriod × Mean). record { past = a; mean = r .1; meanOff = meanOffOn (lasting (n + k) x) o s (y ++ y′) })
       (ap (pastOn (lasting (n + k) x) (s .past)) (map-append classOf y y′) ∙ cut-past (s .past) (map classOf y) (map classOf y′) (length-map y classOf ∙ e))
       (cut-means o s y y′ e)
+      ∙ ap (λ (t : ℕ). record { past = pastOn (lasting k x) (pastOn (lasting n x) (s .past) (map classOf y)) (map classOf y′); mean = meanOn (lasting k x) o (went (lasting n x) o s y) y′ .1; meanOff = t }) (cut-mean-off o s y y′ e)
 
 -- ---- what is written of a run in two stretches: the first one's blocks, then what the second writes
 

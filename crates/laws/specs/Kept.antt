@@ -13,16 +13,19 @@ use lib.Ieee.Fits.{add-fits, sub-fits, mul-fits, nan-fits, cond-fits}
 use lib.Ieee.Bits.{ofBits-fits}
 use Rattle.definition.specs.Num.{0ᶠ, 1ᶠ, isZero, tabFrom, tabulate, sumTo, at}
 use Rattle.definition.specs.Dense.{axpy, axpyAt, outerSub, outerSubAt, lessOf, product, productAt, productTerm, sandwich, plus, plusAt, symmetrise, symAt, row}
-use Rattle.definition.specs.Run.{scan, chunks, join, count}
+use Rattle.definition.specs.Run.{scan, chunks, pairs, join, count}
 use Rattle.definition.specs.Cov.{System, Cov, Fixed, Inner, Decision, skipped, usual, diffuse, CovPeriod, apply, rootLess, verdict, elementOf, isLive, entered, ended, stepped, stepStar, stepInf, periodOf, period, covRun}
 use Rattle.definition.specs.Mean.{Mean, Frame, Shift, heed, hear, usualTerm, diffuseTerm, meanStep, meanEnded, meanPeriodOf, meanPeriod, meanRun}
 use Rattle.definition.specs.Inputs.{Model, Offsets, Class, classOf, isGap, systemOf, frameOf, systemFrom, frameFrom, gapRows, startOf, startFrom, startInf, startInfAt, startRoot, startRootAt, isFlagged, flagsBefore}
 use Rattle.definition.specs.Parts.{isNews}
+use Rattle.definition.specs.Reports.{covReport, meanReport}
 use Rattle.definition.specs.Outcome.{countsOf, decisionsOf}
-use Rattle.definition.specs.Carried.{Past, Carried, begunPast, begunMean, covFrom, meanFrom, plus as plusCounts, pastOn, meanOn, went}
-use Rattle.laws.specs.Lists.{length-tab, length-chunks, length-scan, join-chunks}
+use Rattle.definition.specs.Carried.{Past, Carried, begunPast, begunMean, covFrom, meanFrom, plus as plusCounts, pastOn, meanOn, meanOffOn, went}
+use Rattle.laws.specs.Lists.{length-tab, length-chunks, length-pairs, length-scan, join-chunks}
 use Rattle.laws.specs.Passes.{count-append, count-le}
 use Rattle.laws.specs.All.{AllOf, scan-keeps}
+use Rattle.laws.specs.Shapes.{run-length}
+use Rattle.laws.specs.Reports.{told-le, cov-report-le, mean-report-le}
 
 -- ---- what is kept
 
@@ -49,10 +52,12 @@ pub record Kept (m : ℕ) (s : Carried) : Type 0 where
   pub mean : MeanKept m (s .mean)
 
 -- the ranges of refusal 15
-pub record Tallied (p : ℕ) (s : Past) : Type 0 where
-  pub dDiffuse : s .counts .dDiffuse ≤ s .done
-  pub heard : s .counts .heard ≤ s .done * p
-  pub news : s .counts .news ≤ s .counts .heard
+pub record Tallied (p : ℕ) (s : Carried) : Type 0 where
+  pub dDiffuse : s .past .counts .dDiffuse ≤ s .past .done
+  pub heard : s .past .counts .heard ≤ s .past .done * p
+  pub news : s .past .counts .news ≤ s .past .counts .heard
+  pub covOff : s .past .covOff ≤ s .past .done
+  pub meanOff : s .meanOff ≤ s .past .done
 
 -- ---- tables
 
@@ -171,7 +176,11 @@ root-doubles : (m : ℕ) (flags : List ℕ) → Doubles (m * m) (startRoot m fla
 unfolding startRoot startRootAt
 root-doubles m flags = table (m * m) (λ l. startRootAt flags (l / m) (l % m)) (λ l. one-or-zero (isFlagged flags (l / m) && eqb (flagsBefore flags (l / m)) (l % m)))
 
-pub begun-kept : (x : Model) (o : Offsets) → Doubles (x .m * x .m) (x .pStar) → Doubles (x .m) (o .a1) → Kept (x .m) (record { past = begunPast x; mean = begunMean o })
+-- a run begins
+abbrev pub begun : Model → Offsets → Carried
+begun x o = record { past = begunPast x; mean = begunMean o; meanOff = 0 }
+
+pub begun-kept : (x : Model) (o : Offsets) → Doubles (x .m * x .m) (x .pStar) → Doubles (x .m) (o .a1) → Kept (x .m) (begun x o)
 unfolding begunPast begunMean startOf startFrom
 begun-kept x o h g =
     record {
@@ -212,9 +221,18 @@ run-news y (g ∷ rows) t c =
     let r = run-news y rows (suc t) (period y t c g .1) in
     omega arith
 
-pub tallies-kept : (x : Model) (s : Past) (ks : List Class) → length ks ≡ x .n * x .p → Tallied (x .p) s → Tallied (x .p) (pastOn x s ks)
-unfolding pastOn plusCounts countsOf covFrom covRun gapRows
-tallies-kept x s ks e h =
+pub means-length : (x : Model) (o : Offsets) (s : Carried) (y : List Float) → length (meanOn x o s y .0) ≡ x .n
+unfolding meanOn meanFrom meanRun covFrom
+means-length x o s y =
+    let cs = covRun (systemOf x) (s .past .done) (s .past .cov) (gapRows (x .n) (x .p) (map classOf y)) .0 in
+    length-scan (meanPeriod (frameOf x) (record { c = o .c; d = o .d })) (pairs (decisionsOf cs) (chunks (x .n) (x .p) y)) (s .past .done) (s .mean)
+    ∙ length-pairs (x .n) (decisionsOf cs) (chunks (x .n) (x .p) y) (length-map cs (λ (c : CovPeriod). c .decisions) ∙ run-length (systemOf x) (s .past .done) (s .past .cov) (map classOf y) (x .n) (x .p)) (length-chunks (x .n) (x .p) y)
+
+pub tallies-kept : (x : Model) (o : Offsets) (c : Carried) (y : List Float) → length (map classOf y) ≡ x .n * x .p → Tallied (x .p) c → Tallied (x .p) (went x o c y)
+unfolding went pastOn plusCounts countsOf covFrom covRun gapRows meanOffOn
+tallies-kept x o c y e h =
+    let s = c .past in
+    let ks = map classOf y in
     let rows = chunks (x .n) (x .p) (map isGap ks) in
     let cs = scan (period (systemOf x)) (s .done) (s .cov) rows .0 in
     let l : length (map isGap ks) ≡ x .n * x .p = length-map ks isGap ∙ e in
@@ -227,8 +245,10 @@ tallies-kept x s ks e h =
       dDiffuse = omega (arith, h .dDiffuse);
       heard = omega (arith, h .heard);
       news = omega (arith, h .news);
+      covOff = told-le (s .covOff) (covReport (s .done) cs) (s .done + x .n) (omega (arith, h .covOff)) (cov-report-le (s .done) (x .n) cs dl);
+      meanOff = told-le (c .meanOff) (meanReport (s .done) (meanOn x o c y .0)) (s .done + x .n) (omega (arith, h .meanOff)) (mean-report-le (s .done) (x .n) (meanOn x o c y .0) (means-length x o c y));
     }
 
-pub begun-tallied : (x : Model) → Tallied (x .p) (begunPast x)
+pub begun-tallied : (x : Model) (o : Offsets) → Tallied (x .p) (begun x o)
 unfolding begunPast
-begun-tallied x = record { dDiffuse = omega arith; heard = omega arith; news = omega arith }
+begun-tallied x o = record { dDiffuse = omega arith; heard = omega arith; news = omega arith; covOff = omega arith; meanOff = omega arith }

@@ -27,6 +27,9 @@ pub mod ReadBack
 pub mod Long
 pub mod Shapes
 pub mod Looked
+pub mod Reports
+pub mod RunsOff
+pub mod Told
 -- the refusals
 pub mod Says
 pub mod Numbered

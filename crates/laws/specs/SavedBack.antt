@@ -14,7 +14,7 @@ use borrow.Author.Tests.{eq-eqb, eqb-true, not-false, ltb-false, le-ltb}
 use Rattle.definition.specs.Run.{anyOf, chunks, join}
 use Rattle.definition.specs.Mean.{Mean}
 use Rattle.definition.specs.Carried.{Past, Carried}
-use Rattle.definition.specs.Saved.{fromBytes, bits, float, section, sections, savedOf, savedNeed, widths, wrongCount, numbersIn, sectionAt, numberAt, doneIn, diffuseIn, heardIn, newsIn, stateIn, otherNan, badSizes, badTallies, badFloats, badSaved, loadedPast, loadedMean}
+use Rattle.definition.specs.Saved.{fromBytes, bits, float, section, sections, savedOf, savedNeed, widths, wrongCount, numbersIn, sectionAt, numberAt, doneIn, diffuseIn, heardIn, newsIn, stateIn, covOffIn, meanOffIn, otherNan, badSizes, badTallies, badFloats, badSaved, loadedPast, loadedMean}
 use Rattle.laws.specs.Lists.{length-chunks}
 use Rattle.laws.specs.Sizes.{square-le}
 use Rattle.laws.specs.Any.{either-false, or-false}
@@ -81,12 +81,12 @@ pub record Savable (p m r : ℕ) (s : Carried) : Type 0 where
   pub m8 : m ≤ 8
   pub r8 : r ≤ 8
   pub kept : Kept m s
-  pub tallies : Tallied p (s .past)
+  pub tallies : Tallied p s
   pub early : s .past .done ≤ 4096
 
 -- what is loaded from bytes
 abbrev pub loaded : ℕ → List ℕ → Carried
-loaded m bs = record { past = loadedPast (numbersIn (widths m) bs); mean = loadedMean (numbersIn (widths m) bs) }
+loaded m bs = let ns = numbersIn (widths m) bs in record { past = loadedPast ns; mean = loadedMean ns; meanOff = meanOffIn ns }
 
 one-of : (b : Bool) → (cond b 1 0 ≤ 1) × (eqb (cond b 1 0) 1 ≡ b) × (ltb 1 (cond b 1 0) ≡ false)
 one-of true = (omega arith, refl, refl)
@@ -136,7 +136,7 @@ module _ (p m r : ℕ) (s : Carried) (q : Savable p m r s) where
                   bits-wide (v .unres) (c .unres .each),
                   (
                     (toBits-lt binary64 (s .mean .loglik) (q .kept .mean .loglik), tt),
-                    ((omega (arith, q .early, k .dDiffuse), (omega (arith, k .heard), (omega (arith, k .heard, k .news), (omega (arith, one-of (s .past .cov .live) .0), tt)))), tt),
+                    ((omega (arith, q .early, k .dDiffuse), (omega (arith, k .heard), (omega (arith, k .heard, k .news), (omega (arith, one-of (s .past .cov .live) .0), (omega (arith, q .early, k .covOff), (omega (arith, q .early, k .meanOff), tt)))))), tt),
                   ),
                 ),
               ),
@@ -172,8 +172,15 @@ module _ (p m r : ℕ) (s : Carried) (q : Savable p m r s) where
   unfolding loadedMean sections
   loaded-mean = rw (float-bits (s .mean .a) (q .kept .mean .a .each), ofBits-toBits binary64 (s .mean .loglik) (q .kept .mean .loglik))
 
+  loaded-mean-off : meanOffIn (sections p m r s) ≡ s .meanOff
+  unfolding sections
+  loaded-mean-off = refl
+
   pub loads : loaded m (savedOf p m r s) ≡ s
-  loads = ap₂ (λ (a : Past) (b : Mean). record { past = a; mean = b }) (ap loadedPast read ∙ loaded-past) (ap loadedMean read ∙ loaded-mean)
+  loads =
+      ap (λ (ns : List (List ℕ)). record { past = loadedPast ns; mean = loadedMean ns; meanOff = meanOffIn ns }) read
+      ∙ ap₂ (λ (a : Past) (b : Mean). record { past = a; mean = b; meanOff = meanOffIn (sections p m r s) }) loaded-past loaded-mean
+      ∙ ap (λ (k : ℕ). record { past = s .past; mean = s .mean; meanOff = k }) loaded-mean-off
 
   good-sizes : (n : ℕ) → badSizes p m r n (sections p m r s) ≡ ltb 4096 (s .past .done + n)
   unfolding badSizes sections
@@ -181,7 +188,7 @@ module _ (p m r : ℕ) (s : Carried) (q : Savable p m r s) where
 
   good-tallies : badTallies p (sections p m r s) ≡ false
   unfolding badTallies sections
-  good-tallies = let k = q .tallies in rw (le-ltb _ _ (k .dDiffuse), le-ltb _ _ (k .heard), le-ltb _ _ (k .news), one-of (s .past .cov .live) .2)
+  good-tallies = let k = q .tallies in rw (le-ltb _ _ (k .dDiffuse), le-ltb _ _ (k .heard), le-ltb _ _ (k .news), one-of (s .past .cov .live) .2, le-ltb _ _ (k .covOff), le-ltb _ _ (k .meanOff))
 
   good-floats : badFloats (sections p m r s) ≡ false
   unfolding badFloats sections
@@ -235,6 +242,8 @@ pub record Tallies (p : ℕ) (ns : List (List ℕ)) : Type 0 where
   pub heard : heardIn ns ≤ doneIn ns * p
   pub news : newsIn ns ≤ heardIn ns
   pub state : stateIn ns ≤ 1
+  pub covOff : covOffIn ns ≤ doneIn ns
+  pub meanOff : meanOffIn ns ≤ doneIn ns
 
 tallies-of : (p : ℕ) (ns : List (List ℕ)) → badTallies p ns ≡ false → Tallies p ns
 unfolding badTallies
@@ -242,7 +251,16 @@ tallies-of p ns e =
     let a = either-false _ _ e in
     let b = either-false _ _ (a .0) in
     let c = either-false _ _ (b .0) in
-    record { dDiffuse = ltb-false _ _ (c .0); heard = ltb-false _ _ (c .1); news = ltb-false _ _ (b .1); state = ltb-false _ _ (a .1) }
+    let d = either-false _ _ (c .0) in
+    let f = either-false _ _ (d .0) in
+    record {
+      dDiffuse = ltb-false _ _ (f .0);
+      heard = ltb-false _ _ (f .1);
+      news = ltb-false _ _ (d .1);
+      state = ltb-false _ _ (c .1);
+      covOff = ltb-false _ _ (b .1);
+      meanOff = ltb-false _ _ (a .1);
+    }
 
 -- no NaN has other bits in the sections of floats
 record Floats (ns : List (List ℕ)) : Type 0 where
@@ -314,9 +332,9 @@ module _ (p m r n : ℕ) (bs : List ℕ) (bytes : AllOf Byte bs) (ok : badSaved 
       let all = not-bad p m r n bs ok in
       ap (λ (ls : List (List ℕ)). join (map section ls)) same-sections ∙ sections-back (widths m) bs (all .long) (all .counts) bytes
 
-  pub loaded-tallied : Tallied p (loaded m bs .past)
+  pub loaded-tallied : Tallied p (loaded m bs)
   unfolding loadedPast
-  loaded-tallied = let l = not-bad p m r n bs ok .tallies in record { dDiffuse = l .dDiffuse; heard = l .heard; news = l .news }
+  loaded-tallied = let l = not-bad p m r n bs ok .tallies in record { dDiffuse = l .dDiffuse; heard = l .heard; news = l .news; covOff = l .covOff; meanOff = l .meanOff }
 
 -- ---- whatever the bytes, as many doubles are loaded as a state has
 

@@ -116,7 +116,7 @@ pub period-first : (y : System) → First (period y)
 unfolding periodOf ended stepped isLive
 period-first y = record { ends = λ t c g e. e; stays = λ t c g e. rw e refl }
 
--- ---- each predicted matrix has m * m places
+-- ---- each predicted and each filtered matrix has m * m places
 pub record Sized (m : ℕ) (c : Cov) : Type 0 where
   pub star : length (c .star) ≡ m * m
   pub pinf : length (c .pinf) ≡ m * m
@@ -124,6 +124,7 @@ pub record Sized (m : ℕ) (c : Cov) : Type 0 where
 pub record SizedP (m : ℕ) (c : CovPeriod) : Type 0 where
   pub pred : length (c .pred) ≡ m * m
   pub predInf : length (c .predInf) ≡ m * m
+  pub filt : length (c .filt) ≡ m * m
 
 pub record Keeps (m : ℕ) (f : ℕ → Cov → List Bool → CovPeriod × Cov) : Type 0 where
   pub leaves : (t : ℕ) (c : Cov) (g : List Bool) → Sized m c → SizedP m (f t c g .0)
@@ -141,6 +142,6 @@ pub period-keeps : (y : System) → Keeps (y .m) (period y)
 unfolding periodOf ended stepped stepStar stepInf
 period-keeps y =
     record {
-      leaves = λ t c g h. record { pred = h .star; predInf = entered-long (y .m) _ (c .pinf) (h .pinf) };
+      leaves = λ t c g h. record { pred = h .star; predInf = entered-long (y .m) _ (c .pinf) (h .pinf); filt = symmetrise-long (y .m) _ };
       goes-on = λ t c g h. record { star = symmetrise-long (y .m) _; pinf = symmetrise-long (y .m) _ };
     }

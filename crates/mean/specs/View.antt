@@ -41,7 +41,7 @@ leftIn pred vs filt = record { pred = pred; vs = vs; filt = filt }
 
 -- the counts go through unchanged
 abbrev pub withLoglik : Answer → Float → Answer
-withLoglik a l = record { loglik = l; «d_diffuse» = a .«d_diffuse»; heard = a .heard; news = a .news }
+withLoglik a l = record { loglik = l; «d_diffuse» = a .«d_diffuse»; heard = a .heard; news = a .news; «cov_off» = a .«cov_off»; «mean_off» = a .«mean_off» }
 
 -- ---- what has to be there
 

@@ -42,7 +42,15 @@ fn show(s: sheet::answers::Settings, n: usize, y: &[f64], o: options::Options)
                 &fates,
                 &rows,
             );
-            table::totals(a.loglik, a.d_diffuse, a.heard, a.news, o.table);
+            table::totals(
+                a.loglik,
+                a.d_diffuse,
+                a.heard,
+                a.news,
+                a.cov_off,
+                a.mean_off,
+                o.table,
+            );
         }
     }
 }

@@ -52,7 +52,15 @@ fn go_on(s: sheet::answers::Settings, n: usize, y: &[f64], from: usize, save: us
                 &fates,
                 &rows,
             );
-            table::totals(a.loglik, a.d_diffuse, a.heard, a.news, false);
+            table::totals(
+                a.loglik,
+                a.d_diffuse,
+                a.heard,
+                a.news,
+                a.cov_off,
+                a.mean_off,
+                false,
+            );
         }
     }
 }

@@ -5,8 +5,8 @@ fn tell(name: &[u8]) {
 }
 
 // One byte more than a saved run has, so that a file that is too long is not taken for one.
-pub fn room() -> [u8; 417] {
-    [0; 417]
+pub fn room() -> [u8; 433] {
+    [0; 433]
 }
 
 fn open_named(name: &[u8]) -> i32 {

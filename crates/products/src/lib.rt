@@ -1,5 +1,5 @@
 // dense.rs, a matrix with a matrix: A B, A B', A' B, A', T P T' and A' N B, over the places of crates/dense. Every sum is document 01's.
-// Each product of two also tells whether all of it is finite; the others, and products of three, do not.
+// Each product of two also tells whether all of it is finite; a transpose and a product of three do not.
 ghost use mathlib.Core.Path.{_≡_};
 ghost use Prim.Native.Nat.{_≤_, _<_};
 ghost use Rattle.definition.specs.Num.{tabulate};
@@ -30,7 +30,8 @@ pub fn product_into(
     c: usize,
 ) -> bool
     requires { ⌜ Sizes r k c ⌝ }
-    ensures { λ x. ⌜ Told (product r k c (rect r k (now (a .entry))) (rect k c (now (b .entry)))) (rect r c (now (out .exit))) x ⌝ }
+    ensures { λ x. ⌜ Told (product r k c (rect r k (now (a .entry))) (rect k c (now (b .entry))))
+        (rect r c (now (out .exit))) x ⌝ }
 {
     dense::sized(out);
     for i in 0..r {
@@ -71,7 +72,8 @@ pub fn product_t_into(
     c: usize,
 ) -> bool
     requires { ⌜ Sizes r k c ⌝ }
-    ensures { λ x. ⌜ Told (product r k c (rect r k (now (a .entry))) (transpose c k (rect c k (now (b .entry))))) (rect r c (now (out .exit))) x ⌝ }
+    ensures { λ x. ⌜ Told (product r k c (rect r k (now (a .entry))) (transpose c k (rect c k (now (b .entry)))))
+        (rect r c (now (out .exit))) x ⌝ }
 {
     dense::sized(out);
     for i in 0..r {
@@ -112,7 +114,8 @@ pub fn t_product_into(
     c: usize,
 ) -> bool
     requires { ⌜ Sizes r k c ⌝ }
-    ensures { λ x. ⌜ Told (product r k c (transpose k r (rect k r (now (a .entry)))) (rect k c (now (b .entry)))) (rect r c (now (out .exit))) x ⌝ }
+    ensures { λ x. ⌜ Told (product r k c (transpose k r (rect k r (now (a .entry)))) (rect k c (now (b .entry))))
+        (rect r c (now (out .exit))) x ⌝ }
 {
     dense::sized(out);
     for i in 0..r {
@@ -242,7 +245,8 @@ pub fn mul_into(out: &mut [f64; 64], a: &[f64; 64], b: &[f64; 64], m: usize) -> 
 
 pub fn t_mul_into(out: &mut [f64; 64], a: &[f64; 64], b: &[f64; 64], m: usize) -> bool
     requires { ⌜ m ≤ 8 ⌝ }
-    ensures { λ r. ⌜ Told (mul m (transposed m (mat m (now (a .entry)))) (mat m (now (b .entry)))) (mat m (now (out .exit))) r ⌝ }
+    ensures { λ r. ⌜ Told (mul m (transposed m (mat m (now (a .entry)))) (mat m (now (b .entry))))
+        (mat m (now (out .exit))) r ⌝ }
 {
     t_mul_sized(out, a, b, m);
     !dense::matrix_not_finite(out, m)

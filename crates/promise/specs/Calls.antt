@@ -11,8 +11,9 @@ use Rattle.promise.specs.declared.Answer.{Answer}
 use Rattle.promise.specs.declared.Outcome.{Outcome}
 use Rattle.promise.specs.declared.Outcome.the-variants.{Refused, Answered}
 
-abbrev pub answerIn : Counts → Float → Answer
-answerIn k l = record { loglik = l; «d_diffuse» = k .dDiffuse; heard = k .heard; news = k .news }
+-- from the counts, the report on the covariances, the log-likelihood and the report on the means
+abbrev pub answerIn : Counts → ℕ → Float → ℕ → Answer
+answerIn k t l u = record { loglik = l; «d_diffuse» = k .dDiffuse; heard = k .heard; news = k .news; «cov_off» = t; «mean_off» = u }
 
 -- by the refusal's number, 0 for none
 unfoldable pub answerBy : ℕ → Answer → Outcome
@@ -26,7 +27,7 @@ refusalOf (Answered a) = 0
 
 -- u is the definition's outcome; r the call's answer, b and b′ the parts afterwards
 pub record Promise (u : CovOutcome × MeanOutcome) (r : Outcome) (b : CovParts) (b′ : MeanParts) : Type 0 where
-  pub answer : r ≡ answerBy (u .0 .refused) (answerIn (u .0 .counts) (u .1 .loglik))
+  pub answer : r ≡ answerBy (u .0 .refused) (answerIn (u .0 .counts) (u .0 .covOff) (u .1 .loglik) (u .1 .meanOff))
   pub kinds : b .kinds ≡ u .0 .parts .kinds
   pub cov : (q : CovPart) → b .part q ≡ u .0 .parts .part q
   pub mean : (q : MeanPart) → b′ q ≡ u .1 .parts q

@@ -1,5 +1,5 @@
--- What an exported call promises: the call's own promise, and how its outcome is told: 0 and the answer's four numbers, or the refusal's number
--- and the four as they were.
+-- What an exported call promises: the call's own promise, and how its outcome is told: 0 and the answer's six numbers, or the refusal's number
+-- and the six as they were.
 use mathlib.Core.Path.{_≡_}
 use Prim.Native.Nat.{ℕ}
 use mathlib.Core.Bool.{Bool, not}
@@ -10,20 +10,22 @@ use Rattle.promise.specs.Calls.{refusalOf, Filtered, Smoothed, Stretched
 use Rattle.promise.specs.declared.Outcome.{Outcome}
 use Rattle.promise.specs.declared.Outcome.the-variants.{Refused, Answered}
 
--- the places for the answer: log-likelihood, d_diffuse, heard, news
+-- the places for the answer: log-likelihood, d_diffuse, heard, news, cov_off, mean_off
 pub record Places : Type 0 where
   pub loglik : Float
   pub diffuse : ℕ
   pub heard : ℕ
   pub news : ℕ
+  pub covOff : ℕ
+  pub meanOff : ℕ
 
-abbrev pub places : Float → ℕ → ℕ → ℕ → Places
-places l d h w = record { loglik = l; diffuse = d; heard = h; news = w }
+abbrev pub places : Float → ℕ → ℕ → ℕ → ℕ → ℕ → Places
+places l d h w c m = record { loglik = l; diffuse = d; heard = h; news = w; covOff = c; meanOff = m }
 
 -- the places afterwards
 abbrev pub placesOf : Outcome → Places → Places
 placesOf (Refused k) old = old
-placesOf (Answered a) old = places (a .loglik) (a .«d_diffuse») (a .heard) (a .news)
+placesOf (Answered a) old = places (a .loglik) (a .«d_diffuse») (a .heard) (a .news) (a .«cov_off») (a .«mean_off»)
 
 pub record Told (o : Outcome) (k : ℕ) (old new : Places) : Type 0 where
   pub number : k ≡ refusalOf o

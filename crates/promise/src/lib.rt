@@ -1,12 +1,15 @@
 // The words of the promises: what a call answers with, and the record of an element. What the calls promise of them is in specs/. No function
 // stands here.
 
-// The answer: the log-likelihood; how many periods were diffuse, how many readings were not NaN, how many records are not skipped.
+// The answer: the log-likelihood; how many periods were diffuse, how many readings were not NaN, how many records are not skipped; and the first
+// period whose covariances, and the first whose means, have a number that is not finite: that period plus 1, or 0 for none.
 pub struct Answer {
     pub loglik: f64,
     pub d_diffuse: usize,
     pub heard: usize,
     pub news: usize,
+    pub cov_off: usize,
+    pub mean_off: usize,
 }
 
 // Refused with its number, 1 to 12 or 15, or answered.

@@ -1,10 +1,10 @@
 // The first difference of a case, and how it is told.
 
-// What is compared: the refusal, the answer's log-likelihood, d_diffuse, heard and news, then the outputs in order, from here on.
-pub const OUTPUTS: usize = 5;
+// What is compared: the refusal, the answer's log-likelihood, d_diffuse, heard, news and the two reports, then the outputs in order, from here on.
+pub const OUTPUTS: usize = 7;
 
 // And the list of records: of each its kind, v, F* and F∞, from here on.
-pub const LIST: usize = 18;
+pub const LIST: usize = 20;
 
 pub struct Found {
     pub differs: bool,
@@ -44,17 +44,19 @@ fn print_answer(part: usize) {
         1 => io::write_all(1, b"loglik"),
         2 => io::write_all(1, b"d_diffuse"),
         3 => io::write_all(1, b"heard"),
-        _ => io::write_all(1, b"news"),
+        4 => io::write_all(1, b"news"),
+        5 => io::write_all(1, b"cov_off"),
+        _ => io::write_all(1, b"mean_off"),
     }
     ;
 }
 
 fn print_moment(part: usize) {
     match part {
-        5 => io::write_all(1, b"pred_mean"),
-        6 => io::write_all(1, b"pred_cov"),
-        7 => io::write_all(1, b"pred_inf"),
-        8 => io::write_all(1, b"filt_mean"),
+        7 => io::write_all(1, b"pred_mean"),
+        8 => io::write_all(1, b"pred_cov"),
+        9 => io::write_all(1, b"pred_inf"),
+        10 => io::write_all(1, b"filt_mean"),
         _ => io::write_all(1, b"filt_cov"),
     }
     ;
@@ -62,13 +64,13 @@ fn print_moment(part: usize) {
 
 fn print_record(part: usize) {
     match part {
-        10 => io::write_all(1, b"kinds"),
-        11 => io::write_all(1, b"v"),
-        12 => io::write_all(1, b"f_star"),
-        13 => io::write_all(1, b"f_inf"),
-        14 => io::write_all(1, b"m_star"),
-        15 => io::write_all(1, b"m_inf"),
-        16 => io::write_all(1, b"sm_mean"),
+        12 => io::write_all(1, b"kinds"),
+        13 => io::write_all(1, b"v"),
+        14 => io::write_all(1, b"f_star"),
+        15 => io::write_all(1, b"f_inf"),
+        16 => io::write_all(1, b"m_star"),
+        17 => io::write_all(1, b"m_inf"),
+        18 => io::write_all(1, b"sm_mean"),
         _ => io::write_all(1, b"sm_cov"),
     }
     ;
@@ -77,9 +79,9 @@ fn print_record(part: usize) {
 fn print_listed(part: usize) {
     io::write_all(1, b"the list's ");
     match part {
-        18 => io::write_all(1, b"kind"),
-        19 => io::write_all(1, b"v"),
-        20 => io::write_all(1, b"f_star"),
+        20 => io::write_all(1, b"kind"),
+        21 => io::write_all(1, b"v"),
+        22 => io::write_all(1, b"f_star"),
         _ => io::write_all(1, b"f_inf"),
     }
     ;
@@ -89,7 +91,7 @@ fn print_part(part: usize) {
     if part < OUTPUTS {
         return print_answer(part);
     }
-    if part < 10 {
+    if part < 12 {
         return print_moment(part);
     }
     if part < LIST {

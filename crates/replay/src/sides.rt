@@ -45,7 +45,7 @@ fn flags<'a>(low: &'a [u8], case: &[u8]) -> &'a [u8] {
     &low[a..b]
 }
 
-// The answer against the case's: words 33 to 36.
+// The answer against the case's: words 33 to 38.
 fn answer(case: &[u8], o: Outcome, refusal: u64) -> Found {
     let f = crate::found::nothing();
     match o {
@@ -55,7 +55,9 @@ fn answer(case: &[u8], o: Outcome, refusal: u64) -> Found {
             let f = compare(f, 1, 0, word(case, 33), bits::pattern(a.loglik));
             let f = compare(f, 2, 0, word(case, 34), a.d_diffuse as u64);
             let f = compare(f, 3, 0, word(case, 35), a.heard as u64);
-            compare(f, 4, 0, word(case, 36), a.news as u64)
+            let f = compare(f, 4, 0, word(case, 36), a.news as u64);
+            let f = compare(f, 5, 0, word(case, 37), a.cov_off as u64);
+            compare(f, 6, 0, word(case, 38), a.mean_off as u64)
         }
     }
 }

@@ -6,7 +6,7 @@ ghost use lib.ListN.{length};
 // The most words of a case, and its head.
 const WORDS: usize = 8192;
 
-const HEAD: usize = 50;
+const HEAD: usize = 52;
 
 // The most places of a part: of the listed designs, and of any other.
 const LISTED: usize = 4097;
@@ -66,7 +66,7 @@ fn places(case: &[u8], j: usize) -> usize
     if j < 12 {
         return least(size(case, 6 + j), LISTED);
     }
-    least(size(case, 25 + j), LISTED)
+    least(size(case, 27 + j), LISTED)
 }
 
 // Where part j begins.

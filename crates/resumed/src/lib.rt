@@ -3,9 +3,9 @@
 ghost use Prim.Native.Nat.{_≤_};
 use sheet::answers::Settings;
 
-// What a saved run of three states has: 104 + 8 m + 32 m² bytes.
-pub fn bytes() -> [u8; 416] {
-    [0; 416]
+// What a saved run of three states has: 120 + 8 m + 32 m² bytes.
+pub fn bytes() -> [u8; 432] {
+    [0; 432]
 }
 
 // How many periods a saved run has done: bytes 28 to 35, most significant first. Where the library takes it they are at most 4096, so that the last

@@ -43,13 +43,13 @@ openOf pinf k = sumTo 9 (squareAt pinf k) >ᶠ rank-tol
 unfoldable pub offsetOpenOf : (pinf : List Float) (kinds : List ℕ) (t : ℕ) → Bool
 offsetOpenOf pinf kinds t = not (eqb (byteAt kinds (2 * t)) 2) && (not (eqb (byteAt kinds (2 * t + 1)) 2) && (openOf pinf t && not (isZero (numAt pinf (9 * t)))))
 
--- the rate at the start of period k, which is the rate after period k - 1: P∞ is diffuse with an entry for the rate
+-- the rate at the start of period k, and with it the rate after period k - 1, of which the step keeps some: P∞ is diffuse with an entry for the rate
 unfoldable pub rateOpenOf : (pinf : List Float) (k : ℕ) → Bool
 rateOpenOf pinf k = openOf pinf k && not (isZero (numAt pinf (9 * k + 4)))
 
--- ---- a standard deviation: infinite where there is no bound; a variance below 0 counts as 0
+-- ---- a standard deviation: infinite where there is no bound; none of a variance that is no number; a variance below 0 counts as 0
 unfoldable pub deviationOf : (variance : Float) (unbounded : Bool) → Float
-deviationOf variance unbounded = cond unbounded (inf false) (sqrtOf (max0 variance))
+deviationOf variance unbounded = cond unbounded (inf false) (cond (isNan variance) variance (sqrtOf (max0 variance)))
 
 -- ---- the numbers of a period
 

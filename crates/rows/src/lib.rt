@@ -138,7 +138,7 @@ fn offset_open(pred_inf: &[f64], kinds: &[u8], t: usize) -> bool
     open(pred_inf, t) & (at(pred_inf, 9 * t) != 0.0)
 }
 
-// Whether the rate has no bound at the start of period k: the step from period to period leaves the rate as it is.
+// Whether the rate has no bound at the start of period k. Of a rate with no bound the step from period to period keeps some, so it has none either.
 fn rate_open(pred_inf: &[f64], k: usize) -> bool
     requires { ⌜ k ≤ 4096 ⌝ }
     ensures { λ r. ⌜ r ≡ rateOpenOf (now («pred_inf» .entry)) k ⌝ }
@@ -146,12 +146,15 @@ fn rate_open(pred_inf: &[f64], k: usize) -> bool
     open(pred_inf, k) & (at(pred_inf, 9 * k + 4) != 0.0)
 }
 
-// A variance below 0 is rounding.
+// A variance below 0 is rounding. Of one that is no number there is no deviation: 0 would say that all is known.
 fn deviation(variance: f64, open: bool) -> f64
     ensures { λ r. ⌜ r ≡ deviationOf variance «open» ⌝ }
 {
     if open {
         return 1.0 / 0.0;
+    }
+    if float::is_nan(variance) {
+        return variance;
     }
     float::sqrt(float::max0(variance))
 }

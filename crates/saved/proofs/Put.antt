@@ -1,6 +1,6 @@
 -- Lists put one after the other are put as one.
 use mathlib.Core.Path.{_≡_, refl, sym, ap, ap₂, _∙_}
-use Prim.Native.Nat.{ℕ, _+_, _*_, _/_, _%_, _^_, _≤_, _<_}
+use Prim.Native.Nat.{ℕ, zero, suc, _+_, _*_, _/_, _%_, _^_, _≤_, _<_}
 use native.Mathlib.Nat.{zero-add}
 use native.Mathlib.Omega.{arith}
 use native.Mathlib.Numerals.{add-one}
@@ -10,8 +10,9 @@ use lib.Seq.{take-at, drop-at, drop-drop, take-all, take-suc, getD-drop, length-
 use lib.Ieee.{Float, nan}
 use Rattle.definition.specs.Run.{join, lay}
 use Rattle.definition.specs.Saved.{bytesOf, bits, section}
-use Rattle.laws.specs.Bytes.{bytes-length, join-length}
+use Rattle.laws.specs.Bytes.{bytes-length}
 use Rattle.laws.specs.Passes.{map-append, join-append}
+use Rattle.laws.specs.ReadBack.{getD-map-in}
 use Rattle.saved.specs.Places.{leastFirst, putAt}
 
 -- w, of k places, put at a place
@@ -55,37 +56,41 @@ module _ {A : Type 0} where
   pub copy-next : (old new s : List A) (at i : ℕ) (v z : A) → at + i < length old → i < length s → new ≡ paste old at s i → v ≡ getD s i z → set new (at + i) v ≡ paste old at s (i + 1)
   copy-next old new s at i v z h g e q = rw add-one (ap₂ (λ (l : List A) (a : A). set l (at + i) a) e q ∙ paste-suc old at s i z h g)
 
--- ---- floats, one after the other
+-- ---- numbers, one after the other
 
-abbrev pub written : List Float → List ℕ
-written l = join (map (bytesOf 8) (map bits l))
+abbrev pub written : List ℕ → List ℕ
+written l = join (map (bytesOf 8) l)
 
-pub written-length : (l : List Float) → length (written l) ≡ length l * 8
-written-length l = join-length (map bits l) ∙ ap (λ (i : ℕ). i * 8) (length-map l bits)
-
-written-next : (l : List Float) (v : Float) → written (l ++ (v ∷ [])) ≡ written l ++ bytesOf 8 (bits v)
+written-next : (l : List ℕ) (v : ℕ) → written (l ++ (v ∷ [])) ≡ written l ++ bytesOf 8 v
 unfolding join
-written-next l v =
-    ap (λ (z : List ℕ). join (map (bytesOf 8) z)) (map-append bits l (v ∷ [])) ∙ ap join (map-append (bytesOf 8) (map bits l) (bits v ∷ [])) ∙ join-append (map (bytesOf 8) (map bits l)) (bytesOf 8 (bits v) ∷ []) ∙ ap (λ (z : List ℕ). written l ++ z) (append-nil (bytesOf 8 (bits v)))
+written-next l v = ap join (map-append (bytesOf 8) l (v ∷ [])) ∙ join-append (map (bytesOf 8) l) (bytesOf 8 v ∷ []) ∙ ap (λ (z : List ℕ). written l ++ z) (append-nil (bytesOf 8 v))
 
-floats-next : (x : List Float) (from i : ℕ) → from + i < length x → written (take (i + 1) (drop from x)) ≡ written (take i (drop from x)) ++ bytesOf 8 (bits (getD x (from + i) nan))
-floats-next x from i h =
-    let l : i < length (drop from x) = simp length-drop (omega arith) in
-    ap (λ (j : ℕ). written (take j (drop from x))) (add-one i) ∙ ap written (take-suc (drop from x) i nan l) ∙ written-next (take i (drop from x)) (getD (drop from x) i nan) ∙ ap (λ (v : Float). written (take i (drop from x)) ++ bytesOf 8 (bits v)) (getD-drop from x i nan)
-
-pub floats-none : (at from : ℕ) (x : List Float) {old : List ℕ} → Put at (0 * 8) (written (take 0 (drop from x))) old old
+pub numbers-none : (at : ℕ) (l : List ℕ) {old : List ℕ} → Put at (0 * 8) (written (take 0 l)) old old
 unfolding join
-floats-none at from x {old} = record { long = refl; is = paste-zero old at [] }
+numbers-none at l {old} = record { long = refl; is = paste-zero old at [] }
 
-pub floats-more : (at from i : ℕ) (x : List Float) (old out new : List ℕ) (k : ℕ) → Put at (i * 8) (written (take i (drop from x))) old out → from + i < length x → at + i * 8 ≤ length old → k ≡ bits (getD x (from + i) nan) → new ≡ putAt (at + i * 8) (bytesOf 8 k) out → Put at ((i + 1) * 8) (written (take (i + 1) (drop from x))) old new
-floats-more at from i x old out new k u h room e q =
+pub numbers-more : (at i : ℕ) (l old out new : List ℕ) (k : ℕ) → Put at (i * 8) (written (take i l)) old out → i < length l → at + i * 8 ≤ length old → k ≡ getD l i 0 → new ≡ putAt (at + i * 8) (bytesOf 8 k) out → Put at ((i + 1) * 8) (written (take (i + 1) l)) old new
+numbers-more at i l old out new k u h room e q =
     let n : i * 8 + length (bytesOf 8 k) ≡ (i + 1) * 8 = omega (arith, bytes-length 8 k) in
-    let w : written (take i (drop from x)) ++ bytesOf 8 k ≡ written (take (i + 1) (drop from x)) = ap (λ (j : ℕ). written (take i (drop from x)) ++ bytesOf 8 j) e ∙ sym (floats-next x from i h) in
+    let w : written (take i l) ++ bytesOf 8 k ≡ written (take (i + 1) l) =
+    ap (λ (j : ℕ). written (take i l) ++ bytesOf 8 j) e ∙ sym (ap (λ (j : ℕ). written (take j l)) (add-one i) ∙ ap written (take-suc l i 0 h) ∙ written-next (take i l) (getD l i 0)) in
     let v = put-next (bytesOf 8 k) ((i + 1) * 8) (at + i * 8) u room refl q n in
-    record { long = ap length (sym w) ∙ v .long; is = put-is (written (take (i + 1) (drop from x))) v w }
+    record { long = ap length (sym w) ∙ v .long; is = put-is (written (take (i + 1) l)) v w }
 
-pub floats-all : (at from i k : ℕ) (x : List Float) (old out : List ℕ) → i ≡ k → Put at (i * 8) (written (take i (drop from x))) old out → out ≡ putAt at (written (take k (drop from x))) old
-floats-all at from i k x old out e u = put-is (written (take k (drop from x))) u (ap (λ (j : ℕ). written (take j (drop from x))) e)
+pub numbers-all : (at i : ℕ) (l old out : List ℕ) → length l ≤ i → Put at (i * 8) (written (take i l)) old out → out ≡ putAt at (written l) old
+numbers-all at i l old out e u = put-is (written l) u (ap written (take-all i l e))
+
+-- floats go by their bits
+take-bits : (k : ℕ) (l : List Float) → take k (map bits l) ≡ map bits (take k l)
+take-bits zero l = refl
+take-bits (suc k) [] = refl
+take-bits (suc k) (v ∷ l) = ap (λ (z : List ℕ). bits v ∷ z) (take-bits k l)
+
+pub float-at : (x : List Float) (from i : ℕ) → from + i < length x → bits (getD x (from + i) nan) ≡ getD (map bits (drop from x)) i 0
+float-at x from i h = ap bits (sym (getD-drop from x i nan)) ∙ sym (getD-map-in bits (drop from x) i nan 0 (simp length-drop (omega arith)))
+
+pub floats-all : (at from i k : ℕ) (x : List Float) (old out : List ℕ) → i ≡ k → Put at (i * 8) (written (take i (map bits (drop from x)))) old out → out ≡ putAt at (written (map bits (take k (drop from x)))) old
+floats-all at from i k x old out e u = put-is (written (map bits (take k (drop from x)))) u (ap (λ (j : ℕ). written (take j (map bits (drop from x)))) e ∙ ap written (take-bits k (drop from x)))
 
 -- ---- what each function puts
 
@@ -93,24 +98,18 @@ pub eight-put : (at v w : ℕ) (old mid new : List ℕ) → at + 8 ≤ length ol
 eight-put at v w old mid new room h e q =
     put-is (bytesOf 8 v) (put-next (leastFirst (w / 256 ^ 4)) 8 (at + 4) (put-first at (leastFirst (w % 256 ^ 4)) old 4 refl e) (omega arith) refl q refl) h
 
-pub section-put : (at from k : ℕ) (x : List Float) (old mid new : List ℕ) → at + (4 + k * 8) ≤ length old → from + k ≤ length x → mid ≡ putAt at (bytesOf 4 k) old → new ≡ putAt (at + 4) (written (take k (drop from x))) mid → new ≡ putAt at (section (map bits (take k (drop from x)))) old
+-- a count, and the numbers after it
+pub counted-put : (at k : ℕ) (l old mid new : List ℕ) → length l ≡ k → at + (4 + k * 8) ≤ length old → mid ≡ putAt at (bytesOf 4 k) old → new ≡ putAt (at + 4) (written l) mid → new ≡ putAt at (section l) old
 unfolding section
+counted-put at k l old mid new n room e q =
+    put-is (section l) (put-next (written l) (4 + length (written l)) (at + 4) (put-first at (bytesOf 4 k) old 4 (bytes-length 4 k) e) (omega arith) refl q refl) (ap (λ (i : ℕ). bytesOf 4 i ++ written l) (sym n))
+
+pub section-put : (at from k : ℕ) (x : List Float) (old mid new : List ℕ) → at + (4 + k * 8) ≤ length old → from + k ≤ length x → mid ≡ putAt at (bytesOf 4 k) old → new ≡ putAt (at + 4) (written (map bits (take k (drop from x)))) mid → new ≡ putAt at (section (map bits (take k (drop from x)))) old
 section-put at from k x old mid new room h e q =
     let l = take k (drop from x) in
-    let n : length (map bits l) ≡ k = length-map l bits ∙ length-take-le k (drop from x) (simp length-drop (omega arith)) in
-    put-is (section (map bits l)) (put-next (written l) (4 + length (written l)) (at + 4) (put-first at (bytesOf 4 k) old 4 (bytes-length 4 k) e) (omega arith) refl q refl) (ap (λ (i : ℕ). bytesOf 4 i ++ written l) (sym n))
+    counted-put at k (map bits l) old mid new (length-map l bits ∙ length-take-le k (drop from x) (simp length-drop (omega arith))) room e q
 
 pub single-put : (at : ℕ) (v : Float) (k : ℕ) (old mid new : List ℕ) → at + 12 ≤ length old → mid ≡ putAt at (bytesOf 4 1) old → k ≡ bits v → new ≡ putAt (at + 4) (bytesOf 8 k) mid → new ≡ putAt at (section (bits v ∷ [])) old
 unfolding section join
 single-put at v k old mid new room e f q =
     put-is (section (bits v ∷ [])) (put-next (bytesOf 8 k) 12 (at + 4) (put-first at (bytesOf 4 1) old 4 (bytes-length 4 1) e) (omega arith) refl q (ap (λ (i : ℕ). 4 + i) (bytes-length 8 k))) (ap (λ (i : ℕ). bytesOf 4 1 ++ bytesOf 8 i) f ∙ ap (λ (l : List ℕ). bytesOf 4 1 ++ l) (sym (append-nil (bytesOf 8 (bits v)))))
-
-pub numbers-put : (at a b c d : ℕ) (old o1 o2 o3 o4 o5 : List ℕ) → at + 36 ≤ length old → o1 ≡ putAt at (bytesOf 4 4) old → o2 ≡ putAt (at + 4) (bytesOf 8 a) o1 → o3 ≡ putAt (at + 12) (bytesOf 8 b) o2 → o4 ≡ putAt (at + 20) (bytesOf 8 c) o3 → o5 ≡ putAt (at + 28) (bytesOf 8 d) o4 → o5 ≡ putAt at (section (a ∷ b ∷ c ∷ d ∷ [])) old
-unfolding section join
-numbers-put at a b c d old o1 o2 o3 o4 o5 room e1 e2 e3 e4 e5 =
-    let u1 = put-first at (bytesOf 4 4) old 4 (bytes-length 4 4) e1 in
-    let u2 = put-next (bytesOf 8 a) 12 (at + 4) u1 (omega arith) refl e2 (ap (λ (i : ℕ). 4 + i) (bytes-length 8 a)) in
-    let u3 = put-next (bytesOf 8 b) 20 (at + 12) u2 (omega arith) refl e3 (ap (λ (i : ℕ). 12 + i) (bytes-length 8 b)) in
-    let u4 = put-next (bytesOf 8 c) 28 (at + 20) u3 (omega arith) refl e4 (ap (λ (i : ℕ). 20 + i) (bytes-length 8 c)) in
-    let u5 = put-next (bytesOf 8 d) 36 (at + 28) u4 (omega arith) refl e5 (ap (λ (i : ℕ). 28 + i) (bytes-length 8 d)) in
-    put-is (section (a ∷ b ∷ c ∷ d ∷ [])) u5 (simp (append-assoc, append-nil))

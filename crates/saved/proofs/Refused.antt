@@ -65,10 +65,10 @@ module _ (p m r n : ℕ) (bs : List ℕ) where
       shut false b c = refl
 
 module _ {m star pinf root unres loglik tallies end : ℕ} (s : Starts m star pinf root unres loglik tallies end) (bs : List ℕ) where
-  pub tallies-are : (p : ℕ) → (ltb (bytesAt 8 28 bs) (bytesAt 8 (tallies + 4) bs) || ltb (bytesAt 8 28 bs * p) (bytesAt 8 (tallies + 12) bs) || ltb (bytesAt 8 (tallies + 12) bs) (bytesAt 8 (tallies + 20) bs) || ltb 1 (bytesAt 8 (tallies + 28) bs)) ≡ badTallies p (numbersIn (widths m) bs)
+  pub tallies-are : (p : ℕ) → (ltb (bytesAt 8 28 bs) (bytesAt 8 (tallies + 4) bs) || ltb (bytesAt 8 28 bs * p) (bytesAt 8 (tallies + 12) bs) || ltb (bytesAt 8 (tallies + 12) bs) (bytesAt 8 (tallies + 20) bs) || ltb 1 (bytesAt 8 (tallies + 28) bs) || ltb (bytesAt 8 28 bs) (bytesAt 8 (tallies + 36) bs) || ltb (bytesAt 8 28 bs) (bytesAt 8 (tallies + 44) bs)) ≡ badTallies p (numbersIn (widths m) bs)
   unfolding badTallies
   tallies-are p =
-      rw (rows.size-there m bs 3 28 (omega arith) refl, rows.tally-there s bs 0 (tallies + 4) (omega arith) (omega arith), rows.tally-there s bs 1 (tallies + 12) (omega arith) (omega arith), rows.tally-there s bs 2 (tallies + 20) (omega arith) (omega arith), rows.tally-there s bs 3 (tallies + 28) (omega arith) (omega arith)) refl
+      rw (rows.size-there m bs 3 28 (omega arith) refl, rows.tally-there s bs 0 (tallies + 4) (omega arith) (omega arith), rows.tally-there s bs 1 (tallies + 12) (omega arith) (omega arith), rows.tally-there s bs 2 (tallies + 20) (omega arith) (omega arith), rows.tally-there s bs 3 (tallies + 28) (omega arith) (omega arith), rows.tally-there s bs 4 (tallies + 36) (omega arith) (omega arith), rows.tally-there s bs 5 (tallies + 44) (omega arith) (omega arith)) refl
 
   loglik-is : anyOf otherNan (numbersAt 1 (loglik + 4) bs) ≡ otherNan (bytesAt 8 (loglik + 4) bs)
   unfolding anyOf chunks

@@ -59,7 +59,7 @@ module _ {m star pinf root unres loglik tallies end : ℕ} (s : Starts m star pi
   abbrev other : ℕ → ℕ → Bool
   other at w = not (eqb (bytesAt 4 at bs) w)
 
-  pub wrong-is : (other 0 4 || other 36 m || other star (m * m) || other pinf (m * m) || other root (m * m) || other unres (m * m) || other loglik 1 || other tallies 4) ≡ wrongCount (widths m) bs
+  pub wrong-is : (other 0 4 || other 36 m || other star (m * m) || other pinf (m * m) || other root (m * m) || other unres (m * m) || other loglik 1 || other tallies 6) ≡ wrongCount (widths m) bs
   unfolding widths
   wrong-is =
       let a : 36 + (4 + m * 8) ≡ star = omega arith in
@@ -69,7 +69,7 @@ module _ {m star pinf root unres loglik tallies end : ℕ} (s : Starts m star pi
       let e : 36 + (4 + m * 8) + (4 + m * m * 8) + (4 + m * m * 8) + (4 + m * m * 8) + (4 + m * m * 8) ≡ loglik = omega arith in
       let f : 36 + (4 + m * 8) + (4 + m * m * 8) + (4 + m * m * 8) + (4 + m * m * 8) + (4 + m * m * 8) + 12 ≡ tallies = omega arith in
       let w : wrongCount (widths m) bs ≡ wrongFrom (widths m) 0 bs = wrong-from (widths m) 0 bs in
-      ors (other 0 4) (other 36 m) (other star (m * m)) (other pinf (m * m)) (other root (m * m)) (other unres (m * m)) (other loglik 1) (other tallies 4) ∙ sym (w ∙ rw (f, e, d, c, b, a) refl)
+      ors (other 0 4) (other 36 m) (other star (m * m)) (other pinf (m * m)) (other root (m * m)) (other unres (m * m)) (other loglik 1) (other tallies 6) ∙ sym (w ∙ rw (f, e, d, c, b, a) refl)
 
   -- the six rows of floats
   pub star-row : sectionAt (numbersIn (widths m) bs) 2 ≡ numbersAt (m * m) (star + 4) bs
@@ -97,6 +97,6 @@ module _ {m star pinf root unres loglik tallies end : ℕ} (s : Starts m star pi
   unfolding widths lengthOf
   loglik-there = number-there m bs 6 0 (loglik + 4) (omega arith) (omega arith) (omega arith)
 
-  pub tally-there : (i at : ℕ) → i < 4 → tallies + 4 + i * 8 ≡ at → numberAt (numbersIn (widths m) bs) 7 i ≡ bytesAt 8 at bs
+  pub tally-there : (i at : ℕ) → i < 6 → tallies + 4 + i * 8 ≡ at → numberAt (numbersIn (widths m) bs) 7 i ≡ bytesAt 8 at bs
   unfolding widths lengthOf
   tally-there i at h e = number-there m bs 7 i at (omega arith) h (omega arith)

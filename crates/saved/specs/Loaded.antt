@@ -7,7 +7,7 @@ use lib.ListN.{take, drop}
 use lib.Dec.{eqb}
 use lib.Ieee.{Float}
 use Rattle.definition.specs.Carried.{Past, Carried}
-use Rattle.definition.specs.Saved.{float, widths, numbersIn, sectionAt, numberAt, doneIn, diffuseIn, heardIn, newsIn, stateIn, badSaved}
+use Rattle.definition.specs.Saved.{float, widths, numbersIn, sectionAt, numberAt, doneIn, diffuseIn, heardIn, newsIn, stateIn, covOffIn, meanOffIn, badSaved}
 use Rattle.saved.specs.declared.Tallies.{Tallies}
 
 abbrev pub pastOf : ℕ → List Float → Tallies → Past
@@ -23,10 +23,11 @@ pastOf m s t =
             live = t .live;
           };
       counts = record { dDiffuse = t .answer .«d_diffuse»; heard = t .answer .heard; news = t .answer .news };
+      covOff = t .answer .«cov_off»;
     }
 
 abbrev pub carriedOf : ℕ → List Float → Tallies → Carried
-carriedOf m s t = record { past = pastOf m s t; mean = record { a = take m s; loglik = t .answer .loglik } }
+carriedOf m s t = record { past = pastOf m s t; mean = record { a = take m s; loglik = t .answer .loglik }; meanOff = t .answer .«mean_off» }
 
 -- a state's parts, of m and four times q numbers
 pub record Parts (m q : ℕ) (a b c d e s : List Float) : Type 0 where
@@ -49,6 +50,8 @@ pub record LoadedTallies (ns : List (List ℕ)) (t : Tallies) : Type 0 where
   pub diffuse : t .answer .«d_diffuse» ≡ diffuseIn ns
   pub heard : t .answer .heard ≡ heardIn ns
   pub news : t .answer .news ≡ newsIn ns
+  pub covOff : t .answer .«cov_off» ≡ covOffIn ns
+  pub meanOff : t .answer .«mean_off» ≡ meanOffIn ns
 
 -- the bytes bs are bad, or their floats are the state's
 pub record Loaded (p m r n : ℕ) (bs : List ℕ) (s : List Float) (bad : Bool) : Type 0 where

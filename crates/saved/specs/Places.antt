@@ -24,7 +24,7 @@ putAt at w old = take at old ++ w ++ drop (at + length w) old
 
 -- what all take, for m states
 abbrev pub whole : ℕ → ℕ
-whole m = 104 + m * 8 + m * m * 32
+whole m = 120 + m * 8 + m * m * 32
 
 -- for m of at most 8 states: where each section after the mean's begins, and where the last one ends
 pub record Starts (m star pinf root unres loglik tallies end : ℕ) : Type 0 where

@@ -65,7 +65,7 @@ fn places_of(m: usize) -> Places
         unres,
         loglik,
         tallies: loglik + 12,
-        end: loglik + 48,
+        end: loglik + 64,
     }
 }
 
@@ -92,7 +92,7 @@ fn wrong_count(saved: &[u8], m: usize) -> bool
         | miscounted(saved, at.root, mm)
         | miscounted(saved, at.unres, mm)
         | miscounted(saved, at.loglik, 1)
-        | miscounted(saved, at.tallies, 4)
+        | miscounted(saved, at.tallies, 6)
 }
 
 // p, m or r is another, or done plus n is above 4096.
@@ -122,6 +122,8 @@ fn bad_tallies(saved: &[u8], p: usize, m: usize) -> bool
         | (heard > done * p as u64)
         | (eight(saved, at + 20) > heard)
         | (eight(saved, at + 28) > 1)
+        | (eight(saved, at + 36) > done)
+        | (eight(saved, at + 44) > done)
 }
 
 // The bits of a NaN that is written otherwise.
@@ -195,6 +197,8 @@ pub fn load_tallies(saved: &[u8], m: usize) -> Tallies
         d_diffuse: eight(saved, at + 4) as usize,
         heard: eight(saved, at + 12) as usize,
         news: eight(saved, at + 20) as usize,
+        cov_off: eight(saved, at + 36) as usize,
+        mean_off: eight(saved, at + 44) as usize,
     };
     Tallies {
         done: eight(saved, 28) as usize,
@@ -233,16 +237,23 @@ fn put_single(out: &mut [u8], at: usize, v: f64)
     put_eight(out, at + 4, bits::pattern(v));
 }
 
-// Four numbers as a section.
-fn put_numbers(out: &mut [u8], at: usize, a: usize, b: usize, c: usize, d: usize)
-    requires { ⌜ at + 36 ≤ length (now out) ⌝ }
-    ensures { λ _. ⌜ now (out .exit) ≡ putAt at (section (a ∷ b ∷ c ∷ d ∷ [])) (now (out .entry)) ⌝ }
+// The numbers of x from a place on.
+fn put_eights(out: &mut [u8], at: usize, x: &[usize])
+    requires { ⌜ at + length (now x) * 8 ≤ length (now out) ⌝ }
+    ensures { λ _. ⌜ now (out .exit) ≡ putAt at (join (map (bytesOf 8) (now (x .entry)))) (now (out .entry)) ⌝ }
 {
-    put_four(out, at, 4);
-    put_eight(out, at + 4, a as u64);
-    put_eight(out, at + 12, b as u64);
-    put_eight(out, at + 20, c as u64);
-    put_eight(out, at + 28, d as u64);
+    for i in 0..x.len() {
+        put_eight(out, at + i * 8, x[i] as u64);
+    }
+}
+
+// As a section.
+fn put_numbers(out: &mut [u8], at: usize, x: &[usize])
+    requires { ⌜ (length (now x) ≤ 64) × (at + (4 + length (now x) * 8) ≤ length (now out)) ⌝ }
+    ensures { λ _. ⌜ now (out .exit) ≡ putAt at (section (now (x .entry))) (now (out .entry)) ⌝ }
+{
+    put_four(out, at, x.len() as u64);
+    put_eights(out, at + 4, x);
 }
 
 // A run is saved: the state as `load` leaves it, and how far the run has come.
@@ -253,7 +264,7 @@ pub fn save(out: &mut [u8], p: usize, m: usize, r: usize, state: &[f64], t: Tall
     let at = places_of(m);
     let mm = m * m;
     let answer = t.answer;
-    put_numbers(out, 0, p, m, r, t.done);
+    put_numbers(out, 0, &[p, m, r, t.done]);
     put_section(out, 36, state, 0, m);
     put_section(out, at.star, state, m, mm);
     put_section(out, at.p_inf, state, m + mm, mm);
@@ -263,9 +274,13 @@ pub fn save(out: &mut [u8], p: usize, m: usize, r: usize, state: &[f64], t: Tall
     put_numbers(
         out,
         at.tallies,
-        answer.d_diffuse,
-        answer.heard,
-        answer.news,
-        t.live as usize,
+        &[
+            answer.d_diffuse,
+            answer.heard,
+            answer.news,
+            t.live as usize,
+            answer.cov_off,
+            answer.mean_off,
+        ],
     );
 }

@@ -4,7 +4,7 @@ use Prim.Native.Nat.{ℕ, _+_}
 use lib.Dec.{eqb, ltb}
 use Rattle.sheet.specs.declared.answers.Settings.{Settings}
 use Rattle.sheet.specs.declared.answers.Wanted.{Wanted}
-use Rattle.sheet.specs.declared.answers.Wanted.the-variants.{Line, Seconds, SdOrVariance, Size, UnknownOrValue, LineEnd, Check, OneCheck, Once, SettingsFirst, PeriodSetting, NoiseSetting, FewerPeriods}
+use Rattle.sheet.specs.declared.answers.Wanted.the-variants.{Line, Seconds, SdOrVariance, Size, UnknownOrValue, Thousandths, LineEnd, Check, OneCheck, Once, SettingsFirst, PeriodSetting, NoiseSetting, FewerPeriods}
 use Rattle.sheet.specs.declared.parts.Token.{Token}
 use Rattle.sheet.specs.declared.parts.Tokens.{Tokens}
 use Rattle.sheet.specs.declared.parts.Fault.{Fault}
@@ -23,7 +23,7 @@ endFault t word = cond (eqb (t .kind) 0) right (wrongAt LineEnd word)
 
 -- 1 to 999999999
 unfoldable pub isSeconds : Token → Bool
-isSeconds t = cond (eqb (t .kind) 10) (cond (eqb (t .size) 0) false (ltb (t .size) 1000000000)) false
+isSeconds t = cond (eqb (t .kind) 11) (cond (eqb (t .size) 0) false (ltb (t .size) 1000000000)) false
 
 -- period SECONDS
 unfoldable pub periodFault : Tokens → Fault
@@ -32,36 +32,50 @@ periodFault t = cond (isSeconds (t .second)) (endFault (t .third) 2) (wrongAt Se
 -- noise sd A, noise sd A B; or variance
 unfoldable pub noiseFault : Tokens → Fault
 noiseFault t =
-    cond (eqb (t .second .kind) 13)
-    (cond (eqb (t .third .kind) 10)
+    cond (eqb (t .second .kind) 14)
+    (cond (eqb (t .third .kind) 11)
     (cond (eqb (t .fourth .kind) 0) right
-    (cond (eqb (t .fourth .kind) 10) (endFault (t .fifth) 4) (wrongAt Size 3)))
+    (cond (eqb (t .fourth .kind) 11) (endFault (t .fifth) 4) (wrongAt Size 3)))
     (wrongAt Size 2))
     (wrongAt SdOrVariance 1)
 
 -- sd A, or variance A, from word `at` on, and no more
 unfoldable pub spreadFault : Token → Token → Token → ℕ → Fault
-spreadFault a b c at = cond (eqb (a .kind) 13) (cond (eqb (b .kind) 10) (endFault c (at + 2)) (wrongAt Size (at + 1))) (wrongAt SdOrVariance at)
+spreadFault a b c at = cond (eqb (a .kind) 14) (cond (eqb (b .kind) 11) (endFault c (at + 2)) (wrongAt Size (at + 1))) (wrongAt SdOrVariance at)
 
 unfoldable pub isValue : Token → Bool
-isValue t = cond (eqb (t .kind) 10) true (eqb (t .kind) 11)
+isValue t = cond (eqb (t .kind) 11) true (eqb (t .kind) 12)
 
 -- unknown; or VALUE sd A; or VALUE variance A
 unfoldable pub startFault : Tokens → Fault
-startFault t = cond (eqb (t .second .kind) 14) (endFault (t .third) 2) (cond (isValue (t .second)) (spreadFault (t .third) (t .fourth) (t .fifth) 2) (wrongAt UnknownOrValue 1))
+startFault t = cond (eqb (t .second .kind) 15) (endFault (t .third) 2) (cond (isValue (t .second)) (spreadFault (t .third) (t .fourth) (t .fifth) 2) (wrongAt UnknownOrValue 1))
+
+-- 1 to 999999999999999: no longer number is read
+unfoldable pub isKept : Token → Bool
+isKept t = cond (eqb (t .kind) 11) (not (eqb (t .size) 0)) false
+
+-- rate-keeps THOUSANDTHS
+unfoldable pub keepsFault : Tokens → Fault
+keepsFault t = cond (isKept (t .second)) (endFault (t .third) 2) (wrongAt Thousandths 1)
 
 unfoldable pub isGiven : Settings → ℕ → Bool
 isGiven s kind =
     cond (eqb kind 1) (not (eqb (s .period) 0))
     (cond (eqb kind 2) (not (eqb (s .inputs) 0))
+    (cond (eqb kind 8) (not (eqb (s .«rate_keeps») 0))
     (cond (eqb kind 3) (s .radio .given)
     (cond (eqb kind 4) (s .«wander_offset» .given)
     (cond (eqb kind 5) (s .«wander_rate» .given)
     (cond (eqb kind 6) (s .offset .given)
-    (s .rate .given))))))
+    (s .rate .given)))))))
 
 unfoldable pub wordsFault : Tokens → Fault
-wordsFault t = cond (eqb (t .first .kind) 1) (periodFault t) (cond (eqb (t .first .kind) 2) (noiseFault t) (cond (ltb (t .first .kind) 6) (spreadFault (t .second) (t .third) (t .fourth) 1) (startFault t)))
+wordsFault t =
+    cond (eqb (t .first .kind) 1) (periodFault t)
+    (cond (eqb (t .first .kind) 2) (noiseFault t)
+    (cond (ltb (t .first .kind) 6) (spreadFault (t .second) (t .third) (t .fourth) 1)
+    (cond (ltb (t .first .kind) 8) (startFault t)
+    (keepsFault t))))
 
 -- after so many periods
 unfoldable pub settingFault : Settings → ℕ → Tokens → Fault
@@ -71,7 +85,7 @@ settingFault s periods t = cond (ltb 0 periods) (wrongAt SettingsFirst 0) (cond 
 
 -- a minus alone or a number; a plus alone in a table
 unfoldable pub isCheck : Bool → Token → Bool
-isCheck table t = cond (ltb (t .kind) 8) false (cond (eqb (t .kind) 9) table (ltb (t .kind) 12))
+isCheck table t = cond (ltb (t .kind) 9) false (cond (eqb (t .kind) 10) table (ltb (t .kind) 13))
 
 -- after the first check: nothing, or one more where noise is for two inputs
 unfoldable pub secondFault : Bool → ℕ → Tokens → Fault
@@ -91,6 +105,6 @@ checksFault table period inputs periods t = cond (eqb period 0) (wrongAt PeriodS
 unfoldable pub faultOf : Bool → Settings → ℕ → Tokens → Fault
 faultOf table s periods t =
     cond (eqb (t .first .kind) 0) right
-    (cond (ltb (t .first .kind) 8) (settingFault s periods t)
-    (cond (ltb (t .first .kind) 13) (checksFault table (s .period) (s .inputs) periods t)
+    (cond (ltb (t .first .kind) 9) (settingFault s periods t)
+    (cond (ltb (t .first .kind) 14) (checksFault table (s .period) (s .inputs) periods t)
     (wrongAt Line 0)))

@@ -31,13 +31,13 @@ by : (b c : Bool) (x y : Fault) → b ≡ c → cond b x y .fine ≡ true → co
 by b c x y e h = subst (λ (k : Bool). cond k x y .fine ≡ true) e h
 
 -- a period that is right is one of the first 4096
-pub few-periods : (table : Bool) (s : Settings) (p : ℕ) (t : Tokens) → faultOf table s p t .fine ≡ true → 8 ≤ t .first .kind → p < 4096
+pub few-periods : (table : Bool) (s : Settings) (p : ℕ) (t : Tokens) → faultOf table s p t .fine ≡ true → 9 ≤ t .first .kind → p < 4096
 unfolding faultOf checksFault
 few-periods table s p t h k =
     let f = checksFault table (s .period) (s .inputs) p t in
     let h₁ = by _ false right _ (ne-eqb (t .first .kind) 0 (λ (e : t .first .kind ≡ 0). omega arith)) h in
-    let h₂ = by _ false (settingFault s p t) _ (le-ltb (t .first .kind) 8 k) h₁ in
-    let h₃ = yes (ltb (t .first .kind) 13) f (wrongAt Line 0) refl h₂ .1 in
+    let h₂ = by _ false (settingFault s p t) _ (le-ltb (t .first .kind) 9 k) h₁ in
+    let h₃ = yes (ltb (t .first .kind) 14) f (wrongAt Line 0) refl h₂ .1 in
     let h₄ = no (eqb (s .period) 0) (wrongAt PeriodSetting 0) _ refl h₃ .1 in
     let h₅ = no (eqb (s .inputs) 0) (wrongAt NoiseSetting 0) _ refl h₄ .1 in
     ltb-true p 4096 (yes (ltb p 4096) (pairFault table (s .inputs) t) (wrongAt FewerPeriods 0) refl h₅ .0)
@@ -48,11 +48,11 @@ unfolding faultOf settingFault wordsFault periodFault isSeconds
 period-small table s p t h k =
     let a = t .second in
     let h₁ = by _ false right _ (ne-eqb (t .first .kind) 0 (λ (e : t .first .kind ≡ 0). omega arith)) h in
-    let h₂ = by _ true (settingFault s p t) _ (lt-ltb (t .first .kind) 8 (omega arith)) h₁ in
+    let h₂ = by _ true (settingFault s p t) _ (lt-ltb (t .first .kind) 9 (omega arith)) h₁ in
     let h₃ = no (ltb 0 p) (wrongAt SettingsFirst 0) _ refl h₂ .1 in
     let h₄ = no (isGiven s (t .first .kind)) (wrongAt Once 0) (wordsFault t) refl h₃ .1 in
     let h₅ = by _ true (periodFault t) _ (eq-eqb (t .first .kind) 1 k) h₄ in
-    go (eqb (a .kind) 10) (eqb (a .size) 0) (yes (isSeconds a) (endFault (t .third) 2) (wrongAt Seconds 1) refl h₅ .0)
+    go (eqb (a .kind) 11) (eqb (a .size) 0) (yes (isSeconds a) (endFault (t .third) 2) (wrongAt Seconds 1) refl h₅ .0)
   where
     go : (b c : Bool) → cond b (cond c false (ltb (t .second .size) 1000000000)) false ≡ true → t .second .size < 1000000000
     go true true e = absurd (true≢false (sym e))
@@ -81,19 +81,20 @@ stays table s p t h b =
     (either (eqb k 5) (record { period = b .period; inputs = b .inputs })
     (either (eqb k 6) (record { period = b .period; inputs = b .inputs })
     (either (eqb k 7) (record { period = b .period; inputs = b .inputs })
-    b))))))
+    (either (eqb k 8) (record { period = b .period; inputs = b .inputs })
+    b)))))))
 
-pub counted-few : (p : ℕ) (t : Tokens) → p ≤ 4096 → (8 ≤ t .first .kind → p < 4096) → counted p t ≤ 4096
+pub counted-few : (p : ℕ) (t : Tokens) → p ≤ 4096 → (9 ≤ t .first .kind → p < 4096) → counted p t ≤ 4096
 unfolding counted
-counted-few p t h k = go (ltb (t .first .kind) 8) refl
+counted-few p t h k = go (ltb (t .first .kind) 9) refl
   where
-    go : (b : Bool) → ltb (t .first .kind) 8 ≡ b → cond b p (p + 1) ≤ 4096
+    go : (b : Bool) → ltb (t .first .kind) 9 ≡ b → cond b p (p + 1) ≤ 4096
     go true e = h
-    go false e = let m = k (ltb-false (t .first .kind) 8 e) in omega arith
+    go false e = let m = k (ltb-false (t .first .kind) 9 e) in omega arith
 
 pub counted-length : (table : Bool) (p : ℕ) (t : Tokens) → 2 * p + length (lineReadings table t) ≡ 2 * counted p t
 unfolding counted lineReadings
-counted-length table p t = go (ltb (t .first .kind) 8)
+counted-length table p t = go (ltb (t .first .kind) 9)
   where
     go : (b : Bool) → 2 * p + length (cond b [] (readingOf table (t .first) ∷ readingOf table (t .second) ∷ [])) ≡ 2 * cond b p (p + 1)
     go true = omega arith

@@ -16,10 +16,12 @@ pub struct Start {
     pub spread: Spread,
 }
 
-// Period 0, inputs 0: not given.
+// Period 0, inputs 0, rate_keeps 0: not given.
 pub struct Settings {
     pub period: u64,
     pub inputs: u64,
+    // How many thousandths of the rate the next period keeps.
+    pub rate_keeps: u64,
     pub noise: Spread,
     pub noise_2: Spread,
     pub radio: Spread,
@@ -36,6 +38,7 @@ pub enum Wanted {
     SdOrVariance,
     Size,
     UnknownOrValue,
+    Thousandths,
     LineEnd,
     Check,
     OneCheck,

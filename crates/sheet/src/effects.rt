@@ -6,7 +6,9 @@ use crate::kinds::END;
 use crate::kinds::NEGATIVE;
 use crate::kinds::NOISE;
 use crate::kinds::PERIOD;
+use crate::kinds::PLANNED;
 use crate::kinds::RADIO;
+use crate::kinds::RATE_KEEPS;
 use crate::kinds::START_OFFSET;
 use crate::kinds::START_RATE;
 use crate::kinds::UNKNOWN;
@@ -47,6 +49,7 @@ pub fn none_given() -> Settings
     Settings {
         period: 0,
         inputs: 0,
+        rate_keeps: 0,
         noise: spread,
         noise_2: spread,
         radio: spread,
@@ -136,6 +139,10 @@ pub fn after(s: Settings, t: Tokens) -> Settings
         n.rate = a;
         return n;
     }
+    if kind == RATE_KEEPS {
+        n.rate_keeps = t.second.size;
+        return n;
+    }
     n
 }
 
@@ -143,7 +150,7 @@ pub fn after(s: Settings, t: Tokens) -> Settings
 pub fn reading(table: bool, t: Token) -> f64
     ensures { λ r. ⌜ r ≡ readingOf table t ⌝ }
 {
-    if t.kind < 9 {
+    if t.kind < PLANNED {
         return 0.0 / 0.0;
     }
     if table {

@@ -2,12 +2,15 @@
 use crate::answers::Settings;
 use crate::answers::Wanted;
 use crate::kinds::END;
+use crate::kinds::GAP;
 use crate::kinds::NEGATIVE;
+use crate::kinds::NO_CHECK;
 use crate::kinds::NOISE;
 use crate::kinds::NUMBER;
 use crate::kinds::PERIOD;
 use crate::kinds::PLANNED;
 use crate::kinds::RADIO;
+use crate::kinds::RATE_KEEPS;
 use crate::kinds::SPREAD;
 use crate::kinds::START_OFFSET;
 use crate::kinds::UNKNOWN;
@@ -18,7 +21,7 @@ use crate::parts::Token;
 use crate::parts::Tokens;
 ghost use mathlib.Core.Path.{_≡_};
 ghost use Prim.Native.Nat.{_<_};
-ghost use Rattle.sheet.specs.Faults.{right, wrongAt, endFault, isSeconds, periodFault, noiseFault, spreadFault, isValue, startFault, isGiven, wordsFault, settingFault, isCheck, secondFault, pairFault, checksFault, faultOf};
+ghost use Rattle.sheet.specs.Faults.{right, wrongAt, endFault, isSeconds, periodFault, noiseFault, spreadFault, isValue, startFault, isKept, keepsFault, isGiven, wordsFault, settingFault, isCheck, secondFault, pairFault, checksFault, faultOf};
 
 fn fine() -> Fault
     ensures { λ r. ⌜ r ≡ right ⌝ }
@@ -123,6 +126,25 @@ fn start(t: Tokens) -> Fault
     wrong(Wanted::UnknownOrValue, 1)
 }
 
+// 0 is not taken: then nothing of a period's rate would be in the next, and a rate that is unknown would pass for known.
+fn is_kept(t: Token) -> bool
+    ensures { λ r. ⌜ r ≡ isKept t ⌝ }
+{
+    if t.kind != NUMBER {
+        return false;
+    }
+    t.size != 0
+}
+
+fn keeps(t: Tokens) -> Fault
+    ensures { λ r. ⌜ r ≡ keepsFault t ⌝ }
+{
+    if is_kept(t.second) {
+        return end(t.third, 2);
+    }
+    wrong(Wanted::Thousandths, 1)
+}
+
 fn is_given(s: Settings, kind: u8) -> bool
     ensures { λ r. ⌜ r ≡ isGiven s kind ⌝ }
 {
@@ -131,6 +153,9 @@ fn is_given(s: Settings, kind: u8) -> bool
     }
     if kind == NOISE {
         return s.inputs != 0;
+    }
+    if kind == RATE_KEEPS {
+        return s.rate_keeps != 0;
     }
     if kind == RADIO {
         return s.radio.given;
@@ -161,7 +186,10 @@ fn words(t: Tokens) -> Fault
     if kind < START_OFFSET {
         return spread(t.second, t.third, t.fourth, 1);
     }
-    start(t)
+    if kind < RATE_KEEPS {
+        return start(t);
+    }
+    keeps(t)
 }
 
 fn setting(s: Settings, periods: usize, t: Tokens) -> Fault
@@ -179,13 +207,13 @@ fn setting(s: Settings, periods: usize, t: Tokens) -> Fault
 fn is_check(table: bool, t: Token) -> bool
     ensures { λ r. ⌜ r ≡ isCheck table t ⌝ }
 {
-    if t.kind < 8 {
+    if t.kind < GAP {
         return false;
     }
     if t.kind == PLANNED {
         return table;
     }
-    t.kind < 12
+    t.kind < NO_CHECK
 }
 
 // What stands after the first check of a period.
@@ -235,10 +263,10 @@ pub fn fault(table: bool, s: Settings, periods: usize, t: Tokens) -> Fault
     if kind == END {
         return fine();
     }
-    if kind < 8 {
+    if kind < GAP {
         return setting(s, periods, t);
     }
-    if kind < 13 {
+    if kind < SPREAD {
         return checks(table, s.period, s.inputs, periods, t);
     }
     wrong(Wanted::Line, 0)

@@ -7,6 +7,7 @@ use crate::effects::after;
 use crate::effects::none_given;
 use crate::effects::reading;
 use crate::faults::fault;
+use crate::kinds::GAP;
 use crate::lines::run_end;
 use crate::parts::Fault;
 use crate::parts::Tokens;
@@ -65,11 +66,11 @@ fn end_of(s: Settings, periods: usize, lines: u64, size: usize) -> Sheet
 
 // The readings of a line, where it has checks, into the places of the next period. How many periods there are then.
 fn store(y: &mut [f64], periods: usize, table: bool, t: Tokens) -> usize
-    requires { ⌜ (8192 ≡ length (now y)) × (8 ≤ t .first .kind → periods < 4096) ⌝ }
+    requires { ⌜ (8192 ≡ length (now y)) × (9 ≤ t .first .kind → periods < 4096) ⌝ }
     ensures { λ r. ⌜ r ≡ counted periods t ⌝ }
     ensures { λ _. ⌜ Laid (2 * periods) (lineReadings table t) (now (y .entry)) (now (y .exit)) ⌝ }
 {
-    if t.first.kind < 8 {
+    if t.first.kind < GAP {
         return periods;
     }
     let at = 2 * periods;

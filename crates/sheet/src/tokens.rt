@@ -9,6 +9,7 @@ use crate::kinds::OTHER;
 use crate::kinds::PERIOD;
 use crate::kinds::PLANNED;
 use crate::kinds::RADIO;
+use crate::kinds::RATE_KEEPS;
 use crate::kinds::SPREAD;
 use crate::kinds::START_OFFSET;
 use crate::kinds::START_RATE;
@@ -64,6 +65,9 @@ fn setting_name(w: &[u8]) -> u8
     }
     if same(w, b"start-rate") {
         return START_RATE;
+    }
+    if same(w, b"rate-keeps") {
+        return RATE_KEEPS;
     }
     0
 }

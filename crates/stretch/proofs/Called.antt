@@ -101,18 +101,18 @@ module _ (x : Model) (o : Offsets) (y : List Float) (begins : Bool) (saved : Lis
       fits = record { m8 = sizes .m8; whole = λ some. state-fits (sizes .m8) long }
 
       pub may-run : {rqr : List Float} → (k ≡ 0 → mat (x .m) rqr ≡ noise x) → (left : List Float) → left ≡ drop (min (t .done) (length (x .zList) / (x .p * x .m) - 1) * (x .p * x .m)) (x .zList)
-          → FitOn (withList x left) o (length y) rqr w w′ (length s) (t .answer)
+          → FitOn (withList x left) o (length y) rqr w w′ (length s) (t .done) (t .answer)
       unfolding laterFrom
       may-run q left e =
           rw e
-          (may-begin {x = x} {o = o} {y = length y} {w = w} {w′ = w′} sizes (inputs .0) (inputs .1) (room .0) (t .done) (q (omega arith)) fits (record { diffuse = few .diffuse; heard = few .heard; news = few .news }))
+          (may-begin {x = x} {o = o} {y = length y} {w = w} {w′ = w′} sizes (inputs .0) (inputs .1) (room .0) (t .done) (q (omega arith)) fits (omega (arith, few .early)) (record { diffuse = few .diffuse; heard = few .heard; news = few .news }))
 
       pub may-keep : {size : ℕ} → size ≡ 264 → (x .m ≤ 8) × (last ≡ false → savedNeed (x .m) ≤ length save) × (x .m + x .m * x .m + x .m * x .m + x .m * x .m + x .m * x .m ≤ size)
       may-keep e = (sizes .m8, room .1, state-fits (sizes .m8) e)
 
       pub told : (left : List Float) → left ≡ drop (min (t .done) (length (x .zList) / (x .p * x .m) - 1) * (x .p * x .m)) (x .zList)
           → {e : Judged} {s′ : List Float} {b : CovParts} {b′ : MeanParts} {save′ : List ℕ} {r : Outcome}
-          → Went (withList x left) o y s (t .live) (t .answer) last e s′ w b w′ b′
+          → Went (withList x left) o y s (t .live) (t .done) (t .answer) last e s′ w b w′ b′
           → save′ ≡ cond last save (lay (savedOf (x .p) (x .m) (x .r) (carriedOf (x .m) s′ (record { done = t .done + x .n; live = e .live; answer = e .answer }))) save)
           → r ≡ answerBy (numberOf (endingOf 0 (e .silent))) (e .answer)
           → PromiseStretch (stretchOutcome x o from last y w w′ save) r b b′ save′

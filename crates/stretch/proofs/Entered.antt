@@ -14,7 +14,7 @@ use Rattle.definition.specs.Cov.{Cov}
 use Rattle.definition.specs.Inputs.{Model, Offsets, startFrom, startInf, startRoot, startOf}
 use Rattle.definition.specs.Carried.{Past, begunPast, begunMean}
 use Rattle.definition.specs.Saved.{savedNeed, badSaved, loadedPast}
-use Rattle.definition.specs.Stretch.{From, pastIn, meanIn, carriedIn, badFrom}
+use Rattle.definition.specs.Stretch.{From, pastIn, meanIn, meanToldIn, carriedIn, badFrom}
 use Rattle.laws.specs.Lists.{length-tab}
 use Rattle.laws.specs.Accepted.{InRange}
 use Rattle.laws.specs.SavedBack.{loaded, not-bad}
@@ -38,7 +38,7 @@ module _ (m : ℕ) (a1 pStar : List Float) (flags : List ℕ) (s : List Float) (
   whole = record { mean = h .mean; star = h .star; pinf = length-tab (m * m) 0 _; root = length-tab (m * m) 0 _; unres = length-tab (m * m) 0 _ }
 
   pub begun : (c : Cov) (a s1 s2 : List Float) → c ≡ start → s1 ≡ covKept m s c → a ≡ a1 → s2 ≡ meanKept m s1 a
-      → carriedOf m s2 (record { done = 0; live = c .live; answer = record { loglik = 0ᶠ; «d_diffuse» = 0; heard = 0; news = 0 } }) ≡ begunOf m a1 pStar flags
+      → carriedOf m s2 (record { done = 0; live = c .live; answer = record { loglik = 0ᶠ; «d_diffuse» = 0; heard = 0; news = 0; «cov_off» = 0; «mean_off» = 0 } }) ≡ begunOf m a1 pStar flags
   unfolding covFrom meanFrom
   begun c a s1 s2 e0 e1 e2 e3 =
       let next : s2 ≡ meanKept m (covKept m s start) a1 = rw (e1, e0, e2) at e3 in
@@ -48,15 +48,15 @@ module _ (m : ℕ) (a1 pStar : List Float) (flags : List ℕ) (s : List Float) (
       made mean cov
     where
       made : {u : Cov} → take m s2 ≡ a1 → covIn m s2 (c .live) ≡ u
-          → carriedOf m s2 (record { done = 0; live = c .live; answer = record { loglik = 0ᶠ; «d_diffuse» = 0; heard = 0; news = 0 } })
-          ≡ record { past = record { done = 0; cov = u; counts = record { dDiffuse = 0; heard = 0; news = 0 } }; mean = record { a = a1; loglik = 0ᶠ } }
+          → carriedOf m s2 (record { done = 0; live = c .live; answer = record { loglik = 0ᶠ; «d_diffuse» = 0; heard = 0; news = 0; «cov_off» = 0; «mean_off» = 0 } })
+          ≡ record { past = record { done = 0; cov = u; counts = record { dDiffuse = 0; heard = 0; news = 0 }; covOff = 0 }; mean = record { a = a1; loglik = 0ᶠ }; meanOff = 0 }
       made p q = rw (p, q) refl
 
 -- ---- at the start or from the bytes, by the marker
 
 pub stands : (x : Model) (o : Offsets) (begins : Bool) (saved : List ℕ)
     → cond begins (begunOf (x .m) (o .a1) (x .pStar) (x .flags)) (loaded (x .m) saved) ≡ carriedIn x o (record { begins = begins; saved = saved })
-unfolding pastIn meanIn begunPast begunMean startOf
+unfolding pastIn meanIn meanToldIn begunPast begunMean startOf
 stands x o true saved = refl
 stands x o false saved = refl
 

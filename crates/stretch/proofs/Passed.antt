@@ -41,9 +41,9 @@ module _ {x : Model} {o : Offsets} {y : ℕ} {w : CovParts} {w′ : MeanParts} (
   pub some-design : 0 < x .p * x .m
   some-design = mul-pos (sizes .p0) (sizes .m0)
 
-  pub may-begin : (done : ℕ) {rqr : List Float} {size : ℕ} {before : Answer} → mat (x .m) rqr ≡ noise x → StateFits (x .m) size → Tallies before → FitOn (laterOf x done) o y rqr w w′ size before
+  pub may-begin : (done : ℕ) {rqr : List Float} {size : ℕ} {before : Answer} → mat (x .m) rqr ≡ noise x → StateFits (x .m) size → done ≤ 4096 → Tallies before → FitOn (laterOf x done) o y rqr w w′ size done before
   unfolding noise kindsNeed covNeed meanNeed
-  may-begin done q s t =
+  may-begin done q s e t =
       record {
         sizes = sizes;
         inputs =
@@ -63,5 +63,6 @@ module _ {x : Model} {o : Offsets} {y : ℕ} {w : CovParts} {w′ : MeanParts} (
         noise = q;
         room = record { kinds = room .kinds; cov = room .cov; mean = room .mean };
         state = s;
+        early = e;
         tallies = t;
       }

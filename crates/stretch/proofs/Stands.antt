@@ -15,8 +15,8 @@ use Rattle.definition.specs.Cov.{Cov, CovPeriod, covRun}
 use Rattle.definition.specs.Mean.{Mean, MeanPeriod, meanRun}
 use Rattle.definition.specs.Parts.{CovPart, MeanPart}
 use Rattle.definition.specs.Inputs.{Model, Offsets, Class, classOf, isInfinity, gapRows, noise, systemFrom, frameFrom, systemOf, frameOf}
-use Rattle.definition.specs.Outcome.{CovParts, MeanParts, Counts, Ending, turned, silent, answered, endingOf, numberOf, after, countsIn, loglikIn, noInformation, countsOf, decisionsOf, kindsNeed, covNeed, meanNeed, kindsWritten, covWritten, meanWritten}
-use Rattle.definition.specs.Carried.{Past, Carried, plus, pastOn, went}
+use Rattle.definition.specs.Outcome.{CovParts, MeanParts, Counts, Ending, turned, silent, answered, endingOf, numberOf, after, countsIn, loglikIn, reportIn, noInformation, countsOf, decisionsOf, kindsNeed, covNeed, meanNeed, kindsWritten, covWritten, meanWritten}
+use Rattle.definition.specs.Carried.{Past, Carried, plus, pastOn, meanOffOn, went}
 use Rattle.definition.specs.Carried as carried
 use Rattle.definition.specs.Saved.{savedOf}
 use Rattle.definition.specs.Stretch.{From, StretchOutcome, carriedIn, pastIn, meanIn, badFrom, stretchRefusal, stretchEnding, roomyStretch, covStretch, meanStretch, saveStretch, stretchOutcome}
@@ -86,9 +86,9 @@ module _ (x : Model) (o : Offsets) (y : List Float) where
     unfolding carried.meanOn
     mean-here = mean-from (covOn later s (t .live) classes .0) ∙ ap (λ (c : List CovPeriod × Cov). carried.meanFrom x o (t .done) (here .mean) (c .0) y) cov-here
 
-    module _ {last : Bool} {e : Judged} {s′ : List Float} {w b : CovParts} {w′ b′ : MeanParts} (r : Went later o y s (t .live) (t .answer) last e s′ w b w′ b′) where
-      answer-here : e .answer ≡ answerIn (pastOn x (here .past) classes .counts) (carried.meanOn x o here y .1 .loglik)
-      unfolding pastOn plus
+    module _ {last : Bool} {e : Judged} {s′ : List Float} {w b : CovParts} {w′ b′ : MeanParts} (r : Went later o y s (t .live) (t .done) (t .answer) last e s′ w b w′ b′) where
+      answer-here : e .answer ≡ answerIn (pastOn x (here .past) classes .counts) (pastOn x (here .past) classes .covOff) (carried.meanOn x o here y .1 .loglik) (meanOffOn x o here y)
+      unfolding pastOn plus meanOffOn
       answer-here = rw (mean-here, cov-here) at (r .answer)
 
       silent-here : e .silent ≡ (last && noInformation (pastOn x (here .past) classes .counts))
@@ -146,11 +146,12 @@ module _ (x : Model) (o : Offsets) (y : List Float) where
         unfolding went pastOn
         goes-on = made (e .answer) next-mean next-cov answer-here
           where
-            made : (g : Answer) {a : List Float} {c : Cov} → take (x .m) s′ ≡ a → covIn (x .m) s′ (e .live) ≡ c → g ≡ answerIn (pastOn x (here .past) classes .counts) (carried.meanOn x o here y .1 .loglik)
+            made : (g : Answer) {a : List Float} {c : Cov} → take (x .m) s′ ≡ a → covIn (x .m) s′ (e .live) ≡ c → g ≡ answerIn (pastOn x (here .past) classes .counts) (pastOn x (here .past) classes .covOff) (carried.meanOn x o here y .1 .loglik) (meanOffOn x o here y)
                 → carriedOf (x .m) s′ (record { done = t .done + x .n; live = e .live; answer = g })
                 ≡ record {
-                  past = record { done = t .done + x .n; cov = c; counts = pastOn x (here .past) classes .counts };
+                  past = record { done = t .done + x .n; cov = c; counts = pastOn x (here .past) classes .counts; covOff = pastOn x (here .past) classes .covOff };
                   mean = record { a = a; loglik = carried.meanOn x o here y .1 .loglik };
+                  meanOff = meanOffOn x o here y;
                 }
             made g e1 e2 e3 = rw (e1, e2, e3) refl
 
@@ -161,7 +162,7 @@ module _ (x : Model) (o : Offsets) (y : List Float) where
           End f = record { cov = covStretch x f (here .past) classes w; mean = meanStretch x f o here y w′; save = saveStretch x f o here last y save }
 
           by : (q : Bool) → e .silent ≡ q → Promise (End (endingOf 0 q) .cov, End (endingOf 0 q) .mean) (answerBy (numberOf (endingOf 0 q)) (e .answer)) b b′
-          unfolding covStretch meanStretch answerBy numberOf endingOf after countsIn loglikIn kindsNeed covNeed meanNeed
+          unfolding covStretch meanStretch answerBy numberOf endingOf after countsIn loglikIn reportIn kindsNeed covNeed meanNeed
           by true h =
               record {
                 answer = refl;
@@ -222,7 +223,7 @@ module _ (x : Model) (o : Offsets) (y : List Float) (from : From) (last : Bool) 
       → carriedOf (x .m) s t ≡ carriedIn x o from
       → StateFits (x .m) (length s)
       → {e : Judged} {s′ : List Float} {b : CovParts} {b′ : MeanParts} {save′ : List ℕ} {r : Outcome}
-      → Went (laterOf x (t .done)) o y s (t .live) (t .answer) last e s′ w b w′ b′
+      → Went (laterOf x (t .done)) o y s (t .live) (t .done) (t .answer) last e s′ w b w′ b′
       → save′ ≡ cond last save (lay (savedOf (x .p) (x .m) (x .r) (carriedOf (x .m) s′ (record { done = t .done + x .n; live = e .live; answer = e .answer }))) save)
       → r ≡ answerBy (numberOf (endingOf 0 (e .silent))) (e .answer)
       → PromiseStretch (stretchOutcome x o from last y w w′ save) r b b′ save′

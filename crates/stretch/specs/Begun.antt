@@ -18,6 +18,7 @@ pub record Starts (m a1 pStar flags size : ℕ) : Type 0 where
 abbrev pub begunOf : ℕ → List Float → List Float → List ℕ → Carried
 begunOf m a1 pStar flags =
     record {
-      past = record { done = 0; cov = startFrom m pStar flags; counts = record { dDiffuse = 0; heard = 0; news = 0 } };
+      past = record { done = 0; cov = startFrom m pStar flags; counts = record { dDiffuse = 0; heard = 0; news = 0 }; covOff = 0 };
       mean = record { a = a1; loglik = 0ᶠ };
+      meanOff = 0;
     }

@@ -50,7 +50,7 @@ fn room_to_save(last: bool, save: usize, m: usize) -> bool
     requires { ⌜ m ≤ 8 ⌝ }
     ensures { λ b. ⌜ b ≡ (last || leb (savedNeed m) save) ⌝ }
 {
-    last | (104 + m * 8 + m * m * 32 <= save)
+    last | (120 + m * 8 + m * m * 32 <= save)
 }
 
 // Refusals 1 to 11 and 15, of the inputs and of the outputs' lengths; 0: none. What the tests have worked out is handed on: R Q R', and the
@@ -175,6 +175,8 @@ fn begin(a1: &[f64], p_star: &[f64], flags: &[u8], m: usize, state: &mut [f64]) 
         d_diffuse: 0,
         heard: 0,
         news: 0,
+        cov_off: 0,
+        mean_off: 0,
     };
     saved::Tallies {
         done: 0,
@@ -346,6 +348,7 @@ pub fn stretch<'a>(
         m_inf,
         &mut state,
         stands.live,
+        stands.done,
         before,
         last,
     );

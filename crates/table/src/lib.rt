@@ -1,4 +1,6 @@
-// The panel's table: a line for each period, then the run's counts.
+// The panel's table: a line for each period, then the run's counts, and where numbers ran off a line that says so.
+mod closing;
+
 ghost use Prim.Native.Nat.{_+_, _≤_, _<_};
 
 // Which columns there are. `table`: no reading is shown, and no mean.
@@ -330,8 +332,23 @@ fn total(name: &[u8], n: usize) {
     say(&line);
 }
 
+// Nothing, or the line that says from which periods on numbers ran off.
+fn close(cov_off: usize, mean_off: usize, table: bool) {
+    let mut line = [32u8; 128];
+    let k = closing::closing(&mut line, cov_off, mean_off, table);
+    put(&line, k);
+}
+
 // The log-likelihood is of the readings' values, so a table has none.
-pub fn totals(loglik: f64, diffuse: usize, heard: usize, news: usize, table: bool) {
+pub fn totals(
+    loglik: f64,
+    diffuse: usize,
+    heard: usize,
+    news: usize,
+    cov_off: usize,
+    mean_off: usize,
+    table: bool,
+) {
     say(b"\n");
     if !table {
         let mut line = [32u8; 40];
@@ -343,4 +360,5 @@ pub fn totals(loglik: f64, diffuse: usize, heard: usize, news: usize, table: boo
     total(b"diffuse periods", diffuse);
     total(b"heard", heard);
     total(b"news", news);
+    close(cov_off, mean_off, table);
 }

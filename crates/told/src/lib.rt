@@ -91,7 +91,7 @@ fn wanted(w: Wanted) {
     match w {
         Wanted::Line => io::write_all(
             ERRORS,
-            b"a check, '-', or one of period, noise, radio, wander-offset, wander-rate, start-offset, start-rate",
+            b"a check, '-', or one of period, noise, radio, wander-offset, wander-rate, rate-keeps, start-offset, start-rate",
         ),
         Wanted::Seconds => io::write_all(
             ERRORS,
@@ -105,6 +105,10 @@ fn wanted(w: Wanted) {
         Wanted::UnknownOrValue => io::write_all(
             ERRORS,
             b"'unknown', or a whole number of at most 15 digits",
+        ),
+        Wanted::Thousandths => io::write_all(
+            ERRORS,
+            b"the thousandths of its rate that the clock keeps, a whole number from 1 to 999999999999999",
         ),
         Wanted::LineEnd => io::write_all(ERRORS, b"the end of the line"),
         Wanted::Check => io::write_all(

@@ -82,6 +82,11 @@ pub struct Answer {
     pub heard: usize,
     /// Records that are not skipped.
     pub news: usize,
+    /// The first period with a covariance that is not finite, plus 1, or 0
+    /// for none (document 02, request h).
+    pub cov_off: usize,
+    /// The same of the means.
+    pub mean_off: usize,
 }
 
 /// An answer, or the number of a refusal: 1 to 12, and 15 of a stretch.

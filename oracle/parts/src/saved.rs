@@ -1,5 +1,5 @@
-//! A run between two periods, and its bytes (document 02, request e): the
-//! encoder, the decoder, and refusal 15. Written from document 02 alone.
+//! A run between two periods, and its bytes (document 02, requests e and h):
+//! the encoder, the decoder, and refusal 15. Written from document 02 alone.
 
 use crate::MAX_PERIODS;
 
@@ -21,6 +21,10 @@ pub struct Carried {
     pub news: usize,
     /// Whether the diffuse state lasts.
     pub live: bool,
+    /// The first period done with a covariance that is not finite, plus 1,
+    /// or 0 for none; and the same of the means.
+    pub cov_off: usize,
+    pub mean_off: usize,
 }
 
 /// Every NaN of a saved run.
@@ -30,12 +34,12 @@ pub const SAVED_NAN: u64 = 0x7FF8_0000_0000_0000;
 /// covariance, diffuse covariance, diffuse root, unresolved matrix,
 /// likelihood, tallies.
 pub fn section_counts(m: usize) -> [usize; 8] {
-    [4, m, m * m, m * m, m * m, m * m, 1, 4]
+    [4, m, m * m, m * m, m * m, m * m, 1, 6]
 }
 
 /// Bytes of a saved run.
 pub fn saved_len(m: usize) -> usize {
-    104 + 8 * m + 32 * m * m
+    120 + 8 * m + 32 * m * m
 }
 
 fn bits(x: f64) -> u64 {
@@ -50,6 +54,14 @@ fn bits(x: f64) -> u64 {
 pub fn encode(p: usize, m: usize, r: usize, c: &Carried) -> Vec<u8> {
     let floats = |x: &[f64]| x.iter().map(|&v| bits(v)).collect();
     let whole = |x: &[usize]| x.iter().map(|&v| v as u64).collect();
+    let tallies = [
+        c.d_diffuse,
+        c.heard,
+        c.news,
+        usize::from(c.live),
+        c.cov_off,
+        c.mean_off,
+    ];
     let sections: [Vec<u64>; 8] = [
         whole(&[p, m, r, c.done]),
         floats(&c.mean),
@@ -58,7 +70,7 @@ pub fn encode(p: usize, m: usize, r: usize, c: &Carried) -> Vec<u8> {
         floats(&c.root),
         floats(&c.unresolved),
         floats(&[c.loglik]),
-        whole(&[c.d_diffuse, c.heard, c.news, usize::from(c.live)]),
+        whole(&tallies),
     ];
     let mut bytes = Vec::with_capacity(saved_len(m));
     for numbers in sections {
@@ -93,8 +105,12 @@ pub fn decode(p: usize, m: usize, r: usize, n: usize, bytes: &[u8]) -> Option<Ca
     if sizes[..3] != [p as u64, m as u64, r as u64] || done + n as u128 > MAX_PERIODS as u128 {
         return None;
     }
-    let [d_diffuse, heard, news, state] = [tallies[0], tallies[1], tallies[2], tallies[3]];
+    let [d_diffuse, heard, news, state, cov_off, mean_off] =
+        std::array::from_fn(|place| tallies[place]);
     if wide(d_diffuse) > done || wide(heard) > done * p as u128 || news > heard || state > 1 {
+        return None;
+    }
+    if wide(cov_off) > done || wide(mean_off) > done {
         return None;
     }
     let floats = |numbers: &[u64]| -> Option<Vec<f64>> {
@@ -114,6 +130,8 @@ pub fn decode(p: usize, m: usize, r: usize, n: usize, bytes: &[u8]) -> Option<Ca
         heard: heard as usize,
         news: news as usize,
         live: state == 1,
+        cov_off: cov_off as usize,
+        mean_off: mean_off as usize,
     })
 }
 
@@ -123,7 +141,7 @@ mod tests {
 
     /// One state, two elements, 300 periods done; the bytes by hand.
     #[rustfmt::skip]
-    const EXAMPLE: [u8; 144] = [
+    const EXAMPLE: [u8; 160] = [
         0, 0, 0, 4,
         0, 0, 0, 0, 0, 0, 0, 2,
         0, 0, 0, 0, 0, 0, 0, 1,
@@ -135,11 +153,13 @@ mod tests {
         0, 0, 0, 1, 0x80, 0, 0, 0, 0, 0, 0, 0,
         0, 0, 0, 1, 0x7F, 0xF0, 0, 0, 0, 0, 0, 0,
         0, 0, 0, 1, 0x7F, 0xF8, 0, 0, 0, 0, 0, 0,
-        0, 0, 0, 4,
+        0, 0, 0, 6,
         0, 0, 0, 0, 0, 0, 0, 1,
         0, 0, 0, 0, 0, 0, 1, 3,
         0, 0, 0, 0, 0, 0, 0, 2,
         0, 0, 0, 0, 0, 0, 0, 0,
+        0, 0, 0, 0, 0, 0, 1, 0x2B,
+        0, 0, 0, 0, 0, 0, 0, 5,
     ];
 
     fn example() -> Carried {
@@ -155,6 +175,8 @@ mod tests {
             heard: 259,
             news: 2,
             live: false,
+            cov_off: 299,
+            mean_off: 5,
         }
     }
 
@@ -162,7 +184,7 @@ mod tests {
     fn the_example_is_these_bytes() {
         assert_eq!(encode(2, 1, 3, &example()), EXAMPLE);
         assert_eq!(saved_len(1), EXAMPLE.len());
-        assert_eq!(saved_len(8), 2216);
+        assert_eq!(saved_len(8), 2232);
     }
 
     #[test]
@@ -179,20 +201,25 @@ mod tests {
         assert!(bad(2, 1, 3, 3797, &EXAMPLE));
         assert!(bad(1, 1, 3, 0, &EXAMPLE) && bad(2, 1, 2, 0, &EXAMPLE));
         assert!(bad(2, 2, 3, 0, &EXAMPLE));
-        assert!(bad(2, 1, 3, 0, &EXAMPLE[..143]) && bad(2, 1, 3, 0, &[]));
+        assert!(bad(2, 1, 3, 0, &EXAMPLE[..159]) && bad(2, 1, 3, 0, &[]));
         assert!(bad(2, 1, 3, 0, &[&EXAMPLE[..], &[0]].concat()));
         let with = |at: usize, number: u64| {
             let mut bytes = EXAMPLE;
             bytes[at..at + 8].copy_from_slice(&number.to_be_bytes());
             decode(2, 1, 3, 0, &bytes).is_some()
         };
-        // The tallies stand at 112, 120, 128 and 136: at the bound, past it.
+        // The tallies stand from 112 on: at the bound, past it.
         assert!(with(112, 300) && !with(112, 301) && !with(112, u64::MAX));
         assert!(with(120, 600) && !with(120, 601) && !with(120, 1) && !with(120, 1 << 63));
         assert!(with(128, 259) && !with(128, 260));
         assert!(with(136, 1) && !with(136, 2) && !with(136, 1 << 32));
+        for at in [144, 152] {
+            assert!(with(at, 0) && with(at, 1) && with(at, 300));
+            assert!(!with(at, 301) && !with(at, 1 << 32) && !with(at, u64::MAX));
+        }
         // Periods done, at 28: as many as there may be, too many, few.
         assert!(with(28, 4096) && !with(28, 4097) && !with(28, u64::MAX) && !with(28, 129));
+        assert!(with(28, 299) && !with(28, 298));
         for at in [40, 52, 64, 76, 88, 100] {
             assert!(with(at, SAVED_NAN) && with(at, 0xFFF0_0000_0000_0000));
             assert!(!with(at, 0xFFF8_0000_0000_0000) && !with(at, 0x7FF0_0000_0000_0001));

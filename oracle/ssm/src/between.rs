@@ -28,8 +28,9 @@ fn rows(a: &Mat<f64>) -> Vec<f64> {
 }
 
 impl Between {
-    /// As it is saved after `done` periods.
-    pub fn carried(&self, done: usize) -> Carried {
+    /// As it is saved after `done` periods, with what these told of numbers
+    /// that ran off: the loop itself carries no such report.
+    pub fn carried(&self, done: usize, cov_off: usize, mean_off: usize) -> Carried {
         Carried {
             done,
             mean: self.a.clone(),
@@ -42,6 +43,8 @@ impl Between {
             heard: self.n_observed,
             news: self.n_informative,
             live: self.in_diffuse,
+            cov_off,
+            mean_off,
         }
     }
 

@@ -1,6 +1,6 @@
 //! The whole call of document 01: refusals in order, the run, the outputs
 //! row by row into their lent parts, the answer. And a stretch's, document
-//! 02's request e.
+//! 02's request e. The answer's two reports are request h's.
 
 use parts::{
     decode, encode, first_refusal, stretch_refusal, Answer, Carried, Inputs, Outcome, Outputs,
@@ -115,12 +115,51 @@ fn put_smoothed(i: &Inputs<'_>, so: &SmootherOutput, s: &mut Smoothed<'_>) {
     }
 }
 
+fn some_off(x: &[f64]) -> bool {
+    x.iter().any(|v| !v.is_finite())
+}
+
+fn some_off_in(a: &Mat<f64>) -> bool {
+    (0..a.nrows()).any(|i| (0..a.ncols()).any(|j| !a[(i, j)].is_finite()))
+}
+
+/// Whether a covariance that is stored for period t is not finite: the
+/// predicted one, its diffuse part as it is stored, the filtered one.
+fn cov_is_off(fo: &FilterOutput, t: usize) -> bool {
+    some_off_in(&fo.predicted_state_cov[t])
+        || some_off_in(&fo.predicted_diffuse_state_cov[t])
+        || some_off_in(&fo.filtered_state_cov[t])
+}
+
+/// Whether a mean that is stored for period t is not finite.
+fn mean_is_off(fo: &FilterOutput, t: usize) -> bool {
+    some_off(&fo.predicted_state[t]) || some_off(&fo.filtered_state[t])
+}
+
+/// The first period that is off, plus 1, or 0 for none. Place n of the
+/// predicted moments is no period.
+fn first_off(i: &Inputs<'_>, fo: &FilterOutput, off: fn(&FilterOutput, usize) -> bool) -> usize {
+    (0..i.n).find(|&t| off(fo, t)).map_or(0, |t| t + 1)
+}
+
+/// The report of a run so far: what was told earlier stays, and a stretch's
+/// own periods come after the `done` ones.
+fn told(earlier: usize, done: usize, own: usize) -> usize {
+    match (earlier, own) {
+        (0, 0) => 0,
+        (0, own) => done + own,
+        (earlier, _) => earlier,
+    }
+}
+
 fn answer(i: &Inputs<'_>, fo: &FilterOutput) -> Answer {
     Answer {
         loglik: fo.loglik,
         d_diffuse: fo.d_diffuse,
         heard: i.y.iter().filter(|v| !v.is_nan()).count(),
         news: fo.steps.iter().filter(|s| s.observed).count(),
+        cov_off: first_off(i, fo, cov_is_off),
+        mean_off: first_off(i, fo, mean_is_off),
     }
 }
 
@@ -183,13 +222,18 @@ pub fn stretch_call(
     let last = s.last != 0;
     let model = checked(i, stretch_refusal(i, &o.lengths(), last, save.len()))?;
     let from = loaded(i, s)?;
-    let done = from.as_ref().map_or(0, |c| c.done);
+    let (done, cov_told, mean_told) = from
+        .as_ref()
+        .map_or((0, 0, 0), |c| (c.done, c.cov_off, c.mean_off));
     let from = from.as_ref().map(Between::loaded);
     match filter_stretch(&model, readings_of(i).as_ref(), done, from, last) {
         Ok((fo, left)) => {
             put_filter(i, &fo, o);
+            let cov_off = told(cov_told, done, first_off(i, &fo, cov_is_off));
+            let mean_off = told(mean_told, done, first_off(i, &fo, mean_is_off));
             if !last {
-                let bytes = encode(i.p, i.m, i.r, &left.carried(done + i.n));
+                let state = left.carried(done + i.n, cov_off, mean_off);
+                let bytes = encode(i.p, i.m, i.r, &state);
                 save[..bytes.len()].copy_from_slice(&bytes);
             }
             Ok(Answer {
@@ -197,6 +241,8 @@ pub fn stretch_call(
                 d_diffuse: left.d_diffuse,
                 heard: left.n_observed,
                 news: left.n_informative,
+                cov_off,
+                mean_off,
             })
         }
         Err(SsmError::NoInformation) => {

@@ -12,9 +12,9 @@ use Rattle.c_answer.proofs.tell.Tie as tie
 told-refused : (o : Outcome) (k : ℕ) (old : Places) → o ≡ Refused k → Told o k old old
 told-refused o k old e = subst (λ (x : Outcome). Told x k old old) (sym e) (record { number = refl; answer = refl })
 
-told-answered : (o : Outcome) (a : Answer) (old : Places) → o ≡ Answered a → Told o 0 old (places (a .loglik) (a .«d_diffuse») (a .heard) (a .news))
+told-answered : (o : Outcome) (a : Answer) (old : Places) → o ≡ Answered a → Told o 0 old (places (a .loglik) (a .«d_diffuse») (a .heard) (a .news) (a .«cov_off») (a .«mean_off»))
 told-answered o a old e =
-    subst (λ (x : Outcome). Told x 0 old (places (a .loglik) (a .«d_diffuse») (a .heard) (a .news))) (sym e) (record { number = refl; answer = refl })
+    subst (λ (x : Outcome). Told x 0 old (places (a .loglik) (a .«d_diffuse») (a .heard) (a .news) (a .«cov_off») (a .«mean_off»))) (sym e) (record { number = refl; answer = refl })
 
 enum-known-o : tie.Need-enum-known-o
 enum-known-o c = search needs

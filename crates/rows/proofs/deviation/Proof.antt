@@ -1,4 +1,5 @@
 -- 1.0 / 0.0 is the infinity.
+use mathlib.Core.Path.{sym, _∙_}
 use borrow.Author.Needs.{needs}
 use lib.Ieee.{div, ofBits}
 use Rattle.rows.specs.Rows.{deviationOf}
@@ -11,7 +12,11 @@ returns c = rw (c .if1 .taken)
 
 returns-2 : tie.Need-returns-2
 unfolding deviationOf
-returns-2 c = rw (c .before .before .if1 .left) (cc)
+returns-2 c = simp (c .before .before .if1 .left, sym (c .before .is-nan .ensures) ∙ c .if2 .taken)
+
+returns-3 : tie.Need-returns-3
+unfolding deviationOf
+returns-3 c = simp (c .before .before .before .before .if1 .left, sym (c .before .before .before .is-nan .ensures) ∙ c .before .before .if2 .left) (cc)
 
 pub deviation-spec : {M : Type 1} → statement M
-deviation-spec = tie.close (tie.spec returns (λ c κs. search needs) (λ c κs. search needs) returns-2)
+deviation-spec = tie.close (tie.spec returns (λ c κs. search needs) returns-2 (λ c κs. search needs) (λ c κs. search needs) returns-3)

@@ -15,8 +15,8 @@ mul-result c =
 
 returns : tie.Need-returns
 returns c =
-    rw (c .before .before .before .before .eight .ensures, c .before .before .before .eight2 .ensures, c .before .before .eight3 .ensures, c .before .eight4 .ensures, c .eight5 .ensures)
-    (tallies-are (c .before .before .before .before .before .places-of .ensures) (c .before .before .before .before .before .before .before .args .saved .now) (c .before .before .before .before .before .before .before .args .p))
+    rw (c .before .before .before .before .before .before .eight .ensures, c .before .before .before .before .before .eight2 .ensures, c .before .before .before .before .eight3 .ensures, c .before .before .before .eight4 .ensures, c .before .before .eight5 .ensures, c .before .eight6 .ensures, c .eight7 .ensures)
+    (tallies-are (c .before .before .before .before .before .before .before .places-of .ensures) (c .before .before .before .before .before .before .before .before .before .args .saved .now) (c .before .before .before .before .before .before .before .before .before .args .p))
 
 pub bad-tallies-spec : {M : Type 1} → statement M
 bad-tallies-spec = tie.close (tie.spec
@@ -27,6 +27,10 @@ bad-tallies-spec = tie.close (tie.spec
     (λ c. search needs)
     (λ c κs. search needs)
     mul-result
+    (λ c. search needs)
+    (λ c κs. search needs)
+    (λ c. search needs)
+    (λ c κs. search needs)
     (λ c. search needs)
     (λ c κs. search needs)
     (λ c. search needs)

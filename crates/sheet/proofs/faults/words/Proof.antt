@@ -19,7 +19,11 @@ returns-3 c = simp (c .spread .ensures, lt-ltb _ _ (c .before .if3 .taken), ne-e
 
 returns-4 : tie.Need-returns-4
 unfolding wordsFault
-returns-4 c = simp (c .start .ensures, le-ltb _ _ (c .before .if3 .left), ne-eqb _ _ (c .before .before .if2 .left), ne-eqb _ _ (c .before .before .before .if1 .left))
+returns-4 c = simp (c .start .ensures, lt-ltb _ _ (c .before .if4 .taken), le-ltb _ _ (c .before .before .if3 .left), ne-eqb _ _ (c .before .before .before .if2 .left), ne-eqb _ _ (c .before .before .before .before .if1 .left))
+
+returns-5 : tie.Need-returns-5
+unfolding wordsFault
+returns-5 c = simp (c .keeps .ensures, le-ltb _ _ (c .before .if4 .left), le-ltb _ _ (c .before .before .if3 .left), ne-eqb _ _ (c .before .before .before .if2 .left), ne-eqb _ _ (c .before .before .before .before .if1 .left))
 
 pub words-spec : {M : Type 1} → statement M
-words-spec = tie.close (tie.spec (λ c κs. search needs) returns (λ c κs. search needs) returns-2 (λ c κs. search needs) returns-3 (λ c κs. search needs) returns-4)
+words-spec = tie.close (tie.spec (λ c κs. search needs) returns (λ c κs. search needs) returns-2 (λ c κs. search needs) returns-3 (λ c κs. search needs) returns-4 (λ c κs. search needs) returns-5)
