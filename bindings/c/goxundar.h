@@ -14,6 +14,8 @@
  *     reading[t] = d + Z[t] * state[t] + noise,          the noise of element i has variance H[i][i]
  *     state[t+1] = c + T * state[t] + R * disturbance,   disturbance k has variance Q[k][k]
  *
+ * The design Z is the same in all periods, or there is a list of designs, one for each.
+ *
  * Readings are in the units that you choose, states too. The library only sees numbers. A variance is in the square of its unit.
  *
  *     p   elements: how many readings a period has room for     1 to 8
@@ -33,8 +35,8 @@
  * The counts are exact.
  *
  *     z        p * m       the design Z, if it is the same in all periods; else empty (count 0)
- *     zs       k * p * m   k designs one after the other, k from 1 to 4096; else empty. Period t takes the t-th, or the last once they have run
- *                          out. Exactly one of z and zs is empty
+ *     zs       k * p * m   k designs one after the other, k from 1 to 4096; else empty. Period t takes the t-th. Exactly one of z and zs is empty
+ *     repeats  a byte      0: zs has a design for every period. Any other: once zs has run out its last design is used again. See A LIST OF DESIGNS
  *     h        p * p       H, the readings' noise: diagonal, its entries 0 or more. 0 is a reading without noise
  *     t        m * m       T, how the states move from one period to the next
  *     rr       m * r       R, which disturbance moves which state
@@ -45,6 +47,15 @@
  *     p_star   m * m       the start's covariance, mirrored
  *     flags    m           the start's flags, a byte per state, 0 or 1
  *     y        n * p       the readings: element i of period t is at t * p + i
+ *
+ * A LIST OF DESIGNS
+ *
+ * A list zs with fewer designs than periods is taken for a mistake, and refused with 14. If it is short on purpose, hand over 1 for repeats:
+ *
+ *     goxundar_filter(1, 1, 1, 14, NULL, 0, zs, 12, 0, ...)   twelve designs for fourteen periods: refused
+ *     goxundar_filter(1, 1, 1, 14, NULL, 0, zs, 12, 1, ...)   answered: the twelfth design is that of the last three periods
+ *
+ * A list with more designs than periods is fine, with either. With z, the constant design, repeats has no effect: hand over 0.
  *
  * OUTPUT PARTS. The count is at least what stands here. What is lent beyond that stays as it was.
  *
@@ -114,7 +125,8 @@
  *
  *  - The saved bytes hold the run, and of the model its sizes p, m and r alone. Hand every stretch the same model; nothing can tell if you do.
  *    a1, p_star and flags are checked in every stretch, and used in the first.
- *  - A list zs is handed over whole each time: its designs count from the run's first period. All stretches together have 4096 periods at most.
+ *  - A list zs is handed over whole each time, with the same repeats, which is not saved: its designs count from the run's first period. Where
+ *    repeats is 0 there are at least as many of them as periods done plus n, else refusal 14. All stretches together have 4096 periods at most.
  *  - The six places of the answer are since the run began, in every stretch. cov_off and mean_off count from the run's first period, and what an
  *    earlier stretch has told stays. Of place n the next stretch tells: it is its first period.
  *  - Place n of the predicted parts is written as by the filter. pred_inf there has not been tested yet, so the next stretch's place 0, which has,
@@ -138,12 +150,13 @@
  * AN OLDER HEADER DOES NOT LINK
  *
  * When the parameters of the calls change, so does the interface's number, GOXUNDAR_INTERFACE. The library's symbols end in it: goxundar_filter is
- * goxundar_filter_2 there. Write the plain names: macros of this header put the number behind them, also where you take an address. An object that
+ * goxundar_filter_3 there. Write the plain names: macros of this header put the number behind them, also where you take an address. An object that
  * was compiled against another interface asks for symbols that are not there, and the linker says so. Without the number it would link, and hand over
- * too few places: the library would write to wherever the missing ones point. Compile it again with this header.
+ * other parameters: the library would take counts for pointers, and write there. Compile it again with this header.
  *
  *     1   its symbols had no number, and its answers four places
  *     2   cov_off and mean_off, last in every call
+ *     3   repeats, right after zs, in every call
  *
  * From another language, or by dlsym, ask for the name with the number.
  */
@@ -158,10 +171,10 @@ extern "C" {
 #endif
 
 /* The interface's number, and the calls' symbols, which end in it: an object of another interface must not link. */
-#define GOXUNDAR_INTERFACE 2
-#define goxundar_filter goxundar_filter_2
-#define goxundar_smooth goxundar_smooth_2
-#define goxundar_stretch goxundar_stretch_2
+#define GOXUNDAR_INTERFACE 3
+#define goxundar_filter goxundar_filter_3
+#define goxundar_smooth goxundar_smooth_3
+#define goxundar_stretch goxundar_stretch_3
 
 /* The largest p, m and r; the largest n, and count of listed designs. */
 #define GOXUNDAR_MAX_SIZE 8
@@ -178,12 +191,14 @@ extern "C" {
 /* The length of a saved run, exactly: 160 bytes for one state, 2232 for eight. */
 #define GOXUNDAR_SAVED_LEN(m) (120 + 8 * (size_t)(m) + 32 * (size_t)(m) * (size_t)(m))
 
-/* What a call returns: 0, or the first refusal that applies, in this order: 15 comes before 12, and is given by goxundar_stretch alone.
- * 1 to 11 and 15 write nothing. 12 sets the needed count of every output to 0 (+0.0, and kind 0), and leaves what is beyond it. */
+/* What a call returns: 0, or the first refusal that applies, in this order. 15 is given by goxundar_stretch alone. There 14 comes right after it,
+ * since it goes by the periods done: 1, 2, 3 to 11, 15, 14, 12.
+ * 1 to 11, 14 and 15 write nothing. 12 sets the needed count of every output to 0 (+0.0, and kind 0), and leaves what is beyond it. */
 enum goxundar_refusal {
     GOXUNDAR_ANSWERED = 0,
     GOXUNDAR_DIMENSION = 1,         /* p, m or r is not 1 to 8, or n is not 1 to 4096 (goxundar_stretch: 0 to 4096) */
     GOXUNDAR_LENGTH = 2,            /* an input has not its exact count, an output is too short, or not exactly one of z and zs is given */
+    GOXUNDAR_LIST_SHORT = 14,       /* zs is given, repeats is 0, and there are fewer designs than n (goxundar_stretch: than periods done plus n) */
     GOXUNDAR_NON_FINITE_SYSTEM = 3, /* z, zs (each listed design, used or not), h, t, rr or q has a NaN or an infinity */
     GOXUNDAR_NOT_PSD = 4,           /* a diagonal entry of h or q is below 0: a variance can't be */
     GOXUNDAR_Q_NOT_DIAGONAL = 5,    /* an entry of q off its diagonal is not 0 */
@@ -212,7 +227,7 @@ enum goxundar_kind {
 uint32_t goxundar_filter(
     size_t p, size_t m, size_t r, size_t n,
     const double *z, size_t z_len,
-    const double *zs, size_t zs_len,
+    const double *zs, size_t zs_len, uint8_t repeats,
     const double *h, size_t h_len,
     const double *t, size_t t_len,
     const double *rr, size_t rr_len,
@@ -240,7 +255,7 @@ uint32_t goxundar_filter(
 uint32_t goxundar_smooth(
     size_t p, size_t m, size_t r, size_t n,
     const double *z, size_t z_len,
-    const double *zs, size_t zs_len,
+    const double *zs, size_t zs_len, uint8_t repeats,
     const double *h, size_t h_len,
     const double *t, size_t t_len,
     const double *rr, size_t rr_len,
@@ -270,7 +285,7 @@ uint32_t goxundar_smooth(
 uint32_t goxundar_stretch(
     size_t p, size_t m, size_t r, size_t n,
     const double *z, size_t z_len,
-    const double *zs, size_t zs_len,
+    const double *zs, size_t zs_len, uint8_t repeats,
     const double *h, size_t h_len,
     const double *t, size_t t_len,
     const double *rr, size_t rr_len,

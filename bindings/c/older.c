@@ -1,6 +1,6 @@
-/* older.c: a program as it was compiled against the header of interface 1. It declares the calls as that header did: no number behind their names,
- * and four places for the answer. It must compile, and must not link: bindings/c/run sees to both. If it did link, the library would write the two
- * places more to wherever the stack happens to point.
+/* older.c: a program as it was compiled against the header of an older interface; INTERFACE says which. It declares the calls as that header did, by
+ * their symbols. It must compile, and must not link: bindings/c/run sees to both, of every number below today's. If it did link, the library would
+ * take each parameter behind zs for another, and write to wherever the stack happens to point.
  */
 #include <stddef.h>
 #include <stdint.h>
@@ -12,18 +12,26 @@
 #define BYTES_OUT uint8_t *, size_t
 #define GIVEN SIZES, IN, IN, IN, IN, IN, IN, IN, IN, IN, IN, BYTES_IN, IN
 #define LENT OUT, OUT, OUT, OUT, OUT, BYTES_OUT, OUT, OUT, OUT, OUT, OUT
+#if INTERFACE == 1 /* no number, and four places for the answer */
+#define SYMBOL(name) name
 #define PLACES double *, size_t *, size_t *, size_t *
+#elif INTERFACE == 2 /* no repeats */
+#define SYMBOL(name) name##_2
+#define PLACES double *, size_t *, size_t *, size_t *, size_t *, size_t *
+#else
+#error "say here what this interface declared"
+#endif
 
-uint32_t goxundar_filter(GIVEN, LENT, PLACES);
-uint32_t goxundar_smooth(GIVEN, LENT, OUT, OUT, PLACES);
-uint32_t goxundar_stretch(GIVEN, uint8_t, BYTES_IN, uint8_t, LENT, BYTES_OUT, PLACES);
+uint32_t SYMBOL(goxundar_filter)(GIVEN, LENT, PLACES);
+uint32_t SYMBOL(goxundar_smooth)(GIVEN, LENT, OUT, OUT, PLACES);
+uint32_t SYMBOL(goxundar_stretch)(GIVEN, uint8_t, BYTES_IN, uint8_t, LENT, BYTES_OUT, PLACES);
 
 /* Their addresses are enough: the linker must find them. */
 struct {
     uint32_t (*filter)(GIVEN, LENT, PLACES);
     uint32_t (*smooth)(GIVEN, LENT, OUT, OUT, PLACES);
     uint32_t (*stretch)(GIVEN, uint8_t, BYTES_IN, uint8_t, LENT, BYTES_OUT, PLACES);
-} calls = {goxundar_filter, goxundar_smooth, goxundar_stretch};
+} calls = {SYMBOL(goxundar_filter), SYMBOL(goxundar_smooth), SYMBOL(goxundar_stretch)};
 
 int main(void)
 {

@@ -1,5 +1,5 @@
-/* test.c: the calls through goxundar.h, against document 01: its bench figures, each part in its place, the refusals, lengths, empty parts; numbers
- * that ran off; and runs in stretches, against the uncut ones and against document 02's bytes.
+/* test.c: the calls through goxundar.h, against document 01: its bench figures, each part in its place, the refusals, lengths, empty parts; lists of
+ * designs; numbers that ran off; and runs in stretches, against the uncut ones and against document 02's bytes.
  *
  * Every expected value is 01's or 02's, or follows from one of their rules as a comment says. None was taken from the program. Doubles are compared
  * by their bits, all NaNs as one. Each call is made three times, by goxundar_filter, by goxundar_smooth and by goxundar_stretch over the whole run:
@@ -45,10 +45,11 @@ enum { Z, ZS, H, T, RR, Q, C, D, A1, P_STAR, FLAGS, Y, INPUTS };
 
 struct call {
     size_t p, m, r, n;
-    double z[16], zs[16], h[16], t[64], rr[16], q[16], c[8], d[8], a1[8], p_star[64];
+    double z[16], zs[64], h[16], t[64], rr[16], q[16], c[8], d[8], a1[8], p_star[64];
     uint8_t flags[8];
     double y[4097];
     size_t len[INPUTS]; /* the counts that are passed */
+    uint8_t repeats;
 };
 
 /* The counts that the sizes ask for, with a constant design. */
@@ -67,6 +68,13 @@ static void exact(struct call *k)
     k->len[P_STAR] = m * m;
     k->len[FLAGS] = m;
     k->len[Y] = k->n * p;
+}
+
+/* That many designs of zs, and no constant one. */
+static void listed(struct call *k, size_t designs)
+{
+    k->len[Z] = 0;
+    k->len[ZS] = designs * k->p * k->m;
 }
 
 /* 01's model unless said: m = p = r = 1, Z = T = R = 1, H = 1, Q = 2, flagged, a1 = P* = 0. */
@@ -230,7 +238,7 @@ static int parts_of(int which)
 #define OUT double *, size_t
 #define BYTES_IN const uint8_t *, size_t
 #define BYTES_OUT uint8_t *, size_t
-#define GIVEN SIZES, IN, IN, IN, IN, IN, IN, IN, IN, IN, IN, BYTES_IN, IN
+#define GIVEN SIZES, IN, IN, uint8_t, IN, IN, IN, IN, IN, IN, IN, IN, BYTES_IN, IN
 #define LENT OUT, OUT, OUT, OUT, OUT, BYTES_OUT, OUT, OUT, OUT, OUT, OUT
 #define PLACES double *, size_t *, size_t *, size_t *, size_t *, size_t *
 
@@ -246,24 +254,24 @@ static uint32_t call(int which, const struct call *k)
     mark_all();
     if (which == FILTER)
         return by_address.filter(
-            k->p, k->m, k->r, k->n, k->z, k->len[Z], k->zs, k->len[ZS], k->h, k->len[H], k->t, k->len[T], k->rr, k->len[RR], k->q, k->len[Q],
-            k->c, k->len[C], k->d, k->len[D], k->a1, k->len[A1], k->p_star, k->len[P_STAR], k->flags, k->len[FLAGS], k->y, k->len[Y],
+            k->p, k->m, k->r, k->n, k->z, k->len[Z], k->zs, k->len[ZS], k->repeats, k->h, k->len[H], k->t, k->len[T], k->rr, k->len[RR],
+            k->q, k->len[Q], k->c, k->len[C], k->d, k->len[D], k->a1, k->len[A1], k->p_star, k->len[P_STAR], k->flags, k->len[FLAGS], k->y, k->len[Y],
             pred_mean, part[PRED_MEAN].lent, pred_cov, part[PRED_COV].lent, pred_inf, part[PRED_INF].lent,
             filt_mean, part[FILT_MEAN].lent, filt_cov, part[FILT_COV].lent, kinds, part[KINDS].lent,
             v, part[V].lent, f_star, part[F_STAR].lent, f_inf, part[F_INF].lent, m_star, part[M_STAR].lent, m_inf, part[M_INF].lent,
             &answer.loglik, &answer.d_diffuse, &answer.heard, &answer.news, &answer.cov_off, &answer.mean_off);
     if (which == STRETCH)
         return by_address.stretch(
-            k->p, k->m, k->r, k->n, k->z, k->len[Z], k->zs, k->len[ZS], k->h, k->len[H], k->t, k->len[T], k->rr, k->len[RR], k->q, k->len[Q],
-            k->c, k->len[C], k->d, k->len[D], k->a1, k->len[A1], k->p_star, k->len[P_STAR], k->flags, k->len[FLAGS], k->y, k->len[Y],
+            k->p, k->m, k->r, k->n, k->z, k->len[Z], k->zs, k->len[ZS], k->repeats, k->h, k->len[H], k->t, k->len[T], k->rr, k->len[RR],
+            k->q, k->len[Q], k->c, k->len[C], k->d, k->len[D], k->a1, k->len[A1], k->p_star, k->len[P_STAR], k->flags, k->len[FLAGS], k->y, k->len[Y],
             stretch.begins, stretch.saved, stretch.saved_len, stretch.last,
             pred_mean, part[PRED_MEAN].lent, pred_cov, part[PRED_COV].lent, pred_inf, part[PRED_INF].lent,
             filt_mean, part[FILT_MEAN].lent, filt_cov, part[FILT_COV].lent, kinds, part[KINDS].lent,
             v, part[V].lent, f_star, part[F_STAR].lent, f_inf, part[F_INF].lent, m_star, part[M_STAR].lent, m_inf, part[M_INF].lent,
             save, stretch.save_lent, &answer.loglik, &answer.d_diffuse, &answer.heard, &answer.news, &answer.cov_off, &answer.mean_off);
     return by_address.smooth(
-        k->p, k->m, k->r, k->n, k->z, k->len[Z], k->zs, k->len[ZS], k->h, k->len[H], k->t, k->len[T], k->rr, k->len[RR], k->q, k->len[Q],
-        k->c, k->len[C], k->d, k->len[D], k->a1, k->len[A1], k->p_star, k->len[P_STAR], k->flags, k->len[FLAGS], k->y, k->len[Y],
+        k->p, k->m, k->r, k->n, k->z, k->len[Z], k->zs, k->len[ZS], k->repeats, k->h, k->len[H], k->t, k->len[T], k->rr, k->len[RR],
+        k->q, k->len[Q], k->c, k->len[C], k->d, k->len[D], k->a1, k->len[A1], k->p_star, k->len[P_STAR], k->flags, k->len[FLAGS], k->y, k->len[Y],
         pred_mean, part[PRED_MEAN].lent, pred_cov, part[PRED_COV].lent, pred_inf, part[PRED_INF].lent,
         filt_mean, part[FILT_MEAN].lent, filt_cov, part[FILT_COV].lent, kinds, part[KINDS].lent,
         v, part[V].lent, f_star, part[F_STAR].lent, f_inf, part[F_INF].lent, m_star, part[M_STAR].lent, m_inf, part[M_INF].lent,
@@ -271,8 +279,8 @@ static uint32_t call(int which, const struct call *k)
         &answer.loglik, &answer.d_diffuse, &answer.heard, &answer.news, &answer.cov_off, &answer.mean_off);
 }
 
-/* Which bytes a call may have written: none on refusals 1 to 11 and 15, the needed count otherwise; the answer where there is one; the smoothed parts
- * only by the smoother; the saved run only by a stretch that answers and is not the last. */
+/* Which bytes a call may have written: none on refusals 1 to 11, 14 and 15, the needed count otherwise; the answer where there is one; the smoothed
+ * parts only by the smoother; the saved run only by a stretch that answers and is not the last. */
 static void kept(int which, const struct call *k, uint32_t refusal)
 {
     int writes = refusal == GOXUNDAR_ANSWERED || refusal == GOXUNDAR_NO_INFORMATION;
@@ -607,7 +615,8 @@ static void places(int which)
 
 /* ---- the refusals, by 01's table */
 
-/* One call breaks every rule. They are mended one by one, in the table's order, so the refusals come in that order too. */
+/* One call breaks every rule. They are mended one by one, in the table's order, so the refusals come in that order too. 14 comes right after 2, in a
+ * stretch after 11. */
 static void order(int which)
 {
     static struct call k;
@@ -617,7 +626,9 @@ static void order(int which)
     k.n = 4097; /* 1 */
     exact(&k);
     k.len[Y] = 8;      /* 2 */
-    k.zs[0] = NAN;     /* not lent, so nothing */
+    listed(&k, 1);     /* 14: for two periods */
+    k.z[0] = NAN;      /* not lent, so nothing */
+    k.zs[3] = NAN;     /* 3 */
     k.t[3] = NAN;      /* 3 */
     k.h[3] = -1;       /* 4 */
     k.q[1] = 1;        /* 5 */
@@ -630,9 +641,15 @@ static void order(int which)
     k.q[3] = 1;
     /* 12: Z and H are 0, so no reading tells anything */
     ends(which, &k, GOXUNDAR_DIMENSION);
-    k.n = 1;
+    k.n = 2;
     ends(which, &k, GOXUNDAR_LENGTH);
-    exact(&k);
+    k.len[Y] = 4;
+    if (which != STRETCH) {
+        ends(which, &k, GOXUNDAR_LIST_SHORT);
+        k.repeats = 1;
+    }
+    ends(which, &k, GOXUNDAR_NON_FINITE_SYSTEM);
+    k.zs[3] = 0;
     ends(which, &k, GOXUNDAR_NON_FINITE_SYSTEM);
     k.t[3] = 1;
     ends(which, &k, GOXUNDAR_NOT_PSD);
@@ -651,8 +668,12 @@ static void order(int which)
     k.t[2] = 0;
     ends(which, &k, GOXUNDAR_NON_FINITE_NOISE);
     k.rr[3] = 1;
+    if (which == STRETCH) {
+        ends(which, &k, GOXUNDAR_LIST_SHORT);
+        k.repeats = 1;
+    }
     ends(which, &k, GOXUNDAR_NO_INFORMATION);
-    k.z[0] = 1; /* input 0 now reads state 0, of which nothing is known */
+    k.zs[0] = 1; /* input 0 now reads state 0, of which nothing is known; in period 1 it is 0, as T says */
     ends(which, &k, GOXUNDAR_ANSWERED);
     count(answer.news, 1, "news");
 }
@@ -667,6 +688,7 @@ static void numbers(void)
     int i;
     figure = "the header's numbers";
     for (i = 0; i < 13; i++) check(in_order[i] == i, "a refusal's number");
+    check(GOXUNDAR_LIST_SHORT == 14, "a refusal's number");
     check(GOXUNDAR_BAD_SAVED == 15, "a refusal's number");
     count(GOXUNDAR_SAVED_LEN(1), 160, "the length of a saved run, m = 1");
     count(GOXUNDAR_SAVED_LEN(2), 264, "the length of a saved run, m = 2");
@@ -741,27 +763,137 @@ static void lengths(int which)
     }
 }
 
-/* Exactly one of z and zs; period t takes the t-th design, or the last. */
+/* ---- what a call left, to compare with */
+
+enum { KEPT = 4096 };
+static struct left {
+    unsigned char at[OUTPUTS][KEPT];
+    size_t needed[OUTPUTS];
+    int parts;
+    struct answer answer;
+} uncut, prefix, by_hand;
+
+static void keep(struct left *to, int which)
+{
+    int i;
+    to->parts = parts_of(which);
+    for (i = 0; i < to->parts; i++) {
+        to->needed[i] = part[i].needed * part[i].size;
+        check(to->needed[i] <= KEPT, "room for what is kept");
+        memcpy(to->at[i], part[i].at, to->needed[i]);
+    }
+    to->answer = answer;
+}
+
+/* The outputs of the last call are those that were kept, from period t of n on. */
+static void as_kept(const struct left *want, size_t t, size_t n)
+{
+    int i;
+    for (i = 0; i < want->parts; i++) {
+        size_t block = want->needed[i] / (i <= PRED_INF ? n + 1 : n);
+        size_t j, from = block * t, needed = part[i].needed * part[i].size;
+        count(from + needed, want->needed[i], part[i].name);
+        for (j = 0; j + part[i].size <= needed && from + needed == want->needed[i]; j += part[i].size) {
+            double got, wanted;
+            if (part[i].size == 1) {
+                count(((unsigned char *)part[i].at)[j], want->at[i][from + j], part[i].name);
+                continue;
+            }
+            memcpy(&got, (unsigned char *)part[i].at + j, sizeof got);
+            memcpy(&wanted, want->at[i] + from + j, sizeof wanted);
+            same(got, wanted, part[i].name);
+        }
+    }
+}
+
+static void answer_is(const struct answer *want)
+{
+    same(answer.loglik, want->loglik, "log-likelihood");
+    count(answer.d_diffuse, want->d_diffuse, "d_diffuse");
+    count(answer.heard, want->heard, "heard");
+    count(answer.news, want->news, "news");
+    count(answer.cov_off, want->cov_off, "cov_off");
+    count(answer.mean_off, want->mean_off, "mean_off");
+}
+
+/* ---- lists of designs */
+
+/* Exactly one of z and zs; period t takes the t-th design, and once they have run out the last, where the call is marked. */
 static void designs(int which)
 {
     static struct call k;
     figure = "listed designs";
     two_readings(&k, 2, 6);
     k.zs[0] = 1;
-    k.len[Z] = 1;
     k.len[ZS] = 1;
-    ends(which, &k, GOXUNDAR_LENGTH);
-    k.len[Z] = 0;
+    ends(which, &k, GOXUNDAR_LENGTH); /* and z */
+    listed(&k, 1);
+    ends(which, &k, GOXUNDAR_LIST_SHORT);
+    k.repeats = 1;
     ends(which, &k, GOXUNDAR_ANSWERED); /* the last design goes on: figure B */
     record(1, GOXUNDAR_USUAL, 4, 4, 0);
     k.zs[1] = 0;
-    k.len[ZS] = 2;
-    ends(which, &k, GOXUNDAR_ANSWERED); /* a design of 0 reads noise alone, f_star is H: v = 6, and nothing moves */
-    record(1, GOXUNDAR_USUAL, 6, 1, 0);
-    same(filt_mean[1], 2, "filtered mean");
-    same(filt_cov[1], 3, "filtered covariance");
-    k.len[ZS] = 0;
-    ends(which, &k, GOXUNDAR_LENGTH);
+    for (k.repeats = 0; k.repeats < 2; k.repeats++) {
+        listed(&k, 2);
+        ends(which, &k, GOXUNDAR_ANSWERED); /* a design of 0 reads noise alone, f_star is H: v = 6, and nothing moves */
+        record(1, GOXUNDAR_USUAL, 6, 1, 0);
+        same(filt_mean[1], 2, "filtered mean");
+        same(filt_cov[1], 3, "filtered covariance");
+        listed(&k, 0);
+        ends(which, &k, GOXUNDAR_LENGTH);
+    }
+}
+
+/* Fourteen periods of an offset and its rate, on two inputs; sixteen designs, no two of them the same. */
+static void fourteen(struct call *k)
+{
+    size_t i;
+    memset(k, 0, sizeof *k);
+    k->p = k->m = 2;
+    k->r = 1;
+    k->n = 14;
+    exact(k);
+    k->t[0] = k->t[1] = k->t[3] = k->rr[1] = k->h[0] = k->flags[0] = k->flags[1] = 1;
+    k->h[3] = 4;
+    k->q[0] = 0.25;
+    for (i = 0; i < 64; i++) k->zs[i] = (double)(i * i % 67) - 20;
+    for (i = 0; i < 28; i++) k->y[i] = i % 5 == 3 ? NAN : (double)(i * i % 29);
+}
+
+/* The last design, written out for each period that has none. */
+static void write_out(struct call *k)
+{
+    size_t one = k->p * k->m;
+    for (; k->len[ZS] < k->n * one; k->len[ZS] += one) fill(k->zs + k->len[ZS], k->zs + k->len[ZS] - one, one);
+}
+
+/* Document 02's installer gave twelve designs for fourteen periods. With a marker, whatever its number, a short list is the one that is written out.
+ * On a list that reaches, and on a constant design, a marker has no effect. */
+static void short_lists(int which)
+{
+    static const uint8_t markers[] = {0, 1, 2, 0x80, 255};
+    static struct call k, written_out;
+    size_t given, i;
+    for (given = 0; given <= 16; given++) { /* 0: a constant one */
+        int runs_out = given > 0 && given < 14;
+        figure = given == 0 ? "a constant design and a marker" : runs_out ? "a list that runs out" : "a list that reaches";
+        fourteen(&k);
+        if (given == 0)
+            fill(k.z, k.zs, 4);
+        else
+            listed(&k, given);
+        written_out = k;
+        if (given > 0) write_out(&written_out);
+        ends(which, &written_out, GOXUNDAR_ANSWERED);
+        keep(&by_hand, which);
+        for (i = 0; i < sizeof markers; i++) {
+            k.repeats = markers[i];
+            ends(which, &k, runs_out && k.repeats == 0 ? GOXUNDAR_LIST_SHORT : GOXUNDAR_ANSWERED);
+            if (runs_out && k.repeats == 0) continue;
+            as_kept(&by_hand, 0, 14);
+            answer_is(&by_hand.answer);
+        }
+    }
 }
 
 /* ---- empty parts may be null */
@@ -770,29 +902,29 @@ static uint32_t all_null(int which, size_t size)
 {
     if (which == FILTER)
         return goxundar_filter(
-            size, size, size, size, NULL, 0, NULL, 0, NULL, 0, NULL, 0, NULL, 0, NULL, 0, NULL, 0, NULL, 0, NULL, 0, NULL, 0, NULL, 0, NULL, 0,
+            size, size, size, size, NULL, 0, NULL, 0, 0, NULL, 0, NULL, 0, NULL, 0, NULL, 0, NULL, 0, NULL, 0, NULL, 0, NULL, 0, NULL, 0, NULL, 0,
             NULL, 0, NULL, 0, NULL, 0, NULL, 0, NULL, 0, NULL, 0, NULL, 0, NULL, 0, NULL, 0, NULL, 0, NULL, 0,
             &answer.loglik, &answer.d_diffuse, &answer.heard, &answer.news, &answer.cov_off, &answer.mean_off);
     if (which == STRETCH)
         return goxundar_stretch(
-            size, size, size, size, NULL, 0, NULL, 0, NULL, 0, NULL, 0, NULL, 0, NULL, 0, NULL, 0, NULL, 0, NULL, 0, NULL, 0, NULL, 0, NULL, 0,
+            size, size, size, size, NULL, 0, NULL, 0, 0, NULL, 0, NULL, 0, NULL, 0, NULL, 0, NULL, 0, NULL, 0, NULL, 0, NULL, 0, NULL, 0, NULL, 0,
             1, NULL, 0, 1, NULL, 0, NULL, 0, NULL, 0, NULL, 0, NULL, 0, NULL, 0, NULL, 0, NULL, 0, NULL, 0, NULL, 0, NULL, 0, NULL, 0,
             &answer.loglik, &answer.d_diffuse, &answer.heard, &answer.news, &answer.cov_off, &answer.mean_off);
     return goxundar_smooth(
-        size, size, size, size, NULL, 0, NULL, 0, NULL, 0, NULL, 0, NULL, 0, NULL, 0, NULL, 0, NULL, 0, NULL, 0, NULL, 0, NULL, 0, NULL, 0,
+        size, size, size, size, NULL, 0, NULL, 0, 0, NULL, 0, NULL, 0, NULL, 0, NULL, 0, NULL, 0, NULL, 0, NULL, 0, NULL, 0, NULL, 0, NULL, 0,
         NULL, 0, NULL, 0, NULL, 0, NULL, 0, NULL, 0, NULL, 0, NULL, 0, NULL, 0, NULL, 0, NULL, 0, NULL, 0, NULL, 0, NULL, 0,
         &answer.loglik, &answer.d_diffuse, &answer.heard, &answer.news, &answer.cov_off, &answer.mean_off);
 }
 
 /* Figure A, with a null for the part that is empty: the list of designs, or the constant one. */
-static void null_design(int listed)
+static void null_design(int list)
 {
     static const double one = 1, zero = 0, two = 2;
     static const uint8_t flag = 1;
     uint32_t refusal;
     mark_all();
     refusal = goxundar_filter(
-        1, 1, 1, 1, listed ? NULL : &one, listed ? 0 : 1, listed ? &one : NULL, listed ? 1 : 0, &one, 1, &one, 1, &one, 1, &two, 1,
+        1, 1, 1, 1, list ? NULL : &one, list ? 0 : 1, list ? &one : NULL, list ? 1 : 0, 0, &one, 1, &one, 1, &one, 1, &two, 1,
         &zero, 1, &zero, 1, &zero, 1, &zero, 1, &flag, 1, &two, 1, /* the inputs share their numbers */
         pred_mean, 2, pred_cov, 2, pred_inf, 2, filt_mean, 1, filt_cov, 1, kinds, 1, v, 1, f_star, 1, f_inf, 1, m_star, 1, m_inf, 1,
         &answer.loglik, &answer.d_diffuse, &answer.heard, &answer.news, &answer.cov_off, &answer.mean_off);
@@ -980,56 +1112,6 @@ static void cut(struct call *to_run, const struct call *k, size_t from, size_t t
     memmove(to_run->y, k->y + from * k->p, to_run->len[Y] * sizeof *k->y);
 }
 
-/* What a call left: the outputs of the filter and the answer. */
-enum { KEPT = 4096 };
-static struct left {
-    unsigned char at[SM_MEAN][KEPT];
-    size_t needed[SM_MEAN];
-    struct answer answer;
-} uncut, prefix;
-
-static void keep(struct left *to)
-{
-    int i;
-    for (i = 0; i < SM_MEAN; i++) {
-        to->needed[i] = part[i].needed * part[i].size;
-        check(to->needed[i] <= KEPT, "room for what is kept");
-        memcpy(to->at[i], part[i].at, to->needed[i]);
-    }
-    to->answer = answer;
-}
-
-/* The outputs of the last call are those that were kept, from period t of n on. */
-static void as_kept(const struct left *want, size_t t, size_t n)
-{
-    int i;
-    for (i = 0; i < SM_MEAN; i++) {
-        size_t block = want->needed[i] / (i <= PRED_INF ? n + 1 : n);
-        size_t j, from = block * t, needed = part[i].needed * part[i].size;
-        count(from + needed, want->needed[i], part[i].name);
-        for (j = 0; j + part[i].size <= needed && from + needed == want->needed[i]; j += part[i].size) {
-            double got, wanted;
-            if (part[i].size == 1) {
-                count(((unsigned char *)part[i].at)[j], want->at[i][from + j], part[i].name);
-                continue;
-            }
-            memcpy(&got, (unsigned char *)part[i].at + j, sizeof got);
-            memcpy(&wanted, want->at[i] + from + j, sizeof wanted);
-            same(got, wanted, part[i].name);
-        }
-    }
-}
-
-static void answer_is(const struct answer *want)
-{
-    same(answer.loglik, want->loglik, "log-likelihood");
-    count(answer.d_diffuse, want->d_diffuse, "d_diffuse");
-    count(answer.heard, want->heard, "heard");
-    count(answer.news, want->news, "news");
-    count(answer.cov_off, want->cov_off, "cov_off");
-    count(answer.mean_off, want->mean_off, "mean_off");
-}
-
 /* Cut after each period: the first stretch is the filter over its periods, the second gives the rest of the uncut run. Cut after every period: what
  * is saved is what one stretch saves. */
 static void cut_everywhere(const struct call *k)
@@ -1038,7 +1120,7 @@ static void cut_everywhere(const struct call *k)
     static uint8_t saved[2][GOXUNDAR_SAVED_LEN(8)];
     size_t length = GOXUNDAR_SAVED_LEN(k->m), t;
     ends(FILTER, k, GOXUNDAR_ANSWERED);
-    keep(&uncut);
+    keep(&uncut, FILTER);
     for (t = 0; t <= k->n; t++) {
         /* a period more, from what was saved one period ago */
         if (t > 0) {
@@ -1050,7 +1132,7 @@ static void cut_everywhere(const struct call *k)
         cut(&some, k, 0, t);
         if (t > 0) {
             ends(FILTER, &some, GOXUNDAR_ANSWERED);
-            keep(&prefix);
+            keep(&prefix, FILTER);
         }
         begins(&some);
         ends(STRETCH, &some, GOXUNDAR_ANSWERED);
@@ -1070,8 +1152,8 @@ static void cut_everywhere(const struct call *k)
     whole();
 }
 
-/* README.md's level; bindings/c/example.c's crystal, with a second design from period 1 on: both inputs read twice the offset; and levels that run
- * off. */
+/* README.md's level; bindings/c/example.c's crystal, with a second design from period 1 on, marked and then written out: both inputs read twice the
+ * offset; and levels that run off. */
 static void cuts(void)
 {
     static const double z[] = {1, 0, 1, 1, 0, 1, 2, 0, 1, 2, 0, 1}, t[] = {1, 1, 0, 0, 1, 0, 0, 0, 0}, q[] = {0.04, 0.01, 25};
@@ -1093,8 +1175,8 @@ static void cuts(void)
     k.n = 10;
     exact(&k);
     fill(k.zs, z, 12);
-    k.len[Z] = 0;
-    k.len[ZS] = 12;
+    listed(&k, 2);
+    k.repeats = 1;
     fill(k.t, t, 9);
     for (i = 0; i < 3; i++) {
         k.rr[i * 4] = 1;
@@ -1103,6 +1185,9 @@ static void cuts(void)
     k.p_star[8] = 25;
     k.flags[0] = k.flags[1] = 1;
     fill(k.y, y, 20);
+    cut_everywhere(&k);
+    write_out(&k);
+    k.repeats = 0;
     cut_everywhere(&k);
     figure = "a level that runs off, in stretches";
     growing(&k, ldexp(1, 256), 6);
@@ -1348,7 +1433,8 @@ static void untested_place(void)
     whole();
 }
 
-/* The list of designs counts from the run's first period: the second stretch takes the second design, 0, as in the uncut run. */
+/* The list of designs counts from the run's first period: the second stretch takes the second design, 0, as in the uncut run. A third one has one
+ * period too, and the list no design for it. The marker is not saved. */
 static void listed_from_the_first(void)
 {
     static struct call k;
@@ -1357,15 +1443,32 @@ static void listed_from_the_first(void)
     one_reading(&k, 2);
     k.zs[0] = 1;
     k.zs[1] = 0;
-    k.len[Z] = 0;
-    k.len[ZS] = 2;
+    listed(&k, 2);
+    k.repeats = 1;
     begins(&k);
     ends(STRETCH, &k, GOXUNDAR_ANSWERED);
     memcpy(saved, save, ONE_STATE);
+    k.repeats = 0;
+    ends(STRETCH, &k, GOXUNDAR_ANSWERED);
+    check(memcmp(save, saved, ONE_STATE) == 0, "the bytes of a marked stretch");
     k.y[0] = 6;
     goes_on(&k, saved);
     ends(STRETCH, &k, GOXUNDAR_ANSWERED);
     record(0, GOXUNDAR_USUAL, 6, 1, 0);
+    memcpy(saved, save, ONE_STATE);
+    k.n = k.len[Y] = 0; /* no period more: the list reaches the two that are done */
+    ends(STRETCH, &k, GOXUNDAR_ANSWERED);
+    k.n = k.len[Y] = 1;
+    ends(STRETCH, &k, GOXUNDAR_LIST_SHORT);
+    k.repeats = 1;
+    ends(STRETCH, &k, GOXUNDAR_ANSWERED);
+    record(0, GOXUNDAR_USUAL, 6, 1, 0); /* the second design again */
+    memcpy(saved, save, ONE_STATE);
+    k.n = k.len[Y] = 0; /* no period more, but three are done */
+    ends(STRETCH, &k, GOXUNDAR_ANSWERED);
+    check(memcmp(save, saved, ONE_STATE) == 0, "loading then saving gives the same bytes");
+    k.repeats = 0;
+    ends(STRETCH, &k, GOXUNDAR_LIST_SHORT);
     whole();
 }
 
@@ -1587,7 +1690,7 @@ static void judged_last(void)
     whole();
 }
 
-/* 15 stands after 11 and before 12; a save that is too short is 2. One call breaks all of these, and they are mended one by one. */
+/* 15 stands after 11, then come 14 and 12; a save that is too short is 2. One call breaks all of these, and they are mended one by one. */
 static void late_order(void)
 {
     static struct call k;
@@ -1596,13 +1699,15 @@ static void late_order(void)
     one_reading(&k, 1);
     k.flags[0] = 0;
     k.h[0] = 0;
+    k.zs[0] = 1;
+    listed(&k, 1);
     begins(&k);
     ends(STRETCH, &k, GOXUNDAR_ANSWERED);
     memcpy(saved, save, ONE_STATE);
     k.n = 4097;      /* 1 */
     k.rr[0] = 1e200; /* 11: its square overflows */
     k.y[0] = NAN;
-    goes_on(&k, saved);
+    goes_on(&k, saved);                /* 14: for the run's second period there is no design */
     saved[0] = 1;                      /* 15 */
     stretch.save_lent = ONE_STATE - 1; /* 2 */
     ends(STRETCH, &k, GOXUNDAR_DIMENSION);
@@ -1613,6 +1718,8 @@ static void late_order(void)
     k.rr[0] = 1;
     ends(STRETCH, &k, GOXUNDAR_BAD_SAVED);
     saved[0] = 0;
+    ends(STRETCH, &k, GOXUNDAR_LIST_SHORT);
+    k.repeats = 1;
     ends(STRETCH, &k, GOXUNDAR_NO_INFORMATION);
     stretch.last = 0;
     stretch.save_lent = ONE_STATE;
@@ -1631,7 +1738,7 @@ static void null_saved(void)
         uint32_t refusal;
         mark_all();
         refusal = goxundar_stretch(
-            1, 1, 1, 1, &one, 1, NULL, 0, &one, 1, &one, 1, &one, 1, &two, 1, &zero, 1, &zero, 1, &zero, 1, &zero, 1, &flag, 1, &two, 1,
+            1, 1, 1, 1, &one, 1, NULL, 0, 0, &one, 1, &one, 1, &one, 1, &two, 1, &zero, 1, &zero, 1, &zero, 1, &zero, 1, &flag, 1, &two, 1,
             (uint8_t)!goes, NULL, 0, 1,
             pred_mean, 2, pred_cov, 2, pred_inf, 2, filt_mean, 1, filt_cov, 1, kinds, 1, v, 1, f_star, 1, f_inf, 1, m_star, 1, m_inf, 1,
             NULL, 0, &answer.loglik, &answer.d_diffuse, &answer.heard, &answer.news, &answer.cov_off, &answer.mean_off);
@@ -1658,6 +1765,7 @@ int main(void)
         dimensions(which);
         lengths(which);
         designs(which);
+        short_lists(which);
         nulls(which);
         ran_off(which);
         left_out(which);

@@ -5,6 +5,7 @@ use parts::{needed, Answer, Inputs, Outcome, Outputs, Smoothed, FILTER_PARTS, SM
 use tsecon_ssm_probed::probe;
 
 use crate::marks;
+use crate::refuse::ORDER;
 
 /// Every number of a lent output part, before a call.
 pub const PATTERN: u64 = 0xA5A5_A5A5_A5A5_A5A5;
@@ -46,6 +47,8 @@ pub struct Case {
     pub n: usize,
     pub z: Vec<f64>,
     pub zs: Vec<f64>,
+    /// The marker: the last design repeats.
+    pub repeats: u8,
     pub h: Vec<f64>,
     pub t: Vec<f64>,
     pub rr: Vec<f64>,
@@ -142,6 +145,7 @@ impl Case {
             n: self.n,
             z: &self.z,
             zs: &self.zs,
+            repeats: self.repeats,
             h: &self.h,
             t: &self.t,
             rr: &self.rr,
@@ -172,6 +176,16 @@ impl Case {
             self.flags.iter().map(|&b| u64::from(b)).collect(),
             f(&self.y),
         ]
+    }
+
+    /// The constant design as a list, so many times over.
+    pub fn list(&mut self, count: usize) {
+        self.zs = std::mem::take(&mut self.z).repeat(count);
+    }
+
+    /// How many designs are listed. Sizes must be in their ranges.
+    pub fn listed(&self) -> usize {
+        self.zs.len() / (self.p * self.m)
     }
 
     /// Lends exactly what is needed. Sizes must be in their ranges.
@@ -302,10 +316,10 @@ pub fn run(case: &Case) -> Expected {
 /// The marks that show in the inputs, the outputs and the answer.
 fn mark(case: &Case, e: &mut Expected) {
     let mut set = |k: usize, b: bool| e.hits[k] = u64::from(b);
-    for k in 1..=12 {
+    for k in ORDER {
         set(
-            marks::REFUSAL + k as usize,
-            matches!(e.filter, Err(x) if x == k),
+            marks::refusal(k),
+            matches!(e.filter, Err(x) if x as usize == k),
         );
     }
     set(marks::SMOOTH_ONLY, e.filter.is_ok() && e.smooth.is_err());
@@ -333,9 +347,12 @@ fn mark(case: &Case, e: &mut Expected) {
     let size: f64 = last.iter().map(|x| x * x).sum();
     set(marks::PLACE_N, some);
     set(marks::PLACE_N_BELOW, some && size <= 1e-10);
-    let listed = case.zs.len() / (case.p * case.m);
-    set(marks::LIST_SHORT, listed > 0 && listed < case.n);
+    let listed = case.listed();
+    let short = listed > 0 && listed < case.n;
+    set(marks::LIST_SHORT, short);
     set(marks::LIST_LONG, listed > case.n);
+    set(marks::LIST_EXACT, listed == case.n);
+    set(marks::MARKED_IN_VAIN, case.repeats != 0 && !short);
     let need = needed(case.p, case.m, case.n);
     set(
         marks::TAIL,

@@ -21,6 +21,8 @@ pub struct Looked {
     pub second: u64,
     /// Calls with other offsets, whose means moved.
     pub offsets: u64,
+    /// Calls with other offsets that are refused 14.
+    pub short: u64,
 }
 
 /// Another finite number: any at all, the same with the other sign, 0, or
@@ -126,11 +128,12 @@ pub fn try_case(rng: &mut Rng, case: &Case, looked: &mut Looked) -> Result<(), S
         looked.first += 1;
     }
     // The offsets may bring about refusals 2, 6 and 7: of a call past 1 to
-    // 11 they are changed so that they do not.
-    if writes(&e.filter) {
+    // 11 they are changed so that they do not. 14 is judged before 6 and 7.
+    if writes(&e.filter) || matches!(e.filter, Err(14)) {
         let found = run(&other_offsets(rng, case));
         blind(&e, &found, "request k")?;
         looked.offsets += u64::from(found.written[0] != e.written[0]);
+        looked.short += u64::from(e.filter.is_err_and(|k| k == 14));
     }
     if !matches!(e.filter, Ok(a) if a.news > 0) {
         return Ok(());
@@ -157,8 +160,8 @@ pub fn command(cases: Cases, seed: u64, count: u64) -> Result<(), String> {
         try_case(&mut rng, &case, &mut looked).map_err(|e| format!("case {k}: {e}\n{case:?}"))?;
     }
     println!(
-        "demand 3: {count} cases, {} calls with other readings, {} skipped readings, {} calls with other offsets: nothing found",
-        looked.first, looked.second, looked.offsets
+        "demand 3: {count} cases, {} calls with other readings, {} skipped readings, {} calls with other offsets, {} refused 14: nothing found",
+        looked.first, looked.second, looked.offsets, looked.short
     );
     Ok(())
 }

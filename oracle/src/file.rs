@@ -4,12 +4,19 @@ use parts::SMOOTH_PARTS;
 
 use crate::case::{answer_words, Case, Expected, ANSWER};
 
-/// First word of a file: "GOXCASE2".
-pub const MAGIC: u64 = 0x474F_5843_4153_4532;
+/// First word of a file: "GOXCASE3".
+pub const MAGIC: u64 = 0x474F_5843_4153_4533;
 /// Words of the file's header.
 pub const HEADER_WORDS: usize = 5;
+/// Where the marker stands in a case, and where the lengths of the inputs do.
+pub const REPEATS_AT: usize = 6;
+pub const INPUTS_AT: usize = 7;
+/// Where the lengths lent stand.
+pub const LENT_AT: usize = INPUTS_AT + 12;
+/// Where the two refusals stand.
+pub const REFUSALS_AT: usize = LENT_AT + SMOOTH_PARTS;
 /// Where the answer stands in a case.
-pub const ANSWER_AT: usize = 33;
+pub const ANSWER_AT: usize = REFUSALS_AT + 2;
 /// Where the counts of what is written stand in a case.
 pub const COUNTS_AT: usize = ANSWER_AT + ANSWER;
 /// Words of a case before its inputs.
@@ -76,6 +83,7 @@ pub fn words(case: &Case, e: &Expected) -> Vec<u64> {
     let mut w = vec![0];
     w.push(mask(e));
     w.extend([case.p, case.m, case.r, case.n].map(|k| k as u64));
+    w.push(u64::from(case.repeats));
     w.extend(inputs.iter().map(|x| x.len() as u64));
     w.extend(case.lent.map(|k| k as u64));
     w.push(u64::from(e.filter.err().unwrap_or(0)));

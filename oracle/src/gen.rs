@@ -11,6 +11,7 @@ use crate::makers::{Flavour, Maker, Room};
 use crate::marks::Tally;
 use crate::offs::{Wish, WISHES};
 use crate::pointed;
+use crate::refuse;
 use crate::rng::Rng;
 
 /// What a case is made for.
@@ -27,6 +28,7 @@ pub enum Scene {
     /// Inflated until the reports are as wished.
     RanOff(Wish),
     Refused(usize),
+    /// Two refusals, the one that is judged first before the other.
     Pair(usize, usize),
 }
 
@@ -58,11 +60,11 @@ pub fn deck() -> Vec<Scene> {
     for w in WISHES {
         put(1, Scene::RanOff(w));
     }
-    for a in 1..=12 {
-        put(1, Scene::Refused(a));
-        for b in a + 1..=12 {
-            put(1, Scene::Pair(a, b));
-        }
+    for k in refuse::ORDER {
+        put(1, Scene::Refused(k));
+    }
+    for (a, b) in refuse::pairs() {
+        put(1, Scene::Pair(a, b));
     }
     // Mixed by a fixed shuffle, so that a short run sees every kind.
     let mut rng = Rng::new(0);

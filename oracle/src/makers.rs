@@ -1,7 +1,7 @@
-//! Makers of cases that refusals 1 to 11 let through: general ones, and one
-//! maker for each branch that chance alone would hardly take.
+//! Makers of cases that refusals 1 to 11 and 14 let through: general ones, and
+//! one maker for each branch that chance alone would hardly take.
 
-use parts::needed;
+use parts::{list_short, needed, Inputs};
 
 use crate::case::Case;
 use crate::rng::{pow2, Rng};
@@ -177,24 +177,35 @@ impl Maker<'_> {
     }
 
     /// Now and then turns a constant design into a list, shorter or longer
-    /// than n; entries differ if `vary`.
+    /// than n, and marks it where it must be; entries differ if `vary`.
     pub fn maybe_list(&mut self, case: &mut Case, flavour: Flavour, vary: bool) {
         if self.small() && self.rng.chance(3, 4) || self.rng.chance(1, 2) {
-            return;
+            return self.mark(case);
         }
         let count = self.rng.within(1, case.n + 2).min(MAX_N);
-        let first = std::mem::take(&mut case.z);
-        case.zs = first.clone();
-        for _ in 1..count {
-            if vary && self.rng.chance(2, 3) {
+        let one = case.z.len();
+        case.list(count);
+        for k in (1..count).filter(|_| vary) {
+            if self.rng.chance(2, 3) {
                 let scale = self.scale(flavour);
-                for _ in 0..first.len() {
-                    let x = self.number(flavour, scale);
-                    case.zs.push(x);
+                for x in &mut case.zs[k * one..(k + 1) * one] {
+                    *x = self.number(flavour, scale);
                 }
-            } else {
-                case.zs.extend_from_slice(&first);
             }
+        }
+        self.mark(case);
+    }
+
+    /// Marks a list that is shorter than n, whose last design then repeats;
+    /// and now and then what needs no marker.
+    pub fn mark(&mut self, case: &mut Case) {
+        let unmarked = Inputs {
+            repeats: 0,
+            ..case.inputs()
+        };
+        let short = list_short(&unmarked, case.n);
+        if short || self.rng.chance(1, 4) {
+            case.repeats = self.rng.marker();
         }
     }
 
@@ -445,6 +456,7 @@ impl Maker<'_> {
         };
         case.z = widen(&old.z);
         case.zs = widen(&old.zs);
+        case.repeats = old.repeats;
         case.h = old.h;
         case.q = old.q;
         case.y = old.y;

@@ -3,6 +3,8 @@
 
 use tsecon_ssm_probed::probe::{Branch, BRANCHES};
 
+use crate::refuse::pairs;
+
 /// Names of the marks, in the order of their bits.
 pub const NAMES: [&str; COUNT] = [
     "gap",
@@ -32,7 +34,7 @@ pub const NAMES: [&str; COUNT] = [
     "the same, below the tolerance",
     "signed zero in an output",
     "subnormal in an output",
-    "listed Z, shorter than n",
+    "listed Z, shorter than n, marked",
     "listed Z, longer than n",
     "longer outputs than needed",
     "known start",
@@ -55,10 +57,13 @@ pub const NAMES: [&str; COUNT] = [
     "refusal 12",
     "covariance report",
     "mean report",
+    "refusal 14",
+    "marked, and nothing repeats",
+    "listed Z, of n designs",
 ];
 
 /// Count of marks.
-pub const COUNT: usize = BRANCHES + 30;
+pub const COUNT: usize = BRANCHES + 33;
 
 pub const D_DIFFUSE: usize = BRANCHES;
 pub const INFINITY: usize = BRANCHES + 1;
@@ -76,10 +81,22 @@ pub const MIXED: usize = BRANCHES + 12;
 pub const ODD_NAN: usize = BRANCHES + 13;
 pub const ALL_GAPS: usize = BRANCHES + 14;
 pub const SMOOTH_ONLY: usize = BRANCHES + 15;
-/// Refusal k is mark `REFUSAL + k`.
+/// Refusal k is mark `REFUSAL + k`, for 1 to 12.
 pub const REFUSAL: usize = BRANCHES + 15;
 pub const COV_OFF: usize = BRANCHES + 28;
 pub const MEAN_OFF: usize = BRANCHES + 29;
+pub const REFUSAL_14: usize = BRANCHES + 30;
+pub const MARKED_IN_VAIN: usize = BRANCHES + 31;
+pub const LIST_EXACT: usize = BRANCHES + 32;
+
+/// The mark of a refusal.
+pub fn refusal(k: usize) -> usize {
+    if k == 14 {
+        REFUSAL_14
+    } else {
+        REFUSAL + k
+    }
+}
 
 /// The bit of a branch.
 pub fn bit(b: Branch) -> u64 {
@@ -94,7 +111,7 @@ pub struct Tally {
     pub hits: [u64; COUNT],
     pub in_cases: [u64; COUNT],
     /// Pairs of refusals that were made to hold together.
-    pub pairs: [[u64; 13]; 13],
+    pub pairs: [[u64; 15]; 15],
 }
 
 impl Default for Tally {
@@ -103,7 +120,7 @@ impl Default for Tally {
             cases: 0,
             hits: [0; COUNT],
             in_cases: [0; COUNT],
-            pairs: [[0; 13]; 13],
+            pairs: [[0; 15]; 15],
         }
     }
 }
@@ -131,15 +148,13 @@ impl Tally {
         for (k, name) in NAMES.iter().enumerate() {
             println!("{:<42}{:>10}{:>10}", name, self.hits[k], self.in_cases[k]);
         }
-        let mut least = u64::MAX;
-        let mut kinds = 0;
-        for a in 1..=12 {
-            for b in a + 1..=12 {
-                least = least.min(self.pairs[a][b]);
-                kinds += usize::from(self.pairs[a][b] > 0);
-            }
-        }
-        println!("pairs of refusals: {kinds} of 66, each at least {least} times");
+        let pairs: Vec<u64> = pairs().map(|(a, b)| self.pairs[a][b]).collect();
+        let kinds = pairs.iter().filter(|&&count| count > 0).count();
+        let least = pairs.iter().min().unwrap();
+        println!(
+            "pairs of refusals: {kinds} of {}, each at least {least} times",
+            pairs.len()
+        );
         println!("rarest mark: in {} cases", self.rarest());
     }
 }

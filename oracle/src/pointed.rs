@@ -8,8 +8,13 @@ use crate::rng::pow2;
 
 /// Count of kinds.
 pub const KINDS: usize = OFFS + offs::WAYS;
+/// Kinds of lists: a short one that has as many numbers as there are periods,
+/// one that is marked by another byte than 1; and a marked constant design.
+pub const NUMBERS: usize = 24;
+pub const OTHER_BYTE: usize = 25;
+pub const CONSTANT: usize = 26;
 /// From this kind on: numbers that run off, or only seem to (`offs`).
-pub const OFFS: usize = 22;
+pub const OFFS: usize = 28;
 
 /// The slip that each kind is pointed at.
 pub const SLIPS: [&str; KINDS] = [
@@ -35,6 +40,12 @@ pub const SLIPS: [&str; KINDS] = [
     "the star root's F at its tolerance accepted",
     "F* at its tolerance accepted",
     "P∞ at its tolerance taken as diffuse",
+    "a list of n designs refused",
+    "a list of n - 1 designs let through",
+    "a list's numbers counted for its designs",
+    "a marker of another byte than 1 not seen",
+    "a marked constant design refused",
+    "4097 designs let through by the marker",
     "an overflow by R·Q·R' alone not told",
     "a covariance at place n told",
     "a P∞ at place n told",
@@ -72,10 +83,26 @@ impl Maker<'_> {
             11 => self.infinite_downdate(2),
             12 => self.logarithm_at_half(),
             13 => self.spoilt_past_the_end(),
-            14 => self.long_list(0),
-            15 => self.long_list(1),
+            14 => {
+                let repeats = self.rng.maybe_marker(1, 2);
+                self.long_list(0, repeats)
+            }
+            15 => self.long_list(1, 0),
             16 => self.negative_pivot(),
-            17..OFFS => self.at_tolerance_of(kind - 17),
+            17..22 => self.at_tolerance_of(kind - 17),
+            22 => self.exact_list(),
+            23 => self.short_list(),
+            NUMBERS => self.more_numbers_than_periods(),
+            OTHER_BYTE => {
+                let mut case = self.short_list();
+                case.repeats = self.rng.pick(&[2, 16, 128, 254, 255]);
+                case
+            }
+            CONSTANT => self.marked_constant(),
+            27 => {
+                let repeats = self.rng.marker();
+                self.long_list(1, repeats)
+            }
             _ => self.runs_off(kind - OFFS),
         }
     }
@@ -267,7 +294,51 @@ impl Maker<'_> {
         case.z = vec![];
         case.zs = vec![1.0, 1.0, 1.0, 0.0, 1.0, 1.0];
         case.zs[4 + self.rng.below(2)] = self.rng.gap();
+        case.repeats = self.rng.maybe_marker(1, 2);
         case.h = vec![1.0];
+        case
+    }
+
+    /// A case of one element and one or two states, with a list of as many
+    /// designs as it has periods, no two alike.
+    fn exact_list(&mut self) -> Case {
+        let m = self.rng.within(1, 2);
+        let n = self.rng.within(2, 4);
+        let mut case = self.bare(1, m, n);
+        case.list(n);
+        for (k, x) in case.zs.iter_mut().enumerate() {
+            *x = (k + 1) as f64 * 0.25;
+        }
+        case.p_star[0] = 1.0;
+        case.h = vec![1.0];
+        self.short_readings(&mut case);
+        case
+    }
+
+    /// The same, with a design less.
+    fn short_list(&mut self) -> Case {
+        let mut case = self.exact_list();
+        case.zs.truncate((case.n - 1) * case.m);
+        case
+    }
+
+    /// A list that falls short, with as many numbers as there are periods or
+    /// more: a design has two.
+    fn more_numbers_than_periods(&mut self) -> Case {
+        let n = self.rng.within(2, 4);
+        let mut case = self.bare(1, 2, n);
+        let least = n.div_ceil(2);
+        case.list(self.rng.within(least, n - 1));
+        case.h = vec![1.0];
+        case
+    }
+
+    /// The marker is void.
+    fn marked_constant(&mut self) -> Case {
+        let mut case = self.exact_list();
+        case.z = case.zs[..case.m].to_vec();
+        case.zs.clear();
+        case.repeats = self.rng.marker();
         case
     }
 

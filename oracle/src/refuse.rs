@@ -1,4 +1,5 @@
 //! Cases that are refused: each refusal alone, and each two together.
+//! Refusal 14 is right after 2.
 
 use parts::{Inputs, MAX_PERIODS};
 use tsecon_linalg::faer::Mat;
@@ -6,6 +7,16 @@ use tsecon_linalg::faer::Mat;
 use crate::case::Case;
 use crate::makers::Maker;
 use crate::rng::Rng;
+
+/// The refusals of the filter's call and the smoother's, in the order in which
+/// they are judged.
+pub const ORDER: [usize; 13] = [1, 2, 14, 3, 4, 5, 6, 7, 8, 9, 10, 11, 12];
+
+/// Each two of them, the first one first.
+pub fn pairs() -> impl Iterator<Item = (usize, usize)> {
+    let after = |k: usize| ORDER[k + 1..].iter().map(move |&b| (ORDER[k], b));
+    (0..ORDER.len()).flat_map(after)
+}
 
 /// 11: R·Q·R', symmetrised, has a non-finite entry.
 pub fn non_finite_noise(i: &Inputs<'_>) -> bool {
@@ -15,8 +26,8 @@ pub fn non_finite_noise(i: &Inputs<'_>) -> bool {
     tsecon_linalg::symmetrize(prod.as_ref()).is_err()
 }
 
-/// Whether refusal k, 3 to 11, would be given if no other were. Sizes and
-/// lengths must be right.
+/// Whether refusal k, 3 to 11 or 14, would be given if no other were. Sizes
+/// and lengths must be right.
 pub fn holds(k: usize, i: &Inputs<'_>) -> bool {
     match k {
         3 => parts::non_finite_system(i),
@@ -28,6 +39,7 @@ pub fn holds(k: usize, i: &Inputs<'_>) -> bool {
         9 => parts::infinite_reading(i),
         10 => parts::mixed_driven(i),
         11 => non_finite_noise(i),
+        14 => parts::list_short(i, i.n),
         _ => unreachable!(),
     }
 }
@@ -52,12 +64,13 @@ fn some_non_zero(rng: &mut Rng) -> f64 {
 
 impl Maker<'_> {
     /// A base that can carry these refusals: room for an entry off the
-    /// diagonal, one state flagged and one not, and a run that would find no
-    /// news if 12 is among them. Small only if the room is small.
+    /// diagonal, one state flagged and one not, a run that would find no news
+    /// if 12 is among them, and a list that falls short if 14 is. Small only
+    /// if the room is small.
     fn base(&mut self, refusals: &[usize]) -> Case {
         let small = self.small();
         let wants = |of: &[usize]| !small || of.iter().any(|k| refusals.contains(k));
-        let silent = refusals.contains(&12);
+        let (silent, short) = (refusals.contains(&12), refusals.contains(&14));
         let p = if wants(&[8]) { 2 } else { 1 };
         let r = if wants(&[5]) { 2 } else { 1 };
         let m = match wants(&[7, 10, 11]) {
@@ -65,7 +78,12 @@ impl Maker<'_> {
             true => self.rng.within(2, 3),
             false => 1,
         };
-        let n = if small { 1 } else { self.rng.within(1, 2) };
+        let n = match short {
+            true if small => 2,
+            true => self.rng.within(2, 4),
+            false if small => 1,
+            false => self.rng.within(1, 2),
+        };
         let mut case = self.bare(p, m, n);
         case.r = r;
         case.rr = (0..m * r).map(|_| self.any()).collect();
@@ -80,12 +98,13 @@ impl Maker<'_> {
             case.flags[1] = 1;
             case.p_star[0] = 1.0;
         }
-        if !small && self.rng.chance(1, 3) {
-            // A list, longer than n.
-            let z = std::mem::take(&mut case.z);
-            for _ in 0..n + 1 {
-                case.zs.extend_from_slice(&z);
+        if short {
+            case.list(self.rng.within(1, n - 1));
+        } else {
+            if !small && self.rng.chance(1, 3) {
+                case.list(self.rng.within(1, n + 1));
             }
+            self.mark(&mut case);
         }
         if silent {
             case.z.fill(0.0);
@@ -292,18 +311,21 @@ impl Maker<'_> {
         case
     }
 
-    /// A list of 4096 designs, which is fine, and `more`, which is not.
-    pub(crate) fn long_list(&mut self, more: usize) -> Case {
+    /// A list of 4096 designs, which is fine, and `more`, which is not, with
+    /// this marker.
+    pub(crate) fn long_list(&mut self, more: usize, repeats: u8) -> Case {
         let mut case = self.bare(1, 1, 1);
-        case.z = vec![];
-        case.zs = vec![1.0; MAX_PERIODS + more];
+        case.list(MAX_PERIODS + more);
+        case.repeats = repeats;
         case.h = vec![1.0];
         case
     }
 
-    /// Only the smoother's own parts are too short.
+    /// Only the smoother's own parts are too short; now and then the list is
+    /// too, which the filter's call alone sees then.
     pub fn smoother_alone(&mut self) -> Case {
-        let mut case = self.base(&[]);
+        let list: &[usize] = if self.rng.chance(1, 4) { &[14] } else { &[] };
+        let mut case = self.base(list);
         let at = parts::FILTER_PARTS + self.rng.below(2);
         let need = parts::needed(case.p, case.m, case.n)[at];
         case.lent[at] = self.rng.pick(&[0, need - 1]);
@@ -355,7 +377,7 @@ impl Maker<'_> {
         }
     }
 
-    /// Refusals a and b together, a < b.
+    /// Refusals a and b together, a judged first.
     pub fn refused_twice(&mut self, a: usize, b: usize) -> Case {
         let mut case = self.base(&[a, b]);
         let spoilt: Vec<usize> = [a, b]

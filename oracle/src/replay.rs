@@ -5,8 +5,8 @@ use parts::{Inputs, Outcome, Outputs, Smoothed, FILTER_PARTS, SMOOTH_PARTS};
 
 use crate::case::{answer_words, one_nan, Buffers, Case};
 use crate::case::{ANSWER, OUTPUT_NAMES, PATTERN, PATTERN_BYTE};
-use crate::file::{ANSWER_AT, COUNTS_AT, HEADER_WORDS, HEAD_WORDS, MAGIC};
-use crate::file::{MAX_CASE_WORDS, MAX_LIST, MAX_PART};
+use crate::file::{ANSWER_AT, COUNTS_AT, INPUTS_AT, LENT_AT, REFUSALS_AT, REPEATS_AT};
+use crate::file::{HEADER_WORDS, HEAD_WORDS, MAGIC, MAX_CASE_WORDS, MAX_LIST, MAX_PART};
 
 /// The two calls under test.
 pub trait Calls {
@@ -78,7 +78,7 @@ fn read_case(w: &[u64]) -> Result<Filed, String> {
     };
     let mut inputs: [&[u64]; 12] = [&[]; 12];
     for k in 0..12 {
-        inputs[k] = next(w[6 + k])?;
+        inputs[k] = next(w[INPUTS_AT + k])?;
     }
     let mut written: [Vec<u64>; SMOOTH_PARTS] = Default::default();
     for k in 0..SMOOTH_PARTS {
@@ -95,6 +95,7 @@ fn read_case(w: &[u64]) -> Result<Filed, String> {
         n: w[5] as usize,
         z: f(0),
         zs: f(1),
+        repeats: w[REPEATS_AT] as u8,
         h: f(2),
         t: f(3),
         rr: f(4),
@@ -105,14 +106,14 @@ fn read_case(w: &[u64]) -> Result<Filed, String> {
         p_star: f(9),
         flags: inputs[10].iter().map(|&b| b as u8).collect(),
         y: f(11),
-        lent: std::array::from_fn(|k| w[18 + k] as usize),
+        lent: std::array::from_fn(|k| w[LENT_AT + k] as usize),
         pair: None,
     };
     Ok(Filed {
         case,
         marks: w[1],
-        filter_refusal: w[31],
-        smooth_refusal: w[32],
+        filter_refusal: w[REFUSALS_AT],
+        smooth_refusal: w[REFUSALS_AT + 1],
         answer: std::array::from_fn(|k| w[ANSWER_AT + k]),
         written,
     })

@@ -61,6 +61,24 @@ impl Rng {
         }
     }
 
+    /// A marker that is set: any byte but 0, often 1.
+    pub fn marker(&mut self) -> u8 {
+        match self.below(4) {
+            0 | 1 => 1,
+            2 => self.within(1, 255) as u8,
+            _ => self.pick(&[2, 128, 254, 255]),
+        }
+    }
+
+    /// A marker that is set a times in b.
+    pub fn maybe_marker(&mut self, a: usize, b: usize) -> u8 {
+        if self.chance(a, b) {
+            self.marker()
+        } else {
+            0
+        }
+    }
+
     /// A NaN, often with odd bits: any sign, quiet or signalling.
     pub fn gap(&mut self) -> f64 {
         if self.chance(1, 2) {

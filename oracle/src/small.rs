@@ -8,7 +8,7 @@ use crate::file::mask;
 use crate::gen::{check_scene, deck, make, Scene};
 use crate::makers::Room;
 use crate::marks;
-use crate::pointed::OFFS;
+use crate::pointed;
 use crate::rng::Rng;
 
 /// Candidates that the cases are chosen from.
@@ -18,6 +18,18 @@ const CANDIDATES: u64 = 30_000;
 /// them apart: at place n, by P∞, by a P∞ that is cleared or was off for a
 /// while, filtered, symmetrised, by T, and both reports in turn.
 const WAYS: [usize; 8] = [1, 3, 4, 5, 6, 7, 13, 16];
+
+/// And refusal 14 beside what is judged before and after it, and of a list
+/// that has as many numbers as there are periods; a short list that is marked
+/// by another byte than 1, and a marked constant design.
+const MARKED: [Scene; 6] = [
+    Scene::Pair(2, 14),
+    Scene::Pair(14, 3),
+    Scene::Pair(14, 12),
+    Scene::Pointed(pointed::NUMBERS),
+    Scene::Pointed(pointed::OTHER_BYTE),
+    Scene::Pointed(pointed::CONSTANT),
+];
 
 /// Marks that a small case can't have or need not show.
 fn unwanted() -> u64 {
@@ -53,7 +65,7 @@ fn cost(case: &Case) -> f64 {
 }
 
 /// Cases that between them have every mark that a small case can have; then
-/// some ways of running off, then further ones.
+/// some ways of running off and short lists, then further ones.
 pub fn choose(seed: u64, count: usize) -> Vec<(Case, Expected)> {
     let mut scenes = deck();
     scenes.sort_by_key(|s| format!("{s:?}"));
@@ -104,8 +116,8 @@ pub fn choose(seed: u64, count: usize) -> Vec<(Case, Expected)> {
             chosen.push(best);
         }
     }
-    for way in WAYS {
-        let scene = Scene::Pointed(OFFS + way);
+    let ways = WAYS.map(|way| Scene::Pointed(pointed::OFFS + way));
+    for scene in ways.into_iter().chain(MARKED) {
         let shown = chosen.iter().any(|&i| pool[i].1 == scene);
         let first = pool.iter().position(|x| x.1 == scene);
         if let Some(i) = first.filter(|_| !shown && chosen.len() < count) {
@@ -141,16 +153,11 @@ pub(crate) fn plain(words: impl Iterator<Item = u64>) -> String {
     words.map(|w| format!(" {w}")).collect()
 }
 
-/// One case as text.
-pub fn text(number: usize, case: &Case, e: &Expected) -> String {
-    let mut s = format!("case {number}\n");
-    let names: Vec<&str> = (0..marks::COUNT)
-        .filter(|&k| e.hits[k] > 0)
-        .map(|k| marks::NAMES[k])
-        .collect();
-    s += &format!("marks {}\n", names.join("; "));
+/// What is handed in, as text: the sizes, the marker, the inputs.
+pub(crate) fn handed(case: &Case) -> String {
     let sizes = [case.p, case.m, case.r, case.n];
-    s += &format!("sizes{}\n", plain(sizes.iter().map(|&k| k as u64)));
+    let mut s = format!("sizes{}\n", plain(sizes.iter().map(|&k| k as u64)));
+    s += &format!("repeats {}\n", case.repeats);
     for (name, words) in INPUT_NAMES.iter().zip(case.input_words()) {
         let values = if *name == "flags" {
             plain(words.into_iter())
@@ -159,6 +166,18 @@ pub fn text(number: usize, case: &Case, e: &Expected) -> String {
         };
         s += &format!("in {name}{values}\n");
     }
+    s
+}
+
+/// One case as text.
+pub fn text(number: usize, case: &Case, e: &Expected) -> String {
+    let mut s = format!("case {number}\n");
+    let names: Vec<&str> = (0..marks::COUNT)
+        .filter(|&k| e.hits[k] > 0)
+        .map(|k| marks::NAMES[k])
+        .collect();
+    s += &format!("marks {}\n", names.join("; "));
+    s += &handed(case);
     s += &format!("lent{}\n", plain(case.lent.iter().map(|&k| k as u64)));
     for (name, o) in [("filter", &e.filter), ("smooth", &e.smooth)] {
         s += &match outcome(o) {

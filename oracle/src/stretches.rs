@@ -1,13 +1,13 @@
 //! Small stretches as text: runs that are cut, some of them where numbers run
-//! off, each refusal of a stretch, saved bytes altered in each way. See
-//! FORMAT.md.
+//! off, each refusal of a stretch, saved bytes altered in each way, lists that
+//! reach so far, marked and unmarked. See FORMAT.md.
 
 use parts::{encode, needed, saved_len, section_counts, Carried, Inputs, Outcome, Stretch};
 
-use crate::case::{one_nan, Buffers, Case, INPUT_NAMES, OUTPUT_NAMES, PATTERN_BYTE};
+use crate::case::{one_nan, Buffers, Case, OUTPUT_NAMES, PATTERN_BYTE};
 use crate::makers::{Maker, Room};
 use crate::rng::Rng;
-use crate::small::{choose, hex, outcome, plain};
+use crate::small::{choose, handed, hex, outcome, plain};
 use crate::uncut::{uncut, Uncut};
 
 /// A call of a stretch, and what it must answer and leave.
@@ -194,11 +194,95 @@ fn further(list: &mut Vec<Made>) {
     let bytes = encode(1, 2, 1, &state);
     let one = part(&mixed, 1, 2);
     list.push(make("spare column", one, 0, &bytes, 0, saved_len(2)));
-    let mut listed = by_hand([1, 1]);
-    listed.z.clear();
-    listed.zs = vec![1.0, 0.0, 1.0, 1.0];
+    let listed = listed(2, 0);
     let u = uncut(&listed.inputs()).expect("it runs");
     cut_up(&listed, &u, 1, list);
+}
+
+/// Lists of designs (document 02, request d), as far as they reach: a list of
+/// `designs` for the run's two periods, with this marker.
+fn listed(designs: usize, repeats: u8) -> Case {
+    let mut case = by_hand([1, 1]);
+    case.z.clear();
+    case.zs = [1.0, 0.0, 1.0, 1.0, 0.5, 2.0][..2 * designs].to_vec();
+    case.repeats = repeats;
+    case
+}
+
+/// What a list's reach makes of a stretch. It counts from the run's first
+/// period, and is judged right after the saved bytes.
+fn reached(list: &mut Vec<Made>) {
+    let room = saved_len(2);
+    let marked = listed(1, 1);
+    let u = uncut(&marked.inputs()).expect("it runs");
+    let [begun, after_one, after_two] = [0, 1, 2].map(|k| encode(1, 2, 1, &u.states[k]));
+    let mut put = |what: &str, case: Case, from: &[u8], last: u8| {
+        let begins = u8::from(from.is_empty());
+        list.push(make(what, case, begins, from, last, room));
+    };
+    // What, designs, marker, periods, bytes, marked last.
+    let asked: [(&str, usize, u8, usize, &[u8], u8); 19] = [
+        ("a list of one design, no period", 1, 0, 0, &[], 0),
+        ("reached by itself", 1, 0, 1, &[], 0),
+        ("14: not reached", 1, 0, 2, &[], 0),
+        ("14: not reached, the last", 1, 0, 2, &[], 1),
+        ("marked", 1, 1, 2, &[], 0),
+        ("reached by itself, from bytes", 1, 0, 1, &begun, 0),
+        ("14: not reached, from bytes", 1, 0, 2, &begun, 0),
+        ("14: by the periods done", 1, 0, 1, &after_one, 0),
+        ("14: by the periods done, the last", 1, 0, 1, &after_one, 9),
+        ("marked, going on", 1, 2, 1, &after_one, 0),
+        ("marked, going on, the last", 1, 255, 1, &after_one, 1),
+        ("no period, done as far as the list", 1, 0, 0, &after_one, 0),
+        ("14: no period, done past the list", 1, 0, 0, &after_two, 0),
+        (
+            "marked, no period, done past the list",
+            1,
+            128,
+            0,
+            &after_two,
+            0,
+        ),
+        ("reached with the periods done", 2, 0, 1, &after_one, 1),
+        ("marked, and reached", 2, 1, 1, &after_one, 1),
+        ("14: the list ended before", 2, 0, 1, &after_two, 0),
+        ("marked, the last design again", 2, 1, 1, &after_two, 0),
+        ("a longer list", 3, 0, 1, &after_one, 1),
+    ];
+    for (what, designs, repeats, n, from, last) in asked {
+        let case = part(&listed(designs, repeats), 0, n);
+        put(what, case, from, last);
+    }
+    let mut constant = part(&by_hand([1, 1]), 1, 2);
+    constant.repeats = 3;
+    put("marked, a constant design", constant, &after_one, 0);
+    // What comes before 14, and what after it.
+    let short = || part(&listed(1, 0), 1, 2);
+    put("15 and 14", short(), &after_one[1..], 0);
+    let mut with_nan = short();
+    with_nan.zs[1] = f64::NAN;
+    put("3 and 14", with_nan, &after_one, 0);
+    let mut infinite = short();
+    infinite.y[0] = f64::INFINITY;
+    put("9 and 14", infinite, &after_one, 0);
+    let mut noisy = short();
+    noisy.rr[1] = 1e200;
+    put("11 and 14", noisy, &after_one, 0);
+    let mut past = listed(3, 0);
+    past.zs[5] = f64::NEG_INFINITY;
+    put("3, past the run's end", part(&past, 1, 2), &after_one, 1);
+    let mut silent = u.states[1].clone();
+    silent.news = 0;
+    let bytes = encode(1, 2, 1, &silent);
+    let unheard = || {
+        let mut case = short();
+        case.y[0] = f64::NAN;
+        case
+    };
+    put("14 and 12", unheard(), &bytes, 1);
+    let mut repeated = unheard();
+    repeated.repeats = 1;
+    put("marked, and 12", repeated, &bytes, 1);
 }
 
 /// Runs whose numbers run off (`offs`), cut before and after that: what an
@@ -221,8 +305,8 @@ fn off_and_cut(seed: u64, list: &mut Vec<Made>) {
 pub fn stretches(seed: u64) -> Vec<Made> {
     let mut list = Vec::new();
     let (mut cuts, mut silent) = ([0, 0], 0);
-    let mut refused = [false; 12];
-    for (case, _) in choose(seed, 40) {
+    let mut refused = [false; 15];
+    for (case, _) in choose(seed, 44) {
         match uncut(&case.inputs()) {
             Err(k) => {
                 // With bytes that are bad too; n = 0 is no refusal here.
@@ -259,6 +343,7 @@ pub fn stretches(seed: u64) -> Vec<Made> {
     altered(&case, &u.states[1], &mut list);
     further(&mut list);
     off_and_cut(seed, &mut list);
+    reached(&mut list);
     list
 }
 
@@ -266,17 +351,7 @@ pub fn stretches(seed: u64) -> Vec<Made> {
 pub fn text(number: usize, k: &Made) -> String {
     let bytes = |x: &[u8]| plain(x.iter().map(|&b| u64::from(b)));
     let mut s = format!("stretch {number}\nmarks {}\n", k.what);
-    let sizes = [k.case.p, k.case.m, k.case.r, k.case.n];
-    s += &format!("sizes{}\n", plain(sizes.iter().map(|&x| x as u64)));
-    for (name, words) in INPUT_NAMES.iter().zip(k.case.input_words()) {
-        let flags = *name == "flags";
-        let values = if flags {
-            plain(words.into_iter())
-        } else {
-            hex(&words)
-        };
-        s += &format!("in {name}{values}\n");
-    }
+    s += &handed(&k.case);
     s += &format!(
         "begins {}\nlast {}\nsaved{}\n",
         k.begins,

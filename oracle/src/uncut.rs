@@ -17,7 +17,7 @@ pub struct Uncut {
     pub states: Vec<Carried>,
 }
 
-/// The run, with room lent for its outputs; or refusal 1 to 11.
+/// The run, with room lent for its outputs; or refusal 1 to 11 or 14.
 pub fn uncut(i: &Inputs<'_>) -> Result<Uncut, u32> {
     let sized = [i.p, i.m, i.r].iter().all(|k| (1..=8).contains(k)) && (1..=4096).contains(&i.n);
     if !sized {
@@ -26,8 +26,9 @@ pub fn uncut(i: &Inputs<'_>) -> Result<Uncut, u32> {
     let lent = needed(i.p, i.m, i.n);
     let mut whole = Buffers::patterned(&lent);
     let outcome = tsecon_ssm::filter_call(i, &mut whole.lend().0);
-    if let Err(k @ 1..=11) = outcome {
-        return Err(k);
+    match outcome {
+        Err(k) if k != 12 => return Err(k),
+        _ => {}
     }
     let begun = Stretch {
         begins: 1,

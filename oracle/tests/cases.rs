@@ -1,10 +1,11 @@
-//! The made cases: branches, numbers that run off, the fixed list, the
-//! reader, demand 3, request k.
+//! The made cases: branches, numbers that run off, lists of designs and their
+//! marker, the fixed list, the reader, demand 3, request k.
 
-use oracle::case::{probe_hits, run, Case};
+use oracle::case::{probe_hits, run, same_answer, Case, Expected};
 use oracle::gen::{check_scene, Cases, Scene};
 use oracle::makers::{Maker, Room};
 use oracle::marks::{self, Tally};
+use oracle::refuse::{pairs, ORDER};
 use oracle::replay::{read, replay, Calls, Oracle};
 use oracle::rng::Rng;
 use oracle::{demand3, list, offs, pointed, small};
@@ -23,10 +24,8 @@ fn no_branch_is_rare() {
             tally.add(&e.hits, case.pair);
         }
         assert!(tally.rarest() >= 50, "seed {seed}: {tally:?}");
-        for a in 1..=12 {
-            for b in a + 1..=12 {
-                assert!(tally.pairs[a][b] >= 50, "refusals {a} and {b}");
-            }
+        for (a, b) in pairs() {
+            assert!(tally.pairs[a][b] >= 50, "refusals {a} and {b}");
         }
     }
 }
@@ -57,11 +56,28 @@ struct Wrong(usize);
 
 impl Calls for Wrong {
     fn filter(&mut self, i: &Inputs<'_>, o: &mut Outputs<'_>) -> Outcome {
+        let marked_by = |repeats: u8| Inputs { repeats, ..*i };
+        let listed = i.zs.len() / (i.p * i.m).max(1);
         let got = match self.0 {
             0 => return Err(1),
+            // The marker: not seen, always taken as set, by its lowest bit.
+            12 => tsecon_ssm::filter_call(&marked_by(0), o),
+            13 => tsecon_ssm::filter_call(&marked_by(1), o),
+            14 => tsecon_ssm::filter_call(&marked_by(i.repeats & 1), o),
             _ => tsecon_ssm::filter_call(i, o),
         };
         match (self.0, got) {
+            // Refusal 14: of a list that reaches n, of a constant design, of
+            // a marked one, before 2, after 3, with blank outputs.
+            (15, Ok(_)) if listed == i.n => Err(14),
+            (16, Ok(_)) if listed == 0 && i.n > 1 => Err(14),
+            (17, Ok(_)) if listed == 0 && i.repeats != 0 => Err(14),
+            (18, Err(2)) if listed > 0 && listed < i.n && i.repeats == 0 => Err(14),
+            (19, Err(14)) if parts::non_finite_system(i) => Err(3),
+            (20, Err(14)) => {
+                o.blank(i.p, i.m, i.n);
+                Err(14)
+            }
             (1, Ok(mut a)) => {
                 a.heard += 1;
                 Ok(a)
@@ -110,10 +126,100 @@ impl Calls for Wrong {
 
 #[test]
 fn the_reader_finds_wrong_versions() {
-    for k in (0..=5).chain(7..=11) {
+    for k in (0..=5).chain(7..=20) {
         assert!(replay(COMMITTED, &mut Wrong(k)).is_err(), "version {k}");
     }
     assert!(replay(COMMITTED, &mut Wrong(6)).is_ok());
+}
+
+/// A case of one element, two states and a list of so many designs, all
+/// different.
+fn with_list(n: usize, count: usize, repeats: u8) -> Case {
+    let mut rng = Rng::new(8);
+    let mut mk = Maker {
+        rng: &mut rng,
+        room: Room::Usual,
+    };
+    let mut case = mk.bare(1, 2, n);
+    case.list(count);
+    for (k, x) in case.zs.iter_mut().enumerate() {
+        *x += k as f64 * 0.125;
+    }
+    case.repeats = repeats;
+    case.h = vec![1.0];
+    case.q = vec![1.0];
+    case
+}
+
+/// A list of n designs, one less, one more, one, and the most that there may
+/// be: refused where it falls short, unless it is marked.
+#[test]
+fn a_list_must_reach_n() {
+    for n in [1, 2, 3, 5, 20, 4095, 4096] {
+        for count in [1, n - 1, n, n + 1, 4096] {
+            if count == 0 {
+                continue;
+            }
+            for repeats in [0, 1, 2, 128, 255] {
+                let e = run(&with_list(n, count, repeats));
+                let due = match count {
+                    4097 => Some(2),
+                    _ if count < n && repeats == 0 => Some(14),
+                    _ => None,
+                };
+                for got in [e.filter, e.smooth] {
+                    assert_eq!(got.err(), due, "{count} designs, n {n}, {repeats}");
+                }
+                let wrote = e.written.iter().any(|w| !w.is_empty());
+                assert_eq!(wrote, due.is_none());
+            }
+        }
+    }
+}
+
+/// Both answer and write the same.
+fn agree(a: &Expected, b: &Expected) -> bool {
+    same_answer(&a.filter, &b.filter) && same_answer(&a.smooth, &b.smooth) && a.written == b.written
+}
+
+/// A marked list that is short is the list that has its last design again, up
+/// to n; of any other design the marker has no effect. Unmarked, a short list
+/// is refused 14.
+#[test]
+fn a_marked_list_repeats_its_last_design() {
+    let (mut repeated, mut in_vain, mut refused) = (0, 0, 0);
+    let mut rng = Rng::new(4);
+    for (_, case) in Cases::new(31).take(6_000) {
+        let e = run(&case);
+        if matches!(e.filter, Err(1 | 2)) {
+            continue;
+        }
+        let with = |repeats: u8| {
+            let mut other = case.clone();
+            other.repeats = repeats;
+            other
+        };
+        let (unmarked, marked) = (run(&with(0)), run(&with(rng.marker())));
+        let listed = case.listed();
+        if listed == 0 || listed >= case.n {
+            assert!(agree(&unmarked, &marked));
+            in_vain += 1;
+            continue;
+        }
+        let last = &case.zs[(listed - 1) * case.p * case.m..];
+        let mut whole = with(0);
+        (listed..case.n).for_each(|_| whole.zs.extend(last));
+        assert!(agree(&marked, &run(&whole)));
+        assert_eq!(unmarked.filter.err(), Some(14));
+        // The smoother's own parts may be too short, which is judged before.
+        assert!(matches!(unmarked.smooth, Err(2 | 14)));
+        repeated += usize::from(marked.filter.is_ok());
+        refused += usize::from(case.repeats == 0);
+    }
+    assert!(
+        repeated > 300 && in_vain > 1_000 && refused > 200,
+        "{repeated} {in_vain} {refused}"
+    );
 }
 
 /// On the usual cases, and on those of which every third runs off.
@@ -128,7 +234,7 @@ fn demand_three_and_request_k_hold() {
         let enough = [looked.first, looked.second, looked.offsets]
             .iter()
             .all(|&n| n > 1_000);
-        assert!(enough, "{looked:?}");
+        assert!(enough && looked.short > 50, "{looked:?}");
     }
 }
 
@@ -248,6 +354,12 @@ fn pointed_cases_hit_their_mark() {
         &[AtTolerance, SuspectRefused],
         &[AtTolerance, Scale],
         &[AtTolerance, Usual],
+        &[Usual],
+        &[],
+        &[],
+        &[Usual],
+        &[Usual],
+        &[],
     ];
     // What runs off has a test of its own.
     for (k, want) in marks.iter().enumerate() {
@@ -276,9 +388,10 @@ fn small_cases_show_every_branch() {
         }
     }
     let shown = (0..=Branch::AtTolerance as usize).all(|k| seen[k] > 0);
-    let refused = (1..=12).all(|k| seen[marks::REFUSAL + k] > 0);
+    let refused = ORDER.iter().all(|&k| seen[marks::refusal(k)] > 0);
     let told = seen[marks::COV_OFF] > 0 && seen[marks::MEAN_OFF] > 0;
-    assert!(shown && refused && told, "{seen:?}");
+    let marked = seen[marks::LIST_SHORT] > 0 && seen[marks::MARKED_IN_VAIN] > 0;
+    assert!(shown && refused && told && marked, "{seen:?}");
 }
 
 #[test]

@@ -1,10 +1,12 @@
 //! The inputs of docs/DIFFERENCES.md and docs/DECISIONS.md, in the words used there, and what the call makes of each.
 //!
-//! A name and its numbers: `p m r n` the sizes; `Z T R P` matrices row by row (P is P*); `H Q` matrices, or only their diagonals; `c d a y`
-//! vectors (a is a1); `F` flags. Unless said: sizes 1, Z all 1, T the identity, no flag, readings 0, all else 0. `2^k` is a power of two.
+//! A name and its numbers: `p m r n` the sizes; `Z T R P` matrices row by row (P is P*); `L` listed designs in place of Z, one after the other, and
+//! `repeats` their marker; `H Q` matrices, or only their diagonals; `c d a y` vectors (a is a1); `F` flags. Unless said: sizes 1, Z all 1, T the
+//! identity, no flag, no marker, readings 0, all else 0. `2^k` is a power of two.
 
-use oracle::case::{run, Case, Expected, NAN};
+use oracle::case::{run, Buffers, Case, Expected, NAN};
 use oracle::rng::pow2;
+use oracle::{needed, stretch_call, Stretch};
 use parts::Answer;
 use tsecon_ssm_probed::probe::Branch;
 
@@ -56,6 +58,8 @@ fn case(words: &str) -> Case {
             "r" => c.r = x as usize,
             "n" => c.n = x as usize,
             "Z" => c.z.push(x),
+            "L" => c.zs.push(x),
+            "repeats" => c.repeats = x as u8,
             "H" => c.h.push(x),
             "T" => c.t.push(x),
             "R" => c.rr.push(x),
@@ -70,7 +74,7 @@ fn case(words: &str) -> Case {
         }
     }
     let (p, m, r, n) = (c.p, c.m, c.r, c.n);
-    if c.z.is_empty() {
+    if c.z.is_empty() && c.zs.is_empty() {
         c.z = vec![1.0; p * m];
     }
     if c.t.is_empty() {
@@ -219,6 +223,22 @@ fn difference_12_the_order_of_refusals() {
     c.n = 0;
     c.y.clear();
     assert_eq!(run(&c).filter.unwrap_err(), 1);
+}
+
+#[test]
+fn difference_16_a_short_list_is_refused() {
+    // The Rust takes the last design again, as the marked call does.
+    assert_eq!(refused("n 2 L 1 H 1"), 14);
+    assert_eq!(answer(&calls("n 2 L 1 repeats 1 H 1")).loglik, answer(&calls("n 2 H 1")).loglik);
+    let gains = "1 1 0.33333333333333337";
+    holds(&calls("n 3 L 1 2 repeats 255 H 1 P 1"), "m_star", gains);
+    holds(&calls("n 3 L 1 2 2 H 1 P 1"), "m_star", gains);
+    // Void for a constant design. A longer list is taken, and all of it is looked at; of a short one nothing is, unless it is marked.
+    assert!(calls("n 2 repeats 1 H 1").filter.is_ok());
+    assert!(calls("n 2 L 1 1 1 H 1").filter.is_ok());
+    assert_eq!(refused("n 2 L 1 1 NaN H 1"), 3);
+    assert_eq!(refused("n 2 L NaN H 1"), 14);
+    assert_eq!(refused("n 2 L NaN repeats 1 H 1"), 3);
 }
 
 // ---- docs/DECISIONS.md: lengths and refusals
@@ -445,6 +465,20 @@ fn decision_102_what_may_not_be_halved() {
 }
 
 // ---- numbers that ran off: document 02, request h
+
+#[test]
+fn decision_113_two_orders() {
+    let alone = |words: &str| {
+        let c = case(words);
+        let i = c.inputs();
+        let whole = Stretch { begins: 1, saved: &[], last: 1 };
+        stretch_call(&i, &whole, &mut Buffers::patterned(&needed(i.p, i.m, i.n)).lend().0, &mut []).err()
+    };
+    assert_eq!(refused("n 2 L 1 H -1"), 14);
+    assert_eq!(alone("n 2 L 1 H -1"), Some(4));
+    assert_eq!(alone("n 2 L 1 H 1"), Some(14));
+    assert_eq!(alone("n 2 L 1 repeats 1 H 1"), None);
+}
 
 #[test]
 fn reports_of_covariances() {

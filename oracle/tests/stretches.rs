@@ -193,16 +193,95 @@ fn an_empty_stretch_saves_what_it_loaded() {
     assert!(left_over > 100, "{left_over}");
 }
 
-/// Refusals 3 to 11 come before 15, and 15 before 12, which only the last
-/// stretch is given; both markers are any byte but 0.
+/// Unmarked, a list gives what it gives marked, as far as it reaches from the
+/// run's first period; the stretch that would pass its end is refused 14, and
+/// so is every one after it. Nothing is touched then.
+#[test]
+fn a_list_reaches_so_far() {
+    let (mut short, mut before, mut past) = (0, 0, 0);
+    let mut at_the_end = 0;
+    for (_, case) in Cases::new(26).take(4_000) {
+        let Ok(u) = uncut(&case.inputs()) else {
+            continue;
+        };
+        let (n, reach) = (case.n, case.listed());
+        if reach == 0 {
+            continue;
+        }
+        short += usize::from(reach < n);
+        let mut unmarked = case.clone();
+        unmarked.repeats = 0;
+        for (from, to) in (0..=n).flat_map(|from| (from..=n).map(move |to| (from, to))) {
+            let saved = encoded(&case, &u, from);
+            let made = make(&periods(&unmarked, from, to), 0, &saved, 0);
+            if to <= reach {
+                assert!(same_answer(&made.outcome, &told(&u, to)));
+                same_blocks(&case, &u, &made, from, to);
+                assert_eq!(made.save, encoded(&case, &u, to));
+                before += 1;
+                at_the_end += usize::from(to == reach && from < to);
+                continue;
+            }
+            let last = make(&periods(&unmarked, from, to), 0, &saved, 1);
+            for made in [made, last] {
+                assert_eq!(made.outcome.unwrap_err(), 14);
+                let fresh = Buffers::patterned(&needed(case.p, case.m, to - from));
+                assert!((0..11).all(|k| made.written.words(k) == fresh.words(k)));
+                assert!(made.save.iter().all(|&byte| byte == 0xA5));
+            }
+            past += 1;
+        }
+    }
+    assert!(
+        short > 100 && before > 3_000 && past > 1_000 && at_the_end > 500,
+        "{short} {before} {past} {at_the_end}"
+    );
+}
+
+/// The largest run: 4096 designs, unmarked, reach its last period, and one
+/// less does not, wherever it is cut.
+#[test]
+fn a_list_reaches_the_largest_run() {
+    let mut case = oracle::figures::sized(1, 4096);
+    case.list(4096);
+    let u = uncut(&case.inputs()).unwrap();
+    let mut less = case.clone();
+    less.zs.pop();
+    for cut in [0, 1, 4094, 4095, 4096] {
+        let saved = encoded(&case, &u, cut);
+        let rest = make(&periods(&case, cut, 4096), 0, &saved, 1);
+        assert!(same_answer(&rest.outcome, &u.outcome));
+        let rest = make(&periods(&less, cut, 4096), 0, &saved, 1);
+        assert_eq!(rest.outcome.unwrap_err(), 14);
+    }
+    let saved = encoded(&case, &u, 4094);
+    assert!(make(&periods(&less, 4094, 4095), 0, &saved, 0)
+        .outcome
+        .is_ok());
+}
+
+/// Refusals 3 to 11 come before 15, 15 before 14, and 14 before 12, which only
+/// the last stretch is given; the markers are any byte but 0.
 #[test]
 fn the_refusals_stand_in_their_order() {
-    let mut seen = [0; 13];
+    let mut seen = [0; 15];
     for (_, case) in Cases::new(23).take(3_000) {
         let i = case.inputs();
         match uncut(&i) {
             Err(1) => {}
             Err(2) => {}
+            Err(14) => {
+                // What the filter's call judges after it comes before it.
+                let due = uncut(&Inputs { repeats: 1, ..i }).map_or_else(|k| k, |_| 14);
+                let or_15 = if due == 14 { 15 } else { due };
+                for last in [0, 1] {
+                    assert_eq!(make(&i, 1, &[], last).outcome.unwrap_err(), due);
+                    assert_eq!(make(&i, 0, &[1], last).outcome.unwrap_err(), or_15);
+                    assert_eq!(make(&i, 1, &[1], last).outcome.unwrap_err(), or_15);
+                }
+                seen[14] += usize::from(due == 14);
+                seen[13] += usize::from(due != 14);
+            }
             Err(k) => {
                 assert_eq!(make(&i, 0, &[1, 2, 3], 0).outcome.unwrap_err(), k);
                 assert_eq!(make(&i, 0, &[], 1).outcome.unwrap_err(), k);
@@ -233,7 +312,7 @@ fn the_refusals_stand_in_their_order() {
 #[test]
 fn the_small_stretches_show_every_end() {
     let list = stretches(1);
-    for k in (1..=12).chain([15]) {
+    for k in (1..=12).chain([14, 15]) {
         assert!(list.iter().any(|s| s.outcome.err() == Some(k)), "{k}");
     }
     let tells = |cov: bool, mean: bool| {

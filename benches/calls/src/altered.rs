@@ -5,7 +5,7 @@ use oracle::case::Case;
 use oracle::rng::Rng;
 use oracle::{encode, saved_len, section_counts, Carried, Inputs};
 
-use crate::cuts::{periods, room, set, Run};
+use crate::cuts::{periods, reach_held, room, Run};
 use crate::lent::{Ask, Lent, SAVE};
 use crate::library::Call;
 use crate::tally::Tally;
@@ -51,6 +51,9 @@ fn against_oracle(i: &Inputs<'_>, lent: &[usize; 13], ask: &Ask<'_>, fill: u64) 
     let mut found = Lent::new(i, lent, ask, fill);
     let mut wanted = found.clone();
     let want = wanted.oracle(Call::Stretch);
+    if let Some(what) = reach_held(want, i, ask) {
+        return (want, Some(what));
+    }
     let outcome = found.library(Call::Stretch);
     if outcome != want {
         return (want, Some(format!("outcome {outcome}, wanted {want} (0: answered, else the refusal)")));
@@ -293,7 +296,7 @@ pub fn try_run(rng: &mut Rng, run: &Run<'_>, name: &str, tally: &mut Tally) {
         let k = rng.within(0, n);
         let (from, to) = some_periods(rng, n);
         let Altered { what, bytes, refused } = alter(rng, run, k, to - from);
-        let last = if rng.chance(1, 4) { set(rng) } else { 0 };
+        let last = rng.maybe_marker(1, 4);
         let ask = Ask { begins: 0, saved: &bytes, last, room: saved_len(m) + rng.below(9) };
         let lent = room(rng, p, m, to - from);
         let (want, difference) = against_oracle(&periods(run.case, from, to), &lent, &ask, rng.word());
@@ -304,11 +307,11 @@ pub fn try_run(rng: &mut Rng, run: &Run<'_>, name: &str, tally: &mut Tally) {
     // Refusal 15 by the markers, also where the run's end is refused 12; and a byte too little to save in, which comes before it.
     let (from, to) = some_periods(rng, n);
     let (whole, need) = (run.bytes(n), saved_len(m));
-    let last = if rng.chance(1, 2) { set(rng) } else { 0 };
+    let last = rng.maybe_marker(1, 2);
     let any = &whole[rng.below(2)..];
     let asks = [
-        (15, Ask { begins: set(rng), saved: &whole, last, room: need }),
-        (15, Ask { begins: set(rng), saved: &whole[..1], last, room: need }),
+        (15, Ask { begins: rng.marker(), saved: &whole, last, room: need }),
+        (15, Ask { begins: rng.marker(), saved: &whole[..1], last, room: need }),
         (15, Ask { begins: 0, saved: &[], last, room: need }),
         (2, Ask { begins: 0, saved: any, last: 0, room: need - 1 }),
     ];
@@ -330,7 +333,7 @@ pub fn try_bits(rng: &mut Rng, run: &Run<'_>, k: u64, name: &str, tally: &mut Ta
     let from = rng.within(0, n - 1);
     let to = from + rng.below(2);
     let lent = room(rng, p, m, to - from);
-    let last = if rng.chance(1, 4) { set(rng) } else { 0 };
+    let last = rng.maybe_marker(1, 4);
     let mut bytes = run.bytes(after);
     for bit in 0..bytes.len() * 8 {
         bytes[bit / 8] ^= 1 << (bit % 8);
@@ -342,18 +345,22 @@ pub fn try_bits(rng: &mut Rng, run: &Run<'_>, k: u64, name: &str, tally: &mut Ta
     }
 }
 
-/// A case that the filter's call refuses with `refusal`, as a stretch: begun, from bytes that are sound, and from bytes that are not. Refusals 2 to 11
-/// are the filter's, whatever the bytes.
+/// A case that the filter's call refuses with `refusal`, once it is marked, as a stretch: begun, from bytes that are sound, and from bytes that are
+/// not. Refusals 2 to 11 are the filter's, whatever the bytes and the marker.
 pub fn try_refused(rng: &mut Rng, case: &Case, refusal: u32, name: &str, tally: &mut Tally) {
     let Case { p, m, r, n, .. } = *case;
     let sized = [p, m, r].iter().all(|x| (1..=8).contains(x)) && n <= 4096;
     let sound = if sized { made_up(rng, p, m, r, n) } else { vec![0; rng.below(300)] };
     let cut = &sound[..rng.below(sound.len().max(1))];
-    let asks =
-        [("begun", set(rng), &[][..]), ("from sound bytes", 0, &sound), ("from bytes cut short", 0, cut), ("begun with bytes", set(rng), &sound)];
+    let asks = [
+        ("begun", rng.marker(), &[][..]),
+        ("from sound bytes", 0, &sound),
+        ("from bytes cut short", 0, cut),
+        ("begun with bytes", rng.marker(), &sound),
+    ];
     let need = if sized { saved_len(m) } else { 0 };
     for (what, begins, saved) in asks {
-        let last = if rng.chance(1, 2) { set(rng) } else { 0 };
+        let last = rng.maybe_marker(1, 2);
         let room = if rng.chance(1, 8) { need.saturating_sub(1) } else { need };
         let ask = Ask { begins, saved, last, room };
         let (want, difference) = against_oracle(&case.inputs(), &case.lent, &ask, rng.word());

@@ -64,8 +64,10 @@ fn long_case(rng: &mut Rng) -> Case {
         case.h[i * p + i] = 0.0;
     }
     if rng.chance(1, 2) {
+        let designs = rng.pick(&[rng.clone().within(1, n), n - 1, n, (n + 1).min(4096)]);
         case.z.clear();
-        case.zs = (0..rng.within(1, n) * p * m).map(|_| 0.5 + rng.unit()).collect();
+        case.zs = (0..designs * p * m).map(|_| 0.5 + rng.unit()).collect();
+        case.repeats = rng.maybe_marker(if designs < n { 3 } else { 1 }, 4);
     }
     case.lent = case.lent.map(|len| len + rng.below(3));
     if rng.chance(1, 2) {
@@ -74,18 +76,21 @@ fn long_case(rng: &mut Rng) -> Case {
     case
 }
 
-/// A case's run in stretches; and where the case is refused, as a stretch.
+/// A case's run in stretches, also where its list falls short; and where the case is refused otherwise, as a stretch.
 fn stretches(rng: &mut Rng, offset_rng: &mut Rng, case: &Case, k: u64, name: &str, tally: &mut Tally) {
     // As the filter's call sees it, with the lengths that the case lends.
     let refusal = Lent::of(case, 0).oracle(Call::Filter);
     match Run::of(case) {
-        Ok(run) if matches!(refusal, 0 | 12) => {
+        Ok(run) if matches!(refusal, 0 | 12 | 14) => {
+            tally.listed(case, run.short());
             cuts::try_short(rng, &run, name, tally);
             altered::try_run(rng, &run, name, tally);
             altered::try_bits(rng, &run, k, name, tally);
             values::try_stretch(rng, &run, name, tally);
             values::try_stretch_offsets(offset_rng, &run, name, tally);
         }
+        // What the filter's call judges after 14, a stretch is given before it.
+        Err(other) if refusal == 14 => altered::try_refused(rng, case, other, name, tally),
         _ => altered::try_refused(rng, case, refusal, name, tally),
     }
 }

@@ -1,5 +1,6 @@
 //! Runs cut into stretches: every stretch of the library, from the bytes that the one before saved, against the oracle's run that is not cut. The
-//! saved bytes are held to the encoder of the oracle, over the state that its own loop had at that period.
+//! saved bytes are held to the encoder of the oracle, over the state that its own loop had at that period. Where a list of designs falls short and is
+//! not marked, the stretches are those of the marked run as far as it reaches, and past that refused 14.
 
 use oracle::case::Case;
 use oracle::rng::Rng;
@@ -13,23 +14,16 @@ use crate::tally::{Line, Tally};
 /// How many words the stretches of one long run may be lent in all: a list of designs is lent to each.
 const LONG_WORDS: usize = 4_000_000;
 
-/// A case whose run starts, and the oracle's run.
+/// A case whose run starts, once it is marked, and the oracle's run.
 pub struct Run<'a> {
     pub case: &'a Case,
-    /// How the filter's call ends: 0, or 12.
+    /// How many periods the list of designs reaches; of a constant design, all.
+    reach: usize,
+    /// How the marked filter's call ends: 0, or 12.
     pub ended: u32,
     written: [Vec<u64>; 11],
     /// After 0 to n periods.
     pub states: Vec<Carried>,
-}
-
-/// A marker that is set: any byte but 0.
-pub fn set(rng: &mut Rng) -> u8 {
-    if rng.chance(1, 2) {
-        1
-    } else {
-        rng.within(1, 255) as u8
-    }
 }
 
 /// Room for the eleven outputs of a stretch, now and then more than is needed.
@@ -53,12 +47,44 @@ pub fn periods(case: &Case, from: usize, to: usize) -> Inputs<'_> {
     i
 }
 
+/// Whether the list falls short of the run's periods, unmarked: reckoned anew from document 02, in numbers that can't overflow. The saved bytes tell
+/// how many periods are done.
+fn falls_short(i: &Inputs<'_>, ask: &Ask<'_>) -> bool {
+    let done = match ask.saved.get(28..36) {
+        Some(bytes) if ask.begins == 0 => bytes.iter().fold(0, |v, &byte| v << 8 | u128::from(byte)),
+        _ => 0,
+    };
+    let numbers = (done + i.n as u128) * (i.p * i.m) as u128;
+    !i.zs.is_empty() && i.repeats == 0 && (i.zs.len() as u128) < numbers
+}
+
+/// Refusal 14 of a stretch, by document 02 alone, against the oracle's. Whether one before it is due is for others to tell.
+pub fn reach_held(want: u32, i: &Inputs<'_>, ask: &Ask<'_>) -> Option<String> {
+    let wrong = matches!(want, 0 | 12 | 14) && (want == 14) != falls_short(i, ask);
+    wrong.then(|| format!("THE ORACLE gives {want}, and document 02 says that 14 is {}due", if want == 14 { "not " } else { "" }))
+}
+
 impl<'a> Run<'a> {
-    /// The run, or its refusal, 1 to 11.
+    /// The run, marked, or its refusal, 1 to 11.
     pub fn of(case: &'a Case) -> Result<Self, u32> {
-        let whole = uncut(&case.inputs())?;
+        let whole = uncut(&Inputs { repeats: 1, ..case.inputs() })?;
         let written = std::array::from_fn(|k| whole.written.words(k));
-        Ok(Run { case, ended: whole.outcome.err().unwrap_or(0), written, states: whole.states })
+        let reach = if case.zs.is_empty() { usize::MAX } else { case.listed() };
+        Ok(Run { case, reach, ended: whole.outcome.err().unwrap_or(0), written, states: whole.states })
+    }
+
+    /// Whether the list falls short of all periods.
+    pub fn short(&self) -> bool {
+        self.reach < self.case.n
+    }
+
+    /// A marker for a stretch that ends at `to`: as the case has it where the list does not reach so far, else any byte.
+    fn marker(&self, rng: &mut Rng, to: usize) -> u8 {
+        match self.case.repeats {
+            _ if to <= self.reach => rng.maybe_marker(1, 2),
+            0 => 0,
+            _ => rng.marker(),
+        }
     }
 
     /// What is saved after k periods.
@@ -69,6 +95,9 @@ impl<'a> Run<'a> {
     /// Writes what the stretch over periods `from` up to `to` must leave. How it must end.
     fn put(&self, lent: &mut Lent, from: usize, to: usize, last: bool) -> u32 {
         let (p, m) = (self.case.p, self.case.m);
+        if to > self.reach && self.case.repeats == 0 {
+            return 14;
+        }
         if last && self.ended == 12 {
             for (k, need) in needed(p, m, to - from).into_iter().enumerate().take(11) {
                 lent.put(PRED_MEAN + k, 0, &vec![0; need]);
@@ -96,14 +125,14 @@ impl<'a> Run<'a> {
         0
     }
 
-    /// One stretch, from the start or from saved bytes, in memory of its own: the bytes that it saved, or what differs.
-    fn stretch(&self, rng: &mut Rng, from: usize, to: usize, saved: Option<&[u8]>, last: bool) -> Result<Vec<u8>, String> {
+    /// One stretch, from the start or from saved bytes, in memory of its own: the bytes that it saved, if any, or what differs.
+    fn stretch(&self, rng: &mut Rng, from: usize, to: usize, saved: Option<&[u8]>, last: bool) -> Result<Option<Vec<u8>>, String> {
         let Case { p, m, .. } = *self.case;
         let need = saved_len(m);
         let ask = Ask {
-            begins: if saved.is_none() { set(rng) } else { 0 },
+            begins: if saved.is_none() { rng.marker() } else { 0 },
             saved: saved.unwrap_or(&[]),
-            last: if last { set(rng) } else { 0 },
+            last: if last { rng.marker() } else { 0 },
             room: if last {
                 rng.pick(&[0, 0, 1, need - 1, need, need + 9])
             } else {
@@ -111,7 +140,8 @@ impl<'a> Run<'a> {
             },
         };
         let lent = room(rng, p, m, to - from);
-        let mut found = Lent::new(&periods(self.case, from, to), &lent, &ask, rng.word());
+        let i = Inputs { repeats: self.marker(rng, to), ..periods(self.case, from, to) };
+        let mut found = Lent::new(&i, &lent, &ask, rng.word());
         let mut wanted = found.clone();
         let want = self.put(&mut wanted, from, to, last);
         let outcome = found.library(Call::Stretch);
@@ -122,12 +152,13 @@ impl<'a> Run<'a> {
         };
         match difference {
             Some(what) => Err(format!("the stretch of periods {from} to {to}: {what}")),
-            None if last => Ok(Vec::new()),
-            None => Ok(found.bytes_mut(SAVE)[..need].to_vec()),
+            None if last || want != 0 => Ok(None),
+            None => Ok(Some(found.bytes_mut(SAVE)[..need].to_vec())),
         }
     }
 
-    /// The whole run in stretches that end at `cuts`, ascending, and at its end; up to the first that differs. Now and then the last one is empty.
+    /// The whole run in stretches that end at `cuts`, ascending, and at its end; up to the first that differs. Now and then the last one is empty. One
+    /// that is refused 14 leaves the run where it was.
     pub fn chain(&self, rng: &mut Rng, cuts: &[usize], name: &str, line: &mut Line) {
         let n = self.case.n;
         let mut ends = cuts.to_vec();
@@ -137,11 +168,11 @@ impl<'a> Run<'a> {
         let (mut from, mut saved) = (0, None);
         for (k, to) in ends.iter().copied().chain([n]).enumerate() {
             match self.stretch(rng, from, to, saved.as_deref(), k == ends.len()) {
-                Ok(bytes) => saved = Some(bytes),
+                Ok(Some(bytes)) => (from, saved) = (to, Some(bytes)),
+                Ok(None) => {}
                 Err(what) => return line.count(name, Some(what)),
             }
             line.count(name, None);
-            from = to;
         }
     }
 }
@@ -153,7 +184,7 @@ fn anywhere(rng: &mut Rng, n: usize, most: usize) -> Vec<usize> {
     cuts
 }
 
-/// A short run: cut at each period, after every period, anywhere, and not at all.
+/// A short run: cut at each period, after every period, anywhere, and not at all; where its list falls short, also gone on with after each period.
 pub fn try_short(rng: &mut Rng, run: &Run<'_>, name: &str, tally: &mut Tally) {
     let n = run.case.n;
     for cut in 0..=n {
@@ -164,6 +195,12 @@ pub fn try_short(rng: &mut Rng, run: &Run<'_>, name: &str, tally: &mut Tally) {
     let some = anywhere(rng, n, 4);
     run.chain(rng, &some, &format!("{name}, cut at {some:?}"), &mut tally.cut_anywhere);
     run.chain(rng, &[], &format!("{name}, in one stretch"), &mut tally.cut_anywhere);
+    // From what the marked run saves: unmarked, done past the list's end is refused too, with no period more.
+    for from in (0..=n).filter(|_| run.short()) {
+        let to = rng.within(from, n);
+        let made = run.stretch(rng, from, to, Some(&run.bytes(from)), to == n);
+        tally.cut_short.count(&format!("{name}, from the bytes after {from} periods"), made.err());
+    }
 }
 
 /// A long run: cut anywhere; and after every period from some place on, as far as there is time for.

@@ -55,6 +55,7 @@ pub struct Ask<'a> {
 #[derive(Debug, Clone, Copy)]
 pub struct Args {
     pub sizes: [usize; 4],
+    pub repeats: u8,
     pub inputs: [(*mut u64, usize); INPUTS],
     pub outputs: [(*mut u64, usize); OUTPUTS],
     pub answer: [*mut u64; ANSWER],
@@ -67,6 +68,7 @@ pub struct Args {
 #[derive(Debug, Clone)]
 pub struct Lent {
     sizes: [usize; 4],
+    repeats: u8,
     begins: u8,
     last: u8,
     parts: [Part; PARTS],
@@ -130,7 +132,7 @@ impl Lent {
                 words[parts[k].at + place] = v.to_bits();
             }
         }
-        let mut lent = Lent { sizes: [i.p, i.m, i.r, i.n], begins: ask.begins, last: ask.last, parts, words };
+        let mut lent = Lent { sizes: [i.p, i.m, i.r, i.n], repeats: i.repeats, begins: ask.begins, last: ask.last, parts, words };
         lent.bytes_mut(FLAGS).copy_from_slice(i.flags);
         lent.bytes_mut(SAVED).copy_from_slice(ask.saved);
         lent
@@ -164,6 +166,7 @@ impl Lent {
     pub fn args(&mut self) -> Args {
         Args {
             sizes: self.sizes,
+            repeats: self.repeats,
             inputs: std::array::from_fn(|k| (self.pointer(k), self.parts[k].len)),
             outputs: std::array::from_fn(|k| (self.pointer(INPUTS + k), self.parts[INPUTS + k].len)),
             answer: std::array::from_fn(|k| self.pointer(INPUTS + OUTPUTS + k)),
@@ -196,7 +199,8 @@ impl Lent {
         let kinds = unsafe { std::slice::from_raw_parts_mut(a.outputs[5].0.cast::<u8>(), a.outputs[5].1) };
         #[rustfmt::skip]
         let i = Inputs {
-            p, m, r, n, z: x(0), zs: x(1), h: x(2), t: x(3), rr: x(4), q: x(5), c: x(6), d: x(7), a1: x(8), p_star: x(9), flags, y: x(Y),
+            p, m, r, n, z: x(0), zs: x(1), repeats: a.repeats, h: x(2), t: x(3), rr: x(4), q: x(5), c: x(6), d: x(7), a1: x(8), p_star: x(9),
+            flags, y: x(Y),
         };
         #[rustfmt::skip]
         let mut outputs = Outputs {

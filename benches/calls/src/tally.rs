@@ -1,5 +1,7 @@
 //! What was compared, how much of it differs, and the first difference.
 
+use oracle::case::Case;
+
 /// One kind of comparison.
 #[derive(Debug, Clone, Default)]
 pub struct Line {
@@ -33,9 +35,11 @@ impl Line {
 #[derive(Debug, Clone, Default)]
 pub struct Tally {
     pub cases: u64,
-    /// How the compared calls on made cases ended: answered, or refused with 1 to 12.
-    pub ended: [u64; 13],
-    pub wild_ended: [u64; 13],
+    /// How the compared calls on made cases ended: answered, or refused with 1 to 12 or 14.
+    pub ended: [u64; 15],
+    pub wild_ended: [u64; 15],
+    /// Runs that are cut and have a list of designs: marked and short, unmarked and reaching n, unmarked and short.
+    pub lists: [u64; 3],
     /// Cases that the filter's call answers: with a covariance report, with a mean report, with both, with neither.
     pub reports: [u64; 4],
     /// Long runs with a report.
@@ -59,6 +63,7 @@ pub struct Tally {
     pub cut_once: Line,
     pub cut_each: Line,
     pub cut_anywhere: Line,
+    pub cut_short: Line,
     pub altered: Line,
     pub each_bit: Line,
     pub stretch_refused: Line,
@@ -68,7 +73,7 @@ pub struct Tally {
 }
 
 impl Tally {
-    fn lines(&mut self) -> [(&'static str, &mut Line); 21] {
+    fn lines(&mut self) -> [(&'static str, &mut Line); 22] {
         [
             ("filter against the oracle", &mut self.filter),
             ("smoother against the oracle", &mut self.smooth),
@@ -85,6 +90,7 @@ impl Tally {
             ("stretches of runs cut once, at each period", &mut self.cut_once),
             ("stretches of runs cut after every period", &mut self.cut_each),
             ("stretches of runs cut anywhere, up to 4096 periods", &mut self.cut_anywhere),
+            ("stretches of runs whose list falls short", &mut self.cut_short),
             ("stretches from saved bytes that were altered", &mut self.altered),
             ("stretches from saved bytes, each bit flipped in turn", &mut self.each_bit),
             ("stretches that refusals 1 to 11 are for, and 15 too", &mut self.stretch_refused),
@@ -109,9 +115,12 @@ impl Tally {
         for (a, b) in self.reports.iter_mut().zip(other.reports) {
             *a += b;
         }
-        for k in 0..13 {
+        for k in 0..15 {
             self.ended[k] += other.ended[k];
             self.wild_ended[k] += other.wild_ended[k];
+        }
+        for (a, b) in self.lists.iter_mut().zip(other.lists) {
+            *a += b;
         }
         for (a, b) in self.stretch_ended.iter_mut().zip(other.stretch_ended) {
             *a += b;
@@ -129,10 +138,21 @@ impl Tally {
         }
     }
 
+    /// Counts the list of designs of a run that is cut.
+    pub fn listed(&mut self, case: &Case, short: bool) {
+        let kind = match (short, case.repeats) {
+            (true, 0) => 2,
+            (true, _) => 0,
+            (false, 0) if !case.zs.is_empty() => 1,
+            _ => return,
+        };
+        self.lists[kind] += 1;
+    }
+
     /// How many stretches were compared, and how many of them from saved bytes that were altered.
     pub fn stretches(&self) -> (u64, u64) {
         let altered = self.altered.compared + self.each_bit.compared;
-        let cut = self.cut_once.compared + self.cut_each.compared + self.cut_anywhere.compared;
+        let cut = self.cut_once.compared + self.cut_each.compared + self.cut_anywhere.compared + self.cut_short.compared;
         let blind = self.stretch_values.compared + self.stretch_offsets.compared;
         (cut + altered + blind + self.stretch_refused.compared + self.stretch_wild.compared, altered)
     }
@@ -140,13 +160,15 @@ impl Tally {
     /// Prints the table. How many comparisons were made, and how many differ.
     pub fn print(&mut self) -> (u64, u64) {
         let ended = |e: &[u64]| {
-            let refused: Vec<String> = (1..e.len()).filter(|k| !matches!(k, 13 | 14)).map(|k| format!("{k}: {}", e[k])).collect();
+            let refused: Vec<String> = (1..e.len()).filter(|&k| k != 13).map(|k| format!("{k}: {}", e[k])).collect();
             format!("{} answered; refused {}", e[0], refused.join(", "))
         };
         println!("calls on made cases: {}", ended(&self.ended));
         let [cov, mean, both, neither] = self.reports;
         println!("answered cases: {cov} with a covariance report, {mean} with a mean report, {both} of these with both; {neither} with neither");
         println!("long runs with a report: {}", self.long_told);
+        let [repeated, reached, short] = self.lists;
+        println!("runs cut that have a list of designs: {repeated} marked and short, {reached} unmarked that reach n, {short} unmarked and short");
         println!("wild calls: {}; empty parts null in {}", ended(&self.wild_ended), self.wild_nulls);
         println!("stretches but those of cut runs: {}", ended(&self.stretch_ended));
         println!("{:<56} {:>10} {:>8}", "", "compared", "differ");

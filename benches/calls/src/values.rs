@@ -1,15 +1,16 @@
 //! Demand 3 and request k, tried on the library by pairs of calls: the values of finite readings reach no covariance, decision, variance, gain vector,
-//! count, refusal or report on the covariances, nor do the offsets past refusals 1 to 11; and a reading judged no news is no news, for the report on
-//! the means too. The oracle is not asked.
+//! count, refusal or report on the covariances, nor do the offsets past refusals 1 to 11, or where a list falls short (14); and a reading judged no
+//! news is no news, for the report on the means too. The oracle is not asked.
 
 use std::ops::Range;
 
 use oracle::case::Case;
 use oracle::demand3::{other, other_offsets, other_values};
 use oracle::rng::Rng;
+use oracle::Inputs;
 
 use crate::altered::{float, number, report, some_periods, LIKELIHOOD, MEAN, MEAN_REPORT, SIZES, STATE, TALLIES};
-use crate::cuts::{self, set};
+use crate::cuts;
 use crate::lent::{Ask, Lent, A1, C, D, FILT_MEAN, HEARD, KINDS, LOGLIK, MEAN_OFF, NEWS, PRED_MEAN, SAVE, SAVED, SM_MEAN, V, Y};
 use crate::library::{Call, CALLS};
 use crate::tally::Tally;
@@ -84,12 +85,12 @@ pub fn try_case(rng: &mut Rng, case: &Case, name: &str, tally: &mut Tally) {
     }
 }
 
-/// Request k on one case past refusals 1 to 11, for both calls.
+/// Request k on one case past refusals 1 to 11, or refused 14, for both calls.
 pub fn try_offsets(rng: &mut Rng, case: &Case, name: &str, tally: &mut Tally) {
     let fill = rng.word();
     for which in CALLS {
         let before = run(which, case, fill);
-        if matches!(before.refusal, 0 | 12) {
+        if matches!(before.refusal, 0 | 12 | 14) {
             let after = run(which, &other_offsets(rng, case), fill);
             let name = format!("request k, {name}, {}, other offsets", which.name());
             tally.other_offsets.count(&name, seen(&before, &after, &[C, D, A1, Y]));
@@ -105,6 +106,7 @@ struct Piece {
     /// It goes on from what is saved after so many periods.
     done: usize,
     last: u8,
+    repeats: u8,
     room: [usize; 13],
     fill: u64,
 }
@@ -113,8 +115,10 @@ impl Piece {
     fn of(rng: &mut Rng, case: &Case, begins: u8) -> Self {
         let (from, to) = some_periods(rng, case.n);
         let done = rng.within(0, case.n);
-        let last = if rng.chance(1, 4) { set(rng) } else { 0 };
-        Piece { from, to, begins, done, last, room: cuts::room(rng, case.p, case.m, to - from), fill: rng.word() }
+        let last = rng.maybe_marker(1, 4);
+        // Often marked, since a list that reaches n may not reach the end of a stretch that is put here.
+        let repeats = if rng.chance(1, 2) { rng.marker() } else { case.repeats };
+        Piece { from, to, begins, done, last, repeats, room: cuts::room(rng, case.p, case.m, to - from), fill: rng.word() }
     }
 
     fn readings(&self, p: usize) -> Range<usize> {
@@ -131,7 +135,8 @@ impl Piece {
 
     fn run(&self, case: &Case, saved: &[u8]) -> Run {
         let ask = Ask { begins: self.begins, saved, last: self.last, room: oracle::saved_len(case.m) };
-        let mut lent = Lent::new(&cuts::periods(case, self.from, self.to), &self.room, &ask, self.fill);
+        let i = Inputs { repeats: self.repeats, ..cuts::periods(case, self.from, self.to) };
+        let mut lent = Lent::new(&i, &self.room, &ask, self.fill);
         let refusal = lent.library(Call::Stretch);
         Run { which: Call::Stretch, refusal, lent }
     }
@@ -188,7 +193,7 @@ fn other_means(rng: &mut Rng, bytes: &[u8], m: usize) -> Vec<u8> {
 /// Request k in a stretch that begins a run, or goes on from saved bytes with another mean, likelihood and report on the means.
 pub fn try_stretch_offsets(rng: &mut Rng, run: &cuts::Run<'_>, name: &str, tally: &mut Tally) {
     let m = run.case.m;
-    let begins = if rng.chance(1, 2) { set(rng) } else { 0 };
+    let begins = rng.maybe_marker(1, 2);
     let piece = Piece::of(rng, run.case, begins);
     let mut saved = piece.saved(run);
     // The diffuse state is 0 or 1. With another one both calls are refused 15.

@@ -5,7 +5,7 @@ use oracle::case::Case;
 use oracle::rng::Rng;
 
 use crate::altered::made_up;
-use crate::cuts::set;
+use crate::cuts::reach_held;
 use crate::lent::{Args, Ask, Lent, SAVE, SAVED};
 use crate::library::{self, Call, CALLS};
 use crate::tally::Tally;
@@ -13,8 +13,8 @@ use crate::tally::Tally;
 /// Sizes and lengths outside every range. Eight times some of them is 0, or a small number, in 64 bits.
 const HUGE: [usize; 7] = [usize::MAX, usize::MAX - 1, usize::MAX / 8, 1 << 63, 1 << 61, (1 << 61) + 1, 1 << 32];
 
-/// Refusals 1 and 2, reckoned anew from the documents, in numbers that can't overflow. No part of the oracle.
-fn first_two(which: Call, a: &Args) -> Option<u32> {
+/// Refusals 1 and 2, and 14 where it is judged next, reckoned anew from the documents, in numbers that can't overflow. No part of the oracle.
+fn first_ones(which: Call, a: &Args) -> Option<u32> {
     let [p, m, r, n] = a.sizes.map(|x| x as u128);
     let small = |x: u128| (1..=8).contains(&x);
     let least_n = u128::from(which != Call::Stretch);
@@ -36,11 +36,11 @@ fn first_two(which: Call, a: &Args) -> Option<u32> {
     ];
     let outputs = (0..which.outputs()).all(|k| output(k) >= least[k]);
     let saves = which != Call::Stretch || a.last != 0 || a.save.1 as u128 >= 120 + 8 * m + 32 * m * m;
-    if (constant || listed) && inputs && outputs && saves {
-        None
-    } else {
-        Some(2)
+    if !((constant || listed) && inputs && outputs && saves) {
+        return Some(2);
     }
+    let short = listed && a.repeats == 0 && input(1) < n * p * m;
+    (short && which != Call::Stretch).then_some(14)
 }
 
 /// What is claimed of a part's length besides: the part, by its number in `lent`, and the claim.
@@ -71,7 +71,7 @@ fn one_call(which: Call, case: &Case, ask: &Ask<'_>, claims: &Claims, nulls: boo
             }
         }
     }
-    let reckoned = first_two(which, &args);
+    let reckoned = first_ones(which, &args);
     let claims_inputs = claims.iter().any(|(part, _)| *part < 12);
     // No slice has such a length, so the oracle can't be asked.
     let want = if claims_inputs {
@@ -82,8 +82,12 @@ fn one_call(which: Call, case: &Case, ask: &Ask<'_>, claims: &Claims, nulls: boo
     } else {
         wanted.oracle(which)
     };
-    if matches!((reckoned, want), (Some(k), w) if k != w) || (reckoned.is_none() && matches!(want, 1 | 2)) {
+    let later = |k: u32| !matches!(k, 1 | 2) && (k != 14 || which == Call::Stretch);
+    if !reckoned.map_or(later(want), |k| k == want) {
         return (want, Some(format!("THE ORACLE gives {want}, and the documents' table {reckoned:?}")));
+    }
+    if let Some(what) = reach_held(want, &case.inputs(), ask) {
+        return (want, Some(what));
     }
     let outcome = unsafe { library::call(which, &args) };
     if outcome != want {
@@ -263,6 +267,7 @@ fn random_numbers(rng: &mut Rng) -> Case {
     } else {
         let designs = rng.within(1, n + 1);
         case.zs = list(rng, designs * p * m, spread);
+        case.repeats = rng.maybe_marker(3, 4);
     }
     case.h = diagonal(rng, p, spread);
     case.q = diagonal(rng, r, spread.min(250));
@@ -302,9 +307,9 @@ fn try_stretch(rng: &mut Rng, case: &Case, claimed: bool, name: &str, tally: &mu
         _ => {}
     }
     let ask = Ask {
-        begins: if bytes.is_empty() != rng.chance(1, 16) { set(rng) } else { 0 },
+        begins: if bytes.is_empty() != rng.chance(1, 16) { rng.marker() } else { 0 },
         saved: &bytes,
-        last: if rng.chance(1, 3) { set(rng) } else { 0 },
+        last: rng.maybe_marker(1, 3),
         room: if rng.chance(1, 8) { rng.below(need + 1) } else { need + rng.below(9) },
     };
     let mut claims = if claimed { claims(rng, case, 0) } else { Claims::new() };
@@ -323,6 +328,8 @@ fn try_stretch(rng: &mut Rng, case: &Case, claimed: bool, name: &str, tally: &mu
 pub fn try_case(rng: &mut Rng, stretch_rng: &mut Rng, mut case: Case, name: &str, tally: &mut Tally) {
     let mut claimed = Claims::new();
     let scene = rng.below(5);
+    // The marker, whatever the design: as it was, none, any byte.
+    case.repeats = rng.pick(&[case.repeats, case.repeats, 0, rng.clone().word() as u8]);
     let (kind, line) = match scene {
         0 => {
             sizes(rng, &mut case);

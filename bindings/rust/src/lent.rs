@@ -25,6 +25,8 @@ pub struct Inputs<'a> {
     pub z: &'a [f64],
     /// k·p·m: k designs, or empty. Exactly one of `z` and `zs` is empty.
     pub zs: &'a [f64],
+    /// Whether the last of `zs` is used again once they have run out. If not, a list that runs out is [`Refusal::ListShort`]. Void for `z`.
+    pub repeats: bool,
     /// p·p: the readings' noise.
     pub h: &'a [f64],
     /// m·m: the transition.
@@ -182,6 +184,7 @@ pub fn filter(i: &Inputs<'_>, o: &mut Outputs<'_>) -> Result<Answer, Refusal> {
             i.z.len(),
             i.zs.as_ptr(),
             i.zs.len(),
+            u8::from(i.repeats),
             i.h.as_ptr(),
             i.h.len(),
             i.t.as_ptr(),
@@ -249,6 +252,7 @@ pub fn smooth(i: &Inputs<'_>, o: &mut Outputs<'_>, s: &mut SmoothedOutputs<'_>) 
             i.z.len(),
             i.zs.as_ptr(),
             i.zs.len(),
+            u8::from(i.repeats),
             i.h.as_ptr(),
             i.h.len(),
             i.t.as_ptr(),
@@ -307,8 +311,8 @@ pub fn smooth(i: &Inputs<'_>, o: &mut Outputs<'_>, s: &mut SmoothedOutputs<'_>) 
 }
 
 /// The filter, over the next n periods of a run. `i.y` has the readings of these alone. The rest is the run's, the same in every stretch: a list `zs`
-/// counts from the run's first period, and the start is checked each time and used at [`Origin::Start`]. The answer is since the run began, and its
-/// periods count from the run's first.
+/// counts from the run's first period, `repeats` is not saved, and the start is checked each time and used at [`Origin::Start`]. The answer is since
+/// the run began, and its periods count from the run's first.
 pub fn stretch(i: &Inputs<'_>, from: Origin<'_>, o: &mut Outputs<'_>, then: Ending<'_>) -> Result<Answer, Refusal> {
     let mut a = Places::default();
     let (begins, saved): (u8, &[u8]) = match from {
@@ -330,6 +334,7 @@ pub fn stretch(i: &Inputs<'_>, from: Origin<'_>, o: &mut Outputs<'_>, then: Endi
             i.z.len(),
             i.zs.as_ptr(),
             i.zs.len(),
+            u8::from(i.repeats),
             i.h.as_ptr(),
             i.h.len(),
             i.t.as_ptr(),

@@ -3,12 +3,34 @@
 use crate::lent::{Inputs, MAX_SIZE};
 
 /// Z, from the states to the readings. Matrices are row by row.
+///
+/// A list that runs out before the periods do is taken for a mistake. If it is short on purpose, say so:
+///
+/// ```
+/// use goxundar::{filter, Design, Model, Refusal};
+/// // A level that is read in metres in the first period, and in centimetres from then on.
+/// let level = |design| Model { design, h: vec![1.0], t: vec![1.0], diffuse: vec![true], ..Model::zeros(1, 1, 1) };
+/// let readings = [2.0, 201.0, 199.0];
+///
+/// // Two designs for three periods are refused.
+/// let short = filter(&level(Design::Listed(vec![1.0, 100.0])), 3, &readings);
+/// assert_eq!(short.unwrap_err(), Refusal::ListShort);
+///
+/// // The last one goes on: as if it were written once more.
+/// let repeated = filter(&level(Design::Repeated(vec![1.0, 100.0])), 3, &readings)?;
+/// let listed = filter(&level(Design::Listed(vec![1.0, 100.0, 100.0])), 3, &readings)?;
+/// assert_eq!(repeated.filtered(2), listed.filtered(2));
+/// # Ok::<(), Refusal>(())
+/// ```
 #[derive(Debug, Clone, PartialEq)]
 pub enum Design {
     /// p·m: the same in all periods.
     Constant(Vec<f64>),
-    /// k·p·m: k designs one after the other, 1 to 4096 of them. Period t takes the t-th, or the last once they have run out.
+    /// k·p·m: k designs one after the other, 1 to 4096 of them. Period t takes the t-th. There may be more of them than periods; fewer are
+    /// [`Refusal::ListShort`](crate::Refusal::ListShort). In a run in stretches they count from the run's first period.
     Listed(Vec<f64>),
+    /// The same, but that there may be fewer: once they have run out, the last one is used again.
+    Repeated(Vec<f64>),
 }
 
 /// A model of p elements, m states and r disturbances, each 1 to 8:
@@ -93,9 +115,10 @@ impl Model {
 
     /// The call's inputs, for n periods. What the parts' lengths are doesn't matter here.
     pub(crate) fn inputs<'a>(&'a self, n: usize, flags: &'a [u8], readings: &'a [f64]) -> Inputs<'a> {
-        let (z, zs): (&[f64], &[f64]) = match &self.design {
-            Design::Constant(z) => (z, &[]),
-            Design::Listed(zs) => (&[], zs),
+        let (z, zs, repeats): (&[f64], &[f64], bool) = match &self.design {
+            Design::Constant(z) => (z, &[], false),
+            Design::Listed(zs) => (&[], zs, false),
+            Design::Repeated(zs) => (&[], zs, true),
         };
         Inputs {
             p: self.p,
@@ -104,6 +127,7 @@ impl Model {
             n,
             z,
             zs,
+            repeats,
             h: &self.h,
             t: &self.t,
             rr: &self.rr,

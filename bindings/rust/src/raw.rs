@@ -1,7 +1,7 @@
 //! The library's functions as `goxundar.h` declares them. [`crate::lent`] is the safe form; nobody needs this one who has slices.
 //!
-//! Each returns 0 where it answers, else the refusal's number, 1 to 12, or 15 of a stretch, and then the last six places stay as they were. `cov_off`
-//! and `mean_off` are a period plus 1, or 0 for none.
+//! Each returns 0 where it answers, else the refusal's number, 1 to 12 or 14, or 15 of a stretch, and then the last six places stay as they were.
+//! `cov_off` and `mean_off` are a period plus 1, or 0 for none. `repeats`, `begins` and `last` are markers: any number but 0 is yes.
 //!
 //! The library's symbols end in the interface's number, as the header says: a crate of another interface does not link.
 //!
@@ -12,7 +12,7 @@
 
 extern "C" {
     /// The filter.
-    #[link_name = "goxundar_filter_2"]
+    #[link_name = "goxundar_filter_3"]
     pub fn goxundar_filter(
         p: usize,
         m: usize,
@@ -22,6 +22,7 @@ extern "C" {
         z_len: usize,
         zs: *const f64,
         zs_len: usize,
+        repeats: u8,
         h: *const f64,
         h_len: usize,
         t: *const f64,
@@ -73,7 +74,7 @@ extern "C" {
     ) -> u32;
 
     /// The filter, and then the smoother.
-    #[link_name = "goxundar_smooth_2"]
+    #[link_name = "goxundar_smooth_3"]
     pub fn goxundar_smooth(
         p: usize,
         m: usize,
@@ -83,6 +84,7 @@ extern "C" {
         z_len: usize,
         zs: *const f64,
         zs_len: usize,
+        repeats: u8,
         h: *const f64,
         h_len: usize,
         t: *const f64,
@@ -138,7 +140,7 @@ extern "C" {
     ) -> u32;
 
     /// Some periods of a run, from its start or from what was saved.
-    #[link_name = "goxundar_stretch_2"]
+    #[link_name = "goxundar_stretch_3"]
     pub fn goxundar_stretch(
         p: usize,
         m: usize,
@@ -148,6 +150,7 @@ extern "C" {
         z_len: usize,
         zs: *const f64,
         zs_len: usize,
+        repeats: u8,
         h: *const f64,
         h_len: usize,
         t: *const f64,

@@ -3,7 +3,8 @@
 use std::error::Error;
 use std::fmt;
 
-/// Why a call was refused: the first that applies, in this order, but for 15, which is judged before 12. The numbers are the library's.
+/// Why a call was refused: the first that applies, in this order, but that 14 is judged right after 2, and in a run in stretches 15 and then 14 right
+/// before 12. The numbers are the library's.
 ///
 /// ```
 /// use goxundar::Refusal;
@@ -40,6 +41,9 @@ pub enum Refusal {
     NonFiniteNoise = 11,
     /// There are readings, and none of them is news. Of a run in stretches it is judged in the last one, over all its readings.
     NoInformation = 12,
+    /// A [`Design::Listed`](crate::Design::Listed) has fewer designs than there are periods; in a stretch, than the periods done and n come to. If
+    /// that is meant so, it is a [`Design::Repeated`](crate::Design::Repeated).
+    ListShort = 14,
     /// The saved bytes are not a run that can go on here: their length or a section's count is wrong; p, m or r is not the call's; the periods done
     /// and n are above 4096 together; a tally is out of its range; or a NaN has other bits than 0x7FF8000000000000. What the library saved before it
     /// had [`Run::cov_off`](crate::Run::cov_off) has another length.
@@ -48,7 +52,7 @@ pub enum Refusal {
 
 impl Refusal {
     /// All of them, by their numbers.
-    pub const ALL: [Refusal; 13] = [
+    pub const ALL: [Refusal; 14] = [
         Refusal::Dimension,
         Refusal::Length,
         Refusal::NonFiniteSystem,
@@ -61,10 +65,11 @@ impl Refusal {
         Refusal::MixedDriven,
         Refusal::NonFiniteNoise,
         Refusal::NoInformation,
+        Refusal::ListShort,
         Refusal::BadSaved,
     ];
 
-    /// Its number, 1 to 12 or 15.
+    /// Its number, 1 to 12, 14 or 15.
     pub fn number(self) -> u32 {
         self as u32
     }
@@ -90,6 +95,7 @@ impl fmt::Display for Refusal {
             Refusal::MixedDriven => "T leads from a flagged state into an unflagged one",
             Refusal::NonFiniteNoise => "R·Q·R' has an entry that is not finite",
             Refusal::NoInformation => "there are readings, and none of them is news",
+            Refusal::ListShort => "the list of designs ends before the periods do, and is not said to repeat its last",
             Refusal::BadSaved => "the saved bytes are damaged, of another model's sizes, of an older library, or of a run with too many periods",
         })
     }

@@ -42,8 +42,8 @@ use crate::{Model, Refusal, Run};
 /// ```
 ///
 /// The bytes hold the run, and of the model its sizes p, m and r alone. Hand every stretch the same model; nothing can tell if you do. The start is
-/// checked each time, and used by [`begin`]. A [`Design::Listed`](crate::Design::Listed) is handed over whole: its designs count from the run's first
-/// period. docs/SAVED.md has the bytes one by one, and how to keep them safe.
+/// checked each time, and used by [`begin`]. A list of designs is handed over whole: they count from the run's first period, and whether the last is
+/// [repeated](crate::Design::Repeated) is not in the bytes. docs/SAVED.md has the bytes one by one, and how to keep them safe.
 #[derive(Debug, Clone, PartialEq, Eq)]
 pub struct Saved {
     bytes: Vec<u8>,

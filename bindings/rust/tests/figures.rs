@@ -1,21 +1,11 @@
 //! Document 01's bench figures, starred and not, through the safe interface. Expected values are 01's; doubles are compared by their bits.
 
+mod level;
+
 use goxundar::{filter, smooth, Design, Model, Record, Refusal, Run};
+use level::level as plain;
 
 const GAP: f64 = f64::NAN;
-
-/// 01's model unless said: m = p = r = 1, Z = T = R = 1, H = 1, Q = 2, flagged, a1 = P* = 0.
-fn plain() -> Model {
-    Model {
-        design: Design::Constant(vec![1.0]),
-        h: vec![1.0],
-        t: vec![1.0],
-        rr: vec![1.0],
-        q: vec![2.0],
-        diffuse: vec![true],
-        ..Model::zeros(1, 1, 1)
-    }
-}
 
 /// p = 2, both designs 1, H zero.
 fn two_inputs() -> Model {

@@ -1,19 +1,10 @@
 //! Document 01's refusals: each, their order, lengths, and what is written. Nothing panics, whatever is passed.
 
+mod level;
+
 use goxundar::lent::{self, Inputs, Lengths, Outputs, SmoothedOutputs};
 use goxundar::{filter, smooth, Design, Model, Refusal};
-
-fn plain() -> Model {
-    Model {
-        design: Design::Constant(vec![1.0]),
-        h: vec![1.0],
-        t: vec![1.0],
-        rr: vec![1.0],
-        q: vec![2.0],
-        diffuse: vec![true],
-        ..Model::zeros(1, 1, 1)
-    }
-}
+use level::level as plain;
 
 /// The refusal's number, 0 for none, of both calls.
 fn number(model: &Model, n: usize, readings: &[f64]) -> u32 {
@@ -26,6 +17,8 @@ fn number(model: &Model, n: usize, readings: &[f64]) -> u32 {
 #[test]
 fn in_order() {
     let mut model = Model::zeros(2, 2, 2);
+    let mut designs = vec![0.0, 0.0, 0.0, f64::NAN];
+    model.design = Design::Listed(designs.clone());
     model.t = vec![1.0, 0.0, 1.0, f64::NAN];
     model.h = vec![0.0, 0.0, 1.0, -1.0];
     model.q = vec![0.0, 1.0, 0.0, 1.0];
@@ -33,32 +26,38 @@ fn in_order() {
     model.diffuse = vec![true, false];
     model.p_star = vec![1.0, 0.0, 0.0, 0.0];
     model.rr = vec![0.0, 0.0, 0.0, 1e200];
-    let mut readings = vec![0.0, f64::NEG_INFINITY, 0.0];
+    let mut readings = vec![0.0, f64::NEG_INFINITY, 0.0, 0.0, 0.0];
 
     assert_eq!(number(&model, 4097, &readings), 1);
-    assert_eq!(number(&model, 1, &readings), 2);
-    readings.truncate(2);
-    assert_eq!(number(&model, 1, &readings), 3);
+    assert_eq!(number(&model, 2, &readings), 2);
+    readings.truncate(4);
+    assert_eq!(number(&model, 2, &readings), 14);
+    model.design = Design::Repeated(designs.clone());
+    assert_eq!(number(&model, 2, &readings), 3);
+    designs[3] = 0.0;
+    model.design = Design::Repeated(designs.clone());
+    assert_eq!(number(&model, 2, &readings), 3);
     model.t[3] = 1.0;
-    assert_eq!(number(&model, 1, &readings), 4);
+    assert_eq!(number(&model, 2, &readings), 4);
     model.h[3] = 0.0;
-    assert_eq!(number(&model, 1, &readings), 5);
+    assert_eq!(number(&model, 2, &readings), 5);
     model.q[1] = 0.0;
-    assert_eq!(number(&model, 1, &readings), 6);
+    assert_eq!(number(&model, 2, &readings), 6);
     model.d[1] = 0.0;
-    assert_eq!(number(&model, 1, &readings), 7);
+    assert_eq!(number(&model, 2, &readings), 7);
     model.p_star[0] = 0.0;
-    assert_eq!(number(&model, 1, &readings), 8);
+    assert_eq!(number(&model, 2, &readings), 8);
     model.h[2] = 0.0;
-    assert_eq!(number(&model, 1, &readings), 9);
+    assert_eq!(number(&model, 2, &readings), 9);
     readings[1] = 0.0;
-    assert_eq!(number(&model, 1, &readings), 10);
+    assert_eq!(number(&model, 2, &readings), 10);
     model.t[2] = 0.0;
-    assert_eq!(number(&model, 1, &readings), 11);
+    assert_eq!(number(&model, 2, &readings), 11);
     model.rr[3] = 1.0;
-    assert_eq!(number(&model, 1, &readings), 12);
-    model.design = Design::Constant(vec![1.0, 0.0, 0.0, 0.0]);
-    assert_eq!(number(&model, 1, &readings), 0);
+    assert_eq!(number(&model, 2, &readings), 12);
+    designs[0] = 1.0;
+    model.design = Design::Repeated(designs);
+    assert_eq!(number(&model, 2, &readings), 0);
 }
 
 #[test]
@@ -92,20 +91,21 @@ fn parts_too_long_or_too_short() {
     }
 }
 
-/// A list of 1 to 4096 designs, of a length that is a multiple of p·m.
+/// A list of 1 to 4096 designs, of a length that is a multiple of p·m. tests/lists.rs has those that run out.
 #[test]
 fn listed_designs() {
-    let listed = |k: usize| Model { design: Design::Listed(vec![1.0; k]), ..plain() };
-    assert_eq!(number(&listed(0), 1, &[2.0]), 2);
-    assert_eq!(number(&listed(1), 2, &[2.0, 6.0]), 0);
-    assert_eq!(number(&listed(4096), 1, &[2.0]), 0);
-    assert_eq!(number(&listed(4097), 1, &[2.0]), 2);
-    // The last one goes on: figure B.
-    assert_eq!(filter(&listed(1), 2, &[2.0, 6.0]).unwrap().filtered(1).mean, [5.0]);
-    // Two inputs need pairs.
-    let pairs = |k: usize| Model { design: Design::Listed(vec![1.0; k]), t: vec![1.0], diffuse: vec![true], ..Model::zeros(2, 1, 1) };
-    assert_eq!(number(&pairs(3), 1, &[2.0, 2.0]), 2);
-    assert_eq!(number(&pairs(4), 1, &[2.0, 2.0]), 0);
+    for list in [Design::Listed, Design::Repeated] {
+        let listed = |k: usize| Model { design: list(vec![1.0; k]), ..plain() };
+        assert_eq!(number(&listed(0), 1, &[2.0]), 2);
+        assert_eq!(number(&listed(1), 1, &[2.0]), 0);
+        assert_eq!(number(&listed(4096), 1, &[2.0]), 0);
+        assert_eq!(number(&listed(4097), 1, &[2.0]), 2);
+        // Two inputs need pairs.
+        let pairs = |k: usize| Model { design: list(vec![1.0; k]), t: vec![1.0], diffuse: vec![true], ..Model::zeros(2, 1, 1) };
+        assert_eq!(number(&pairs(3), 1, &[2.0, 2.0]), 2);
+        assert_eq!(number(&pairs(3), 2, &[2.0; 4]), 2);
+        assert_eq!(number(&pairs(4), 2, &[2.0; 4]), 0);
+    }
 }
 
 /// The outputs of a smoother's call of one state and one period, each with a place more than needed, all 7.
@@ -130,7 +130,7 @@ impl Lent {
 
 fn one_period<'a>(h: &'a [f64], flags: &'a [u8], y: &'a [f64]) -> Inputs<'a> {
     let (one, zero) = (&[1.0], &[0.0]);
-    Inputs { p: 1, m: 1, r: 1, n: 1, z: one, zs: &[], h, t: one, rr: one, q: &[2.0], c: zero, d: zero, a1: zero, p_star: zero, flags, y }
+    Inputs { p: 1, m: 1, r: 1, n: 1, z: one, h, t: one, rr: one, q: &[2.0], c: zero, d: zero, a1: zero, p_star: zero, flags, y, ..Inputs::default() }
 }
 
 #[test]
@@ -142,6 +142,16 @@ fn what_is_written() {
     let mut lent = Lent::new();
     assert_eq!(lent.smooth(&one_period(&[1.0], &[2], &[2.0])), Err(Refusal::StartShape));
     assert_eq!((lent.pred, lent.rest, lent.kinds), ([[7.0; 3]; 3], [[7.0; 2]; 9], [7; 2]));
+
+    // Nor does 14. What is lent has room for a second period: figures B and C, where the list repeats its design.
+    let two_periods = Inputs { n: 2, z: &[], zs: &[1.0], ..one_period(&[1.0], &[1], &[2.0, 6.0]) };
+    assert_eq!(lent.smooth(&two_periods), Err(Refusal::ListShort));
+    assert_eq!((lent.pred, lent.rest, lent.kinds), ([[7.0; 3]; 3], [[7.0; 2]; 9], [7; 2]));
+    let mut both = Lent::new();
+    let answer = both.smooth(&Inputs { repeats: true, ..two_periods }).unwrap();
+    assert_eq!((answer.d_diffuse, answer.heard, answer.news), (1, 2, 2));
+    assert_eq!((both.pred[0], both.pred[1]), ([0.0, 2.0, 5.0], [0.0, 3.0, 2.75]));
+    assert_eq!((both.rest[7], both.rest[8]), ([3.0, 5.0], [0.75, 0.75]));
 
     // 12 sets the needed stretch to 0, and leaves the rest.
     assert_eq!(lent.smooth(&one_period(&[0.0], &[0], &[2.0])), Err(Refusal::NoInformation));
@@ -168,14 +178,14 @@ fn empty_parts() {
 
 #[test]
 fn numbers_and_words() {
-    let numbers = [1, 2, 3, 4, 5, 6, 7, 8, 9, 10, 11, 12, 15];
+    let numbers = [1, 2, 3, 4, 5, 6, 7, 8, 9, 10, 11, 12, 14, 15];
     assert_eq!(Refusal::ALL.map(Refusal::number), numbers);
     for (number, refusal) in numbers.into_iter().zip(Refusal::ALL) {
         assert_eq!(Refusal::from_number(number), Some(refusal));
         assert!(!refusal.to_string().is_empty());
     }
-    assert_eq!(Refusal::BadSaved.number(), 15);
-    for none in [0, 13, 14, 16, u32::MAX] {
+    assert_eq!((Refusal::ListShort.number(), Refusal::BadSaved.number()), (14, 15));
+    for none in [0, 13, 16, u32::MAX] {
         assert_eq!(Refusal::from_number(none), None);
     }
     let error: Box<dyn std::error::Error> = Box::new(Refusal::Length);

@@ -1,29 +1,21 @@
 //! Runs in stretches: cut anywhere they give what the uncut run gives, bit for bit; docs/SAVED.md has the bytes that are saved; and what is refused.
 
+mod level;
+mod same;
+
 use goxundar::lent::{self, Ending, Inputs, Lengths, Origin, Outputs};
-use goxundar::{begin, filter, Design, Model, Record, Refusal, Run, Saved};
+use goxundar::{begin, filter, Design, Model, Refusal, Saved};
+use level::level;
+use same::{answer, is_part};
 
 const GAP: f64 = f64::NAN;
-
-/// README.md's level.
-fn level() -> Model {
-    Model {
-        design: Design::Constant(vec![1.0]),
-        h: vec![1.0],
-        t: vec![1.0],
-        rr: vec![1.0],
-        q: vec![2.0],
-        diffuse: vec![true],
-        ..Model::zeros(1, 1, 1)
-    }
-}
 
 /// Offset, rate and the radio's own error, read on two inputs, as in examples/crystal.rs; from period 2 on both read twice the offset.
 fn crystal() -> Model {
     let once = [1.0, 0.0, 1.0, 1.0, 0.0, 1.0];
     let twice = [2.0, 0.0, 1.0, 2.0, 0.0, 1.0];
     Model {
-        design: Design::Listed([once, once, twice].concat()),
+        design: Design::Repeated([once, once, twice].concat()),
         t: vec![1.0, 1.0, 0.0, 0.0, 1.0, 0.0, 0.0, 0.0, 0.0],
         rr: vec![1.0, 0.0, 0.0, 0.0, 1.0, 0.0, 0.0, 0.0, 1.0],
         q: vec![0.04, 0.0, 0.0, 0.0, 0.01, 0.0, 0.0, 0.0, 25.0],
@@ -42,52 +34,6 @@ fn runaway() -> Model {
 }
 
 // ---- cut anywhere
-
-fn bits(x: f64) -> u64 {
-    if x.is_nan() {
-        f64::NAN.to_bits()
-    } else {
-        x.to_bits()
-    }
-}
-
-fn all_bits(part: &[f64]) -> Vec<u64> {
-    part.iter().copied().map(bits).collect()
-}
-
-fn record(of: Record<'_>) -> (u8, Vec<u64>) {
-    match of {
-        Record::Skipped => (0, Vec::new()),
-        Record::Usual { v, f_star, m_star } => (1, [&[bits(v), bits(f_star)], &all_bits(m_star)[..]].concat()),
-        Record::Diffuse { v, f_star, f_inf, m_star, m_inf } => {
-            (2, [&[bits(v), bits(f_star), bits(f_inf)], &all_bits(m_star)[..], &all_bits(m_inf)[..]].concat())
-        }
-    }
-}
-
-type Told = (u64, usize, usize, usize, Option<usize>, Option<usize>);
-
-fn answer(run: &Run) -> Told {
-    (bits(run.loglik()), run.d_diffuse(), run.heard(), run.news(), run.cov_off(), run.mean_off())
-}
-
-/// `part` is `whole` from period t on. Its last predicted place is compared where `whole` ends there too, or has not been tested.
-fn is_part(part: &Run, whole: &Run, t: usize) {
-    let places = part.periods() + usize::from(t + part.periods() == whole.periods());
-    for k in 0..places {
-        let (got, want) = (part.predicted(k), whole.predicted(t + k));
-        assert_eq!(all_bits(got.mean), all_bits(want.mean));
-        assert_eq!(all_bits(got.cov), all_bits(want.cov));
-        assert_eq!(all_bits(got.diffuse_cov), all_bits(want.diffuse_cov));
-    }
-    for k in 0..part.periods() {
-        assert_eq!(all_bits(part.filtered(k).mean), all_bits(whole.filtered(t + k).mean));
-        assert_eq!(all_bits(part.filtered(k).cov), all_bits(whole.filtered(t + k).cov));
-        for i in 0..whole.elements() {
-            assert_eq!(record(part.record(k, i)), record(whole.record(t + k, i)));
-        }
-    }
-}
 
 /// Through a file and back.
 fn by_file(saved: &Saved, name: &str) -> Saved {
@@ -348,16 +294,20 @@ struct Lent {
 
 const UNTOUCHED: Lent = Lent { pred: [[7.0; 3]; 3], rest: [[7.0; 2]; 7], kinds: [7; 2] };
 
+/// The inputs of that period.
+fn reading(y: &[f64; 1]) -> Inputs<'_> {
+    let (one, zero) = (&[1.0], &[0.0]);
+    let (a1, p_star, flags) = (zero, zero, &[1]);
+    Inputs { p: 1, m: 1, r: 1, n: 1, z: one, h: one, t: one, rr: one, q: &[2.0], c: zero, d: zero, a1, p_star, flags, y, ..Inputs::default() }
+}
+
 impl Lent {
     /// A stretch of that period, and the answer's counts.
-    fn stretch(&mut self, y: f64, from: Origin<'_>, then: Ending<'_>) -> Result<(usize, usize, usize), Refusal> {
-        let (one, zero) = (&[1.0], &[0.0]);
-        let (a1, p_star, flags, y) = (zero, zero, &[1], &[y]);
-        let inputs = Inputs { p: 1, m: 1, r: 1, n: 1, z: one, zs: &[], h: one, t: one, rr: one, q: &[2.0], c: zero, d: zero, a1, p_star, flags, y };
+    fn stretch(&mut self, inputs: &Inputs<'_>, from: Origin<'_>, then: Ending<'_>) -> Result<(usize, usize, usize), Refusal> {
         let [pred_mean, pred_cov, pred_inf] = &mut self.pred;
         let [filt_mean, filt_cov, v, f_star, f_inf, m_star, m_inf] = &mut self.rest;
         let mut outputs = Outputs { pred_mean, pred_cov, pred_inf, filt_mean, filt_cov, kinds: &mut self.kinds, v, f_star, f_inf, m_star, m_inf };
-        lent::stretch(&inputs, from, &mut outputs, then).map(|a| (a.d_diffuse, a.heard, a.news))
+        lent::stretch(inputs, from, &mut outputs, then).map(|a| (a.d_diffuse, a.heard, a.news))
     }
 }
 
@@ -367,12 +317,12 @@ fn what_is_written() {
 
     // Too short by a byte: nothing is written.
     let mut lent = UNTOUCHED;
-    assert_eq!(lent.stretch(2.0, Origin::Start, Ending::Save(&mut save[..159])), Err(Refusal::Length));
+    assert_eq!(lent.stretch(&reading(&[2.0]), Origin::Start, Ending::Save(&mut save[..159])), Err(Refusal::Length));
     assert_eq!((lent, save), (UNTOUCHED, [7; 163]));
 
     // Figure A, saved. What is beyond stays.
     let mut lent = UNTOUCHED;
-    assert_eq!(lent.stretch(2.0, Origin::Start, Ending::Save(&mut save)), Ok((1, 1, 1)));
+    assert_eq!(lent.stretch(&reading(&[2.0]), Origin::Start, Ending::Save(&mut save)), Ok((1, 1, 1)));
     assert_eq!(lent.pred, [[0.0, 2.0, 7.0], [0.0, 3.0, 7.0], [1.0, 0.0, 7.0]]);
     assert_eq!((lent.rest[0], lent.rest[1], lent.kinds), ([2.0, 7.0], [1.0, 7.0], [2, 7]));
     assert_eq!(save[..160], *begin(&level(), 1, &[2.0]).unwrap().1.as_bytes());
@@ -380,22 +330,31 @@ fn what_is_written() {
 
     // Figure B's second period, the last.
     let mut lent = UNTOUCHED;
-    assert_eq!(lent.stretch(6.0, Origin::Saved(&save[..160]), Ending::Last), Ok((1, 2, 2)));
+    assert_eq!(lent.stretch(&reading(&[6.0]), Origin::Saved(&save[..160]), Ending::Last), Ok((1, 2, 2)));
     assert_eq!(lent.pred, [[2.0, 5.0, 7.0], [3.0, 2.75, 7.0], [0.0, 0.0, 7.0]]);
     assert_eq!((lent.rest[0], lent.rest[1], lent.kinds), ([5.0, 7.0], [0.75, 7.0], [1, 7]));
 
     // 12, with the reading of the first period made no news: the needed places are 0, and the rest stays.
     let (mut lent, mut no_news) = (UNTOUCHED, save);
     no_news[135] = 0;
-    assert_eq!(lent.stretch(GAP, Origin::Saved(&no_news[..160]), Ending::Last), Err(Refusal::NoInformation));
+    assert_eq!(lent.stretch(&reading(&[GAP]), Origin::Saved(&no_news[..160]), Ending::Last), Err(Refusal::NoInformation));
     assert_eq!(lent, Lent { pred: [[0.0, 0.0, 7.0]; 3], rest: [[0.0, 7.0]; 7], kinds: [0, 7] });
 
     // 15 writes nothing, to the place for saving neither.
     for wrong in [&save[..0], &save[..159], &save] {
         let (mut lent, mut again) = (UNTOUCHED, [7; 163]);
-        assert_eq!(lent.stretch(6.0, Origin::Saved(wrong), Ending::Save(&mut again)), Err(Refusal::BadSaved));
+        assert_eq!(lent.stretch(&reading(&[6.0]), Origin::Saved(wrong), Ending::Save(&mut again)), Err(Refusal::BadSaved));
         assert_eq!((lent, again), (UNTOUCHED, [7; 163]));
     }
+
+    // Nor does 14: the second period has no design. Where the first is repeated, it is figure B's again.
+    let listed = Inputs { z: &[], zs: &[1.0], ..reading(&[6.0]) };
+    let (mut lent, mut again) = (UNTOUCHED, [7; 163]);
+    assert_eq!(lent.stretch(&listed, Origin::Saved(&save[..160]), Ending::Save(&mut again)), Err(Refusal::ListShort));
+    assert_eq!((&lent, again), (&UNTOUCHED, [7; 163]));
+    let repeated = Inputs { repeats: true, ..listed };
+    assert_eq!(lent.stretch(&repeated, Origin::Saved(&save[..160]), Ending::Last), Ok((1, 2, 2)));
+    assert_eq!((lent.rest[0], lent.rest[1], lent.kinds), ([5.0, 7.0], [0.75, 7.0], [1, 7]));
 }
 
 #[test]

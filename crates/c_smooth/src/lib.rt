@@ -1,17 +1,18 @@
 // The smoother's call by the C calling convention: numbers as themselves, a slice as pointer and length. It asks nothing of its caller. A crate of its own,
 // and so an object of its own in libgoxundar.a (DECISIONS 74). Its name ends in the interface's number, which the header puts there.
 ghost use Rattle.promise.specs.Lent.{given, lentSmooth};
-ghost use Rattle.promise.specs.Exported.{places, SmoothedC};
+ghost use Rattle.promise.specs.Exported.{isYes, places, SmoothedC};
 
 // The filter's call with two outputs more.
 #[no_mangle]
-pub extern "C" fn goxundar_smooth_2<'a>(
+pub extern "C" fn goxundar_smooth_3<'a>(
     p: usize,
     m: usize,
     r: usize,
     n: usize,
     z: &'a [f64],
     zs: &'a [f64],
+    repeats: u8,
     h: &[f64],
     t: &[f64],
     rr: &[f64],
@@ -44,7 +45,7 @@ pub extern "C" fn goxundar_smooth_2<'a>(
 ) -> u32
     ensures { λ k. ⌜ SmoothedC
         (given p m r n
-        (now (z .entry)) (now (zs .entry)) (now (h .entry)) (now (t .entry)) (now (rr .entry)) (now (q .entry))
+        (now (z .entry)) (now (zs .entry)) (isYes repeats) (now (h .entry)) (now (t .entry)) (now (rr .entry)) (now (q .entry))
         (now (c .entry)) (now (d .entry)) (now (a1 .entry)) (now («p_star» .entry)) (now (flags .entry)) (now (y .entry)))
         (lentSmooth
         (now («pred_mean» .entry)) (now («pred_cov» .entry)) (now («pred_inf» .entry))
@@ -71,6 +72,7 @@ pub extern "C" fn goxundar_smooth_2<'a>(
         n,
         z,
         zs,
+        repeats != 0,
         h,
         t,
         rr,

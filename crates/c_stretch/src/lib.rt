@@ -5,13 +5,14 @@ ghost use Rattle.promise.specs.Lent.{given, lent, givenStretch, lentStretch};
 ghost use Rattle.promise.specs.Exported.{isYes, places, StretchedC};
 
 #[no_mangle]
-pub extern "C" fn goxundar_stretch_2<'a>(
+pub extern "C" fn goxundar_stretch_3<'a>(
     p: usize,
     m: usize,
     r: usize,
     n: usize,
     z: &'a [f64],
     zs: &'a [f64],
+    repeats: u8,
     h: &[f64],
     t: &[f64],
     rr: &[f64],
@@ -47,7 +48,7 @@ pub extern "C" fn goxundar_stretch_2<'a>(
     ensures { λ k. ⌜ StretchedC
         (givenStretch
         (given p m r n
-        (now (z .entry)) (now (zs .entry)) (now (h .entry)) (now (t .entry)) (now (rr .entry)) (now (q .entry))
+        (now (z .entry)) (now (zs .entry)) (isYes repeats) (now (h .entry)) (now (t .entry)) (now (rr .entry)) (now (q .entry))
         (now (c .entry)) (now (d .entry)) (now (a1 .entry)) (now («p_star» .entry)) (now (flags .entry)) (now (y .entry)))
         (isYes begins) (now (saved .entry)) (isYes last))
         (lentStretch
@@ -77,6 +78,7 @@ pub extern "C" fn goxundar_stretch_2<'a>(
         n,
         z,
         zs,
+        repeats != 0,
         h,
         t,
         rr,

@@ -1,8 +1,9 @@
--- The three demands and request k, of the filter's call. `Called x o y w w′ r b b′`: with the inputs x, o and y and the parts lent as w and w′ it came
--- back with r, and left b and b′ in them. That every call does so is the contract of filter::filter_univariate, which asks nothing of the caller.
-use mathlib.Core.Path.{_≡_, refl, sym, subst}
+-- The three demands and requests d and k, of the filter's call. `Called x o y w w′ r b b′`: with the inputs x, o and y and the parts lent as w and w′
+-- it came back with r, and left b and b′ in them. That every call does so is the contract of filter::filter_univariate, which asks nothing.
+use mathlib.Core.Path.{_≡_, refl, sym, _∙_, subst}
 use mathlib.Core.Logic.{_↔_}
 use Prim.Native.Nat.{ℕ, _<_}
+use mathlib.Core.Bool.{Bool}
 use mathlib.Core.List.{List}
 use lib.ListN.{set}
 use lib.Dec.{T}
@@ -17,6 +18,8 @@ use Rattle.demands.specs.Totals.{totals}
 use Rattle.demands.specs.Reports as report
 use Rattle.demands.specs.Values as demand
 use Rattle.demands.specs.Offsets as offset
+use Rattle.demands.specs.Marked.{marking}
+use Rattle.demands.specs.Marked as mark
 use Rattle.promise.specs.declared.Outcome.{Outcome}
 use Rattle.promise.specs.Calls.{Promise}
 use Rattle.calls.specs.Seen as seen
@@ -25,18 +28,25 @@ abbrev pub Called : Model → Offsets → List Float → CovParts → MeanParts 
 Called x o y w w′ r b b′ = Promise (outcome x o y w w′) r b b′
 
 module _ (x : Model) (o : Offsets) (y : List Float) (w : CovParts) (w′ : MeanParts) {r : Outcome} {b : CovParts} {b′ : MeanParts} (call : Called x o y w w′ r b b′) where
-  -- demand 1: the first condition of document 01's table that applies, 0 where none does; 1 to 11 write nothing
+  -- demand 1: the first condition of the table that applies, 0 where none does; all but 12 write nothing
   pub refuses : (k : ℕ) → (seen.refusalOf r ≡ k) ↔ First k (table x o y (Room x w w′))
   refuses k = subst (λ (n : ℕ). (n ≡ k) ↔ First k (table x o y (Room x w w′))) (sym (seen.refusal-is call)) (refusals.refuses x o y w w′ k)
 
-  pub keeps : (k : ℕ) → 0 < k → k < 12 → seen.refusalOf r ≡ k → seen.SameParts b w b′ w′
-  keeps k l h e =
-      let s = refusals.keeps x o y w w′ k l h (subst (λ (n : ℕ). n ≡ k) (seen.refusal-is call) e) in
+  pub keeps : (k : ℕ) → 0 < k → (k ≡ 12 → ⊥) → seen.refusalOf r ≡ k → seen.SameParts b w b′ w′
+  keeps k l n e =
+      let s = refusals.keeps x o y w w′ k l n (subst (λ (n : ℕ). n ≡ k) (seen.refusal-is call) e) in
       seen.parts-are call (s .0) (s .1)
 
   -- and 12 blanks
   pub blanked : seen.refusalOf r ≡ 12 → seen.BlankParts x w b w′ b′
   blanked e = seen.blanks call (refusals.blanked x o y w w′ (subst (λ (n : ℕ). n ≡ 12) (seen.refusal-is call) e))
+
+  -- request d: a marked call is never refused 14, and where the list reaches the run's last period, or the design is constant, the marker is void
+  pub never : T (x .repeats) → seen.refusalOf r ≡ 14 → ⊥
+  never marked e = mark.never x marked o y w w′ (sym (seen.refusal-is call) ∙ e)
+
+  pub void : (a : Bool) → mark.Reaches x (x .n) → {s : Outcome} {c : CovParts} {c′ : MeanParts} → Called (marking a x) o y w w′ s c c′ → seen.Same r s b c b′ c′
+  void a reaches other = seen.same call other (sym (mark.void x a o y w w′ reaches))
 
   -- demand 2: no room. What the call came back with and left is one thing
   pub determined : {s : Outcome} {c : CovParts} {c′ : MeanParts} → Called x o y w w′ s c c′ → seen.Same r s b c b′ c′

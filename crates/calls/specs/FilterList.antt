@@ -41,7 +41,7 @@ module _ (x : Model) (o : Offsets) (y : List Float) (w : CovParts) (w′ : MeanP
   pub refuses : (k : ℕ) → (seen.refusalOf r ≡ k) ↔ First k (table x o y (RoomList (Room x w w′) x old))
   refuses k = refuses-list x o y w w′ old k (λ e. filter.refuses x o y w w′ (enough call e) k) (short call)
 
-  pub keeps : (k : ℕ) → 0 < k → k < 12 → seen.refusalOf r ≡ k → seen.SameParts b w b′ w′ × (new ≡ old)
+  pub keeps : (k : ℕ) → 0 < k → (k ≡ 12 → ⊥) → seen.refusalOf r ≡ k → seen.SameParts b w b′ w′ × (new ≡ old)
   keeps k l h e = (
     either-way x old (λ t. filter.keeps x o y w w′ (enough call t) k l h e) (λ t. short call t .parts),
     list-keeps (call .promise) _ old (call .told) k l h e,

@@ -69,7 +69,7 @@ module _ (x : Model) (o : Offsets) (y : List Float) where
   unfolding endingWithRecords
   without-room room have e = ap (ending x o (map classOf y)) (ap (λ (t : Bool). room && t) e ∙ and-none room) ∙ no-room
 
--- ---- a call with too short a list
+-- ---- a call with too short a list of records
 
 abbrev none : Counts
 none = record { dDiffuse = 0; heard = 0; news = 0 }
@@ -203,10 +203,10 @@ told-by (suc n) k a = refl
 tells : {u : CovOutcome × MeanOutcome} {r : Outcome} {b : CovParts} {b′ : MeanParts} → Promise u r b b′ → (k : ℕ) → toTell r k ≡ tellsBy (seen.refusalOf r) k
 tells {u} {r} p k = ap (λ (s : Outcome). toTell s k) (p .answer) ∙ told-by (u .0 .refused) k _ ∙ ap (λ (n : ℕ). tellsBy n k) (sym (seen.refusal-is p))
 
--- nothing is told on refusals 1 to 11
-none-told : (n k : ℕ) → 0 < n → n < 12 → tellsBy n k ≡ 0
+-- nothing is told on a refusal but 12
+none-told : (n k : ℕ) → 0 < n → (n ≡ 12 → ⊥) → tellsBy n k ≡ 0
 none-told zero k l h = absurd (omega arith)
-none-told (suc n) k l h = ap (λ (t : Bool). cond t k 0) (ne-eqb (suc n) 12 (λ e. omega arith))
+none-told (suc n) k l h = ap (λ (t : Bool). cond t k 0) (ne-eqb (suc n) 12 h)
 
 map-tab : (n j : ℕ) (f : ℕ → Record) → map butV (tabFrom j n f) ≡ tabFrom j n (λ i. butV (f i))
 unfolding tabFrom
@@ -243,7 +243,7 @@ module _ (kinds : List ℕ) (vs us fs f∞s : List Float) where
       ∙ sym (map-append butV m (drop (length m) old))
 
 module _ {u : CovOutcome × MeanOutcome} {r : Outcome} {b : CovParts} {b′ : MeanParts} (p : Promise u r b b′) (k : ℕ) (old : List Record) {new : List Record} (told : new ≡ toldBy k r b b′ old) where
-  pub list-keeps : (n : ℕ) → 0 < n → n < 12 → seen.refusalOf r ≡ n → new ≡ old
+  pub list-keeps : (n : ℕ) → 0 < n → (n ≡ 12 → ⊥) → seen.refusalOf r ≡ n → new ≡ old
   unfolding recordsOf tabFrom
   list-keeps n l h e =
       told

@@ -1,8 +1,9 @@
--- The three demands and request k, of the smoother's call: the filter's eleven parts and the two smoothed ones. `Called` is as in Filter, with the
--- smoothed parts lent as sm and sc and left as sm′ and sc′. That every call does so is the contract of smoother::smooth_univariate.
+-- The three demands and requests d and k, of the smoother's call: the filter's eleven parts and the two smoothed ones. `Called` is as in Filter, with
+-- the smoothed parts lent as sm and sc and left as sm′ and sc′. That every call does so is the contract of smoother::smooth_univariate.
 use mathlib.Core.Path.{_≡_, refl, sym, ap, _∙_, subst}
 use mathlib.Core.Logic.{_↔_}
 use Prim.Native.Nat.{ℕ, _<_}
+use mathlib.Core.Bool.{Bool}
 use mathlib.Core.List.{List}
 use lib.ListN.{set}
 use lib.Dec.{T}
@@ -18,6 +19,8 @@ use Rattle.demands.specs.Totals.{totals-smooth}
 use Rattle.demands.specs.Reports as report
 use Rattle.demands.specs.Values as demand
 use Rattle.demands.specs.Offsets as offset
+use Rattle.demands.specs.Marked.{marking}
+use Rattle.demands.specs.Marked as mark
 use Rattle.promise.specs.declared.Outcome.{Outcome}
 use Rattle.promise.specs.Calls.{PromiseSmooth}
 use Rattle.calls.specs.Seen as seen
@@ -54,15 +57,22 @@ module _ (x : Model) (o : Offsets) (y : List Float) (w : CovParts) (w′ : MeanP
   pub refuses : (k : ℕ) → (seen.refusalOf r ≡ k) ↔ First k (table x o y (RoomSmooth x w w′ sm sc))
   refuses k = subst (λ (n : ℕ). (n ≡ k) ↔ First k (table x o y (RoomSmooth x w w′ sm sc))) (sym (seen.refusal-is (call .filter))) (refusals.refuses-smooth x o y w w′ sm sc k)
 
-  pub keeps : (k : ℕ) → 0 < k → k < 12 → seen.refusalOf r ≡ k → seen.SameParts b w b′ w′ × (sm′ ≡ sm) × (sc′ ≡ sc)
-  keeps k l h e =
-      let s = refusals.keeps-smooth x o y w w′ sm sc k l h (subst (λ (n : ℕ). n ≡ k) (seen.refusal-is (call .filter)) e) in
+  pub keeps : (k : ℕ) → 0 < k → (k ≡ 12 → ⊥) → seen.refusalOf r ≡ k → seen.SameParts b w b′ w′ × (sm′ ≡ sm) × (sc′ ≡ sc)
+  keeps k l n e =
+      let s = refusals.keeps-smooth x o y w w′ sm sc k l n (subst (λ (n : ℕ). n ≡ k) (seen.refusal-is (call .filter)) e) in
       (seen.parts-are (call .filter) (s .0) (s .1), call .mean ∙ s .3, call .cov ∙ s .2)
 
   pub blanked : seen.refusalOf r ≡ 12 → seen.BlankParts x w b w′ b′ × Blanked (smoothedMeanNeed x) 0ᶠ sm sm′ × Blanked (smoothedCovNeed x) 0ᶠ sc sc′
   blanked e =
       let s = refusals.blanked-smooth x o y w w′ sm sc (subst (λ (n : ℕ). n ≡ 12) (seen.refusal-is (call .filter)) e) in
       (seen.blanks (call .filter) (s .0), call .mean ∙ s .2, call .cov ∙ s .1)
+
+  -- request d
+  pub never : T (x .repeats) → seen.refusalOf r ≡ 14 → ⊥
+  never marked e = mark.never-smooth x marked o y w w′ sm sc (sym (seen.refusal-is (call .filter)) ∙ e)
+
+  pub void : (a : Bool) → mark.Reaches x (x .n) → {s : Outcome} {c : CovParts} {c′ : MeanParts} {sm″ sc″ : List Float} → Called (marking a x) o y w w′ sm sc s c c′ sm″ sc″ → Same r s b c b′ c′ sm′ sm″ sc′ sc″
+  void a reaches other = same call other (sym (mark.void-smooth x a o y w w′ sm sc reaches))
 
   -- demand 2: no room
   pub determined : {s : Outcome} {c : CovParts} {c′ : MeanParts} {sm″ sc″ : List Float} → Called x o y w w′ sm sc s c c′ sm″ sc″ → Same r s b c b′ c′ sm′ sm″ sc′ sc″

@@ -51,7 +51,7 @@ module _ (x : Model) (o : Offsets) (y : List Float) (w : CovParts) (w′ : MeanP
   pub refuses : (k : ℕ) → (seen.refusalOf r ≡ k) ↔ First k (table x o y (RoomList (RoomSmooth x w w′ sm sc) x old))
   refuses k = refuses-list x o y w w′ old k (λ e. smooth.refuses x o y w w′ sm sc (enough call e) k) (short call)
 
-  pub keeps : (k : ℕ) → 0 < k → k < 12 → seen.refusalOf r ≡ k → seen.SameParts b w b′ w′ × (sm′ ≡ sm) × (sc′ ≡ sc) × (new ≡ old)
+  pub keeps : (k : ℕ) → 0 < k → (k ≡ 12 → ⊥) → seen.refusalOf r ≡ k → seen.SameParts b w b′ w′ × (sm′ ≡ sm) × (sc′ ≡ sc) × (new ≡ old)
   keeps k l h e =
       let z = either-way x old (λ t. smooth.keeps x o y w w′ sm sc (enough call t) k l h e) (λ t. let s = short-smoothed call t in (short call t .parts, s .0, s .1)) in
       (z .0, z .1, z .2, list-keeps (call .promise .filter) _ old (call .told) k l h e)

@@ -1,6 +1,6 @@
--- The three demands and request k, of a stretch's call, and that a run in stretches is the run. `Called` is as in Filter, with where the stretch goes on
--- from (w), whether it is the last, and the part to save in, lent as save and left as save′. That every call does so is the contract of
--- stretch::stretch. `Ready` asks that numbers are doubles and saved numbers bytes, as those of a caller always are.
+-- The three demands and requests d and k, of a stretch's call, and that a run in stretches is the run. `Called` is as in Filter, with where the
+-- stretch goes on from (w), whether it is the last, and the part to save in, lent as save and left as save′. That every call does so is the contract
+-- of stretch::stretch. `Ready` asks that numbers are doubles and saved numbers bytes, as those of a caller always are.
 use mathlib.Core.Path.{_≡_, refl, sym, ap, ap₂, _∙_, subst}
 use mathlib.Core.Logic.{_⊎_, _↔_}
 use Prim.Native.Nat.{ℕ, _+_, _*_, _<_}
@@ -23,7 +23,7 @@ use Rattle.laws.specs.Cut.{lasting}
 use Rattle.laws.specs.Written.{covUnit, meanUnit}
 use Rattle.laws.specs.AcceptedStretch.{Ready, resume}
 use Rattle.laws.specs.AcceptedStretch as accepted
-use Rattle.demands.specs.Conditions.{First}
+use Rattle.demands.specs.Conditions.{ListShort, First}
 use Rattle.demands.specs.Values.{Alike}
 use Rattle.demands.specs.Reports as report
 use Rattle.demands.specs.WholeStretch.{start}
@@ -39,6 +39,8 @@ use Rattle.demands.specs.StretchValues as blind
 use Rattle.demands.specs.StretchUnheard.{SavedLess}
 use Rattle.demands.specs.StretchUnheard as unheard
 use Rattle.demands.specs.Offsets as offset
+use Rattle.demands.specs.Marked.{marking}
+use Rattle.demands.specs.Marked as mark
 use Rattle.promise.specs.declared.Outcome.{Outcome}
 use Rattle.promise.specs.Calls.{PromiseStretch}
 use Rattle.calls.specs.Seen as seen
@@ -95,6 +97,13 @@ module _ (x : Model) (o : Offsets) (w : From) (last : Bool) (y : List Float) (v 
   -- and none writes past a saved run's length
   pub tail-keeps : Ready x o w → drop (savedNeed (x .m)) save′ ≡ drop (savedNeed (x .m)) save
   tail-keeps ready = ap (drop (savedNeed (x .m))) (call .save) ∙ refusals.tail-keeps x o w last y v v′ save ready
+
+  -- request d, over the periods done and the stretch's
+  pub never : T (x .repeats) → seen.refusalOf r ≡ 14 → ⊥
+  never marked e = mark.never-stretch x marked o y v v′ w last save (number-is 14 e)
+
+  pub void : (a : Bool) → mark.Reaches x (pastIn x w .done + x .n) → {s : Outcome} {c : CovParts} {c′ : MeanParts} {save″ : List ℕ} → Called (marking a x) o w last y v v′ save s c c′ save″ → Same r s b c b′ c′ save′ save″
+  void a reaches other = same call other (sym (mark.void-stretch x a o y v v′ w last save reaches))
 
   -- demand 2: no room
   pub determined : {s : Outcome} {c : CovParts} {c′ : MeanParts} {save″ : List ℕ} → Called x o w last y v v′ save s c c′ save″ → Same r s b c b′ c′ save′ save″
@@ -157,13 +166,14 @@ module _ (x : Model) (o : Offsets) (w : From) (last : Bool) (y : List Float) (v 
           subst (λ (l : List ℕ). SavedLess (x .m) (take (savedNeed (x .m)) l) (take (savedNeed (x .m)) save″)) (sym (call .save))
           (subst (λ (l : List ℕ). SavedLess (x .m) (take (savedNeed (x .m)) (stretchOutcome x o w last y v v′ save .save)) (take (savedNeed (x .m)) l)) (sym (other .save)) known)
 
--- ---- a stretch alone: where it begins, is the last and has a period, it is the filter's call
+-- ---- a stretch alone: where it begins, is the last, has a period and its list is not short, it is the filter's call. (Of a short list both are
+-- turned away, but the filter's call looks at that before 3 to 11, a stretch after 15)
 
-pub whole : (x : Model) (o : Offsets) (y : List Float) (v : CovParts) (v′ : MeanParts) (save : List ℕ) → 0 < x .n
+pub whole : (x : Model) (o : Offsets) (y : List Float) (v : CovParts) (v′ : MeanParts) (save : List ℕ) → 0 < x .n → (ListShort x (x .n) → ⊥)
     → {r s : Outcome} {b c : CovParts} {b′ c′ : MeanParts} {save′ : List ℕ}
     → Called x o start true y v v′ save r b b′ save′ → filter.Called x o y v v′ s c c′ → seen.Same r s b c b′ c′ × (save′ ≡ save)
-whole x o y v v′ save some call other =
-    let e = alone.whole x o some y v v′ save in (
+whole x o y v v′ save some reaches call other =
+    let e = alone.whole x o some reaches y v v′ save in (
       seen.same (call .filter) other (ap (λ (z : StretchOutcome). (z .cov, z .mean)) e),
       call .save ∙ ap (λ (z : StretchOutcome). z .save) e,
     )
@@ -336,6 +346,9 @@ module _ (x : Model) (o : Offsets) (last : Bool) where
 pub as-filter : (x : Model) (o : Offsets) (cs : List Made) (z : Made) (v : CovParts) (v′ : MeanParts) {r : Outcome} {b : CovParts} {b′ : MeanParts}
     → Chain x o true start cs z → filter.Called (lasting (long cs z) x) o (allReadings (pieces cs) (z .piece)) v v′ r b b′
     → 0 < long cs z → Ready x o start → AllOf (Fits x false) cs → Fits x true z → Through r → OneRun x true cs z r (record { cov = b; mean = b′; save = [] })
-as-filter x o cs z v v′ {r} {b} {b′} chain call some =
-    let e = alone.whole (lasting (long cs z) x) o some (allReadings (pieces cs) (z .piece)) v v′ [] in
-    cuts x o true start cs z (record { cov = v; mean = v′; save = [] }) chain (subst (λ (u : StretchOutcome). PromiseStretch u r b b′ []) (sym e) (record { filter = call; save = refl }))
+as-filter x o cs z v v′ {r} {b} {b′} chain call some ready fits fit through =
+    let y = allReadings (pieces cs) (z .piece) in
+    let reaches = alone.reaches (lasting (long cs z) x) o y v v′ (subst (λ (j : ℕ). (j ≡ 0) ⊎ (j ≡ 12)) (seen.refusal-is call) through) in
+    let e = alone.whole (lasting (long cs z) x) o some reaches y v v′ [] in
+    let uncut = subst (λ (u : StretchOutcome). PromiseStretch u r b b′ []) (sym e) (record { filter = call; save = refl }) in
+    cuts x o true start cs z (record { cov = v; mean = v′; save = [] }) chain uncut ready fits fit through

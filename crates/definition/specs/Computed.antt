@@ -85,7 +85,7 @@ unfolding Inputs.classOf Inputs.gapRows Inputs.designFrom Inputs.noiseOf Inputs.
 ofInputs = tt
 
 unfoldable ofRefusals : Unit {0}
-unfolding Refusals.outside Refusals.designFits Refusals.inputsFit Refusals.badLength Refusals.badSystem Refusals.badStart Refusals.negativeAt Refusals.negative Refusals.notPsd Refusals.offAt Refusals.offRow Refusals.offDiagonal Refusals.shapeAt Refusals.shapeRow Refusals.shapeOf Refusals.startShape Refusals.drivenAt Refusals.drivenRow Refusals.mixedDriven Refusals.firstOf Refusals.tests Refusals.refusal
+unfolding Refusals.outside Refusals.designFits Refusals.inputsFit Refusals.badLength Refusals.outrun Refusals.listShort Refusals.badSystem Refusals.badStart Refusals.negativeAt Refusals.negative Refusals.notPsd Refusals.offAt Refusals.offRow Refusals.offDiagonal Refusals.shapeAt Refusals.shapeRow Refusals.shapeOf Refusals.startShape Refusals.drivenAt Refusals.drivenRow Refusals.mixedDriven Refusals.firstOf Refusals.tests Refusals.refusal
 ofRefusals = tt
 
 unfoldable ofReports : Unit {0}

@@ -1,5 +1,5 @@
 -- Cases in which a test meets its tolerance exactly, so that > and ≥ part (document 01, "Easy to get wrong", 4). One theorem, by computation.
--- Each row: a call's inputs, and what it must come to: refusal 1 to 11, or 0, and then the records' kinds, whatever the finite readings are.
+-- Each row: a call's inputs, and what it must come to: a refusal before the run, or 0, and then the records' kinds, whatever the finite readings are.
 use Prim.Native.Nat.{ℕ}
 use mathlib.Core.Bool.{true, false}
 use mathlib.Core.List.{List, [], _∷_, map}
@@ -35,6 +35,7 @@ modelOf e =
       n = e .n;
       zOnce = e .z;
       zList = [];
+      repeats = false;
       h = e .h;
       t = e .t;
       rr = zeros (e .m);

@@ -11,7 +11,8 @@ use Rattle.definition.specs.Run.{anyOf, count, chunks}
 use Rattle.definition.specs.Cov.{System, Cov}
 use Rattle.definition.specs.Mean.{Frame}
 
--- the sizes, the design once (zOnce) or as a list (zList), H, T, R, Q; the flags and P* of the start
+-- the sizes; the design once (zOnce) or as a list (zList), and whether the call asks that the last one be used again where the list runs out
+-- (repeats: refusal 14 reads it, the run does not); H, T, R, Q; the flags and P* of the start
 pub record Model : Type 0 where
   pub p : ℕ
   pub m : ℕ
@@ -19,6 +20,7 @@ pub record Model : Type 0 where
   pub n : ℕ
   pub zOnce : List Float
   pub zList : List Float
+  pub repeats : Bool
   pub h : List Float
   pub t : List Float
   pub rr : List Float

@@ -21,3 +21,4 @@ pub mod Resumed
 pub mod Edges
 pub mod Tracks
 pub mod RanOff
+pub mod Reach

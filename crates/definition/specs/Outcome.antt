@@ -106,7 +106,7 @@ countsOf cs ks =
 unfoldable pub noInformation : Counts → Bool
 noInformation l = ltb 0 (l .heard) && eqb (l .news) 0
 
--- ---- what becomes of a call: turned away by refusal 1 to 11, silent by refusal 12, or answered
+-- ---- what becomes of a call: turned away by a refusal before the run, silent by refusal 12, or answered
 
 pub data Ending : Type 0 where
   turned : ℕ → Ending

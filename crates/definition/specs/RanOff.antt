@@ -1,5 +1,6 @@
 -- Runs whose numbers run off, by computation: what the two reports say, and what they leave out.
 use Prim.Native.Nat.{ℕ}
+use mathlib.Core.Bool.{false}
 use mathlib.Core.List.{List, [], _∷_}
 use lib.Dec.{T}
 use lib.ListN.{length, replicate}
@@ -42,6 +43,7 @@ told k =
       n = length (k .y);
       zOnce = k .z;
       zList = [];
+      repeats = false;
       h = k .h ∷ [];
       t = k .t;
       rr = replicate (k .m) 1ᶠ;

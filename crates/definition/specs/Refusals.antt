@@ -1,4 +1,5 @@
--- Document 01's refusals 1 to 11: each one's condition, and the number of the first that applies. (12 is Outcome's: it is judged after the run.)
+-- Document 01's refusals 1 to 11 and document 02's 14: each one's condition, and the number of the first that applies. (12 is Outcome's: it is judged
+-- after the run.)
 -- A zero is either zero, and is not below 0.
 use Prim.Native.Nat.{ℕ, _*_, _/_}
 use mathlib.Core.Bool.{Bool, not, _&&_, _||_, cond}
@@ -35,6 +36,14 @@ inputsFit x o =
 -- `readings`: how many there are; `room`: each output is at least as long as needed
 unfoldable pub badLength : Model → Offsets → ℕ → Bool → Bool
 badLength x o readings room = not (inputsFit x o && eqb readings (x .n * x .p) && room)
+
+-- 14 ListShort: a list, of so many numbers, that has fewer designs than the run has periods, and the call does not ask that the last be used again.
+-- (A constant design has no list.)
+unfoldable pub outrun : ℕ → ℕ → ℕ → Bool
+outrun pm list periods = not (eqb list 0) && ltb (list / pm) periods
+
+unfoldable pub listShort : Bool → ℕ → ℕ → ℕ → Bool
+listShort repeats pm list periods = not repeats && outrun pm list periods
 
 -- 3 NonFiniteSystem and 6 NonFiniteStart
 abbrev pub unfit : Float → Bool
@@ -102,15 +111,19 @@ unfoldable pub firstOf : List (ℕ × Bool) → ℕ
 firstOf [] = 0
 firstOf (e ∷ es) = let rest = firstOf es in cond (e .1) (e .0) rest
 
--- ---- The table of document 01, in its order, in segments: a call's order is a join of them and of the refusals that the call alone has.
+-- ---- The table of document 01, in its order, and 14, in segments: a call's order is a join of them and of the refusals that the call alone has.
 
 -- 1 Dimension
 abbrev pub ofSizes : Model → List (ℕ × Bool)
 ofSizes x = (1, outside (x .p) (x .m) (x .r) (x .n)) ∷ []
 
--- 2 Length
+-- 2 Length. Of the readings: how many there are; `room` as above
 abbrev pub ofLengths : Model → Offsets → ℕ → Bool → List (ℕ × Bool)
 ofLengths x o readings room = (2, badLength x o readings room) ∷ []
+
+-- 14 ListShort, of a run of so many periods, its first one being the first of the list
+abbrev pub ofReach : Model → ℕ → List (ℕ × Bool)
+ofReach x periods = (14, listShort (x .repeats) (x .p * x .m) (length (x .zList)) periods) ∷ []
 
 -- 3 NonFiniteSystem, 4 NotPsd, 5 QNotDiagonal
 abbrev pub ofSystem : Model → List (ℕ × Bool)
@@ -137,14 +150,13 @@ ofReadings infinity = (9, infinity) ∷ []
 abbrev pub ofStep : Model → List (ℕ × Bool)
 ofStep x = (10, mixedDriven (x .m) (x .t) (x .flags)) ∷ (11, notFinite (noise x)) ∷ []
 
--- 2 to 11: all that the calls share but the sizes. Of the readings: how many there are, and whether one is infinite; `room` as above.
-abbrev pub ofInputs : Model → Offsets → ℕ → Bool → Bool → List (ℕ × Bool)
-ofInputs x o readings infinity room =
-    ofLengths x o readings room ++ ofSystem x ++ ofStart x o ++ ofH x ++ ofReadings infinity ++ ofStep x
+-- 3 to 11: what is looked up in the inputs themselves. Of the readings: whether one is infinite
+abbrev pub ofEntries : Model → Offsets → Bool → List (ℕ × Bool)
+ofEntries x o infinity = ofSystem x ++ ofStart x o ++ ofH x ++ ofReadings infinity ++ ofStep x
 
--- The filter's call and the smoother's.
+-- The filter's call and the smoother's: 14 right after 2.
 unfoldable pub tests : Model → Offsets → ℕ → Bool → Bool → List (ℕ × Bool)
-tests x o readings infinity room = ofSizes x ++ ofInputs x o readings infinity room
+tests x o readings infinity room = ofSizes x ++ ofLengths x o readings room ++ ofReach x (x .n) ++ ofEntries x o infinity
 
 unfoldable pub refusal : Model → Offsets → ℕ → Bool → Bool → ℕ
 refusal x o readings infinity room = firstOf (tests x o readings infinity room)

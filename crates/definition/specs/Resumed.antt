@@ -14,7 +14,7 @@ use Rattle.definition.specs.Cov.{Cov, CovPeriod, period, covRun}
 use Rattle.definition.specs.Mean.{meanRun}
 use Rattle.definition.specs.Inputs.{Model, Offsets, Class, isGap, isInfinity, noise, systemOf, frameOf, gapRows}
 use Rattle.definition.specs.Reports.{firstFrom, covIsOff, covReport, toldBefore}
-use Rattle.definition.specs.Refusals.{notFinite, mixedDriven, firstOf, ofLengths, ofSystem, ofStart, ofH, ofReadings}
+use Rattle.definition.specs.Refusals.{notFinite, mixedDriven, firstOf, ofLengths, ofReach, ofSystem, ofStart, ofH, ofReadings}
 use Rattle.definition.specs.Outcome.{Ending, turned, silent, answered, endingOf, after, noInformation}
 use Rattle.definition.specs.Carried.{Past, Carried, covFrom, meanFrom, plus, pastOn, meanOn, went}
 use Rattle.definition.specs.Stretch.{outsideStretch, badFrom, stretchTests, stretchRefusal, stretchEnding, saveStretch}
@@ -23,7 +23,7 @@ use Rattle.definition.specs.Stretch.{outsideStretch, badFrom, stretchTes
 
 abbrev lone : ℕ → Model → Model
 lone n x =
-    record { p = 1; m = x .m; r = x .r; n = n; zOnce = x .zOnce; zList = x .zList; h = x .h; t = x .t; rr = x .rr; q = x .q; flags = x .flags; pStar = x .pStar }
+    record { p = 1; m = x .m; r = x .r; n = n; zOnce = x .zOnce; zList = x .zList; repeats = x .repeats; h = x .h; t = x .t; rr = x .rr; q = x .q; flags = x .flags; pStar = x .pStar }
 
 pub two-covs : (x : Model) (s : Past) (k l : Class)
     → covFrom (lone 2 x) s (k ∷ l ∷ [])
@@ -83,13 +83,13 @@ stands (f ∷ es) rest b t h e = pick (f .1) (stands es rest b t (h .1)) e
     pick true below q = h .0 q
     pick false below q = below q
 
-pub eleven-first : (x : Model) (o : Offsets) (readings : ℕ) (infinity room bad : Bool) → notFinite (noise x) ≡ true → stretchRefusal x o readings infinity room bad ≡ 15 → ⊥
+pub eleven-first : (x : Model) (o : Offsets) (readings : ℕ) (infinity room bad : Bool) (done : ℕ) → notFinite (noise x) ≡ true → stretchRefusal x o readings infinity room bad done ≡ 15 → ⊥
 unfolding stretchRefusal stretchTests
-eleven-first x o readings infinity room bad e =
+eleven-first x o readings infinity room bad done e =
     let low : (k : ℕ) → k < 15 → k ≡ 15 → ⊥ = λ k l q. omega arith in
     stands
     (((1, outsideStretch (x .p) (x .m) (x .r) (x .n)) ∷ []) ++ ofLengths x o readings room ++ ofSystem x ++ ofStart x o ++ ofH x ++ ofReadings infinity ++ ((10, mixedDriven (x .m) (x .t) (x .flags)) ∷ []))
-    ((15, bad) ∷ [])
+    ((15, bad) ∷ ofReach x (done + x .n))
     (notFinite (noise x))
     e
     (low 1 (omega arith), (low 2 (omega arith), (low 3 (omega arith), (low 4 (omega arith), (low 5 (omega arith), (low 6 (omega arith), (low 7 (omega arith), (low 8 (omega arith), (low 9 (omega arith), (low 10 (omega arith), tt))))))))))
@@ -105,13 +105,13 @@ heard-out (suc r) q e h = let z : _≡_ {A = ℕ} 0 1 = cc in omega arith
 module _ (x : Model) (o : Offsets) (s : Past) (bad : Bool) (ks : List Class) (room : Bool) where
   pub last-alone : stretchEnding x o s bad false ks room ≡ silent → ⊥
   unfolding stretchEnding
-  last-alone h = heard-out (stretchRefusal x o (length ks) (anyOf isInfinity ks) room bad) false refl h
+  last-alone h = heard-out (stretchRefusal x o (length ks) (anyOf isInfinity ks) room bad (s .done)) false refl h
 
   pub news-before : (last : Bool) → 0 < s .counts .news → stretchEnding x o s bad last ks room ≡ silent → ⊥
   unfolding stretchEnding pastOn plus noInformation
   news-before last l h =
       let c = pastOn x s ks .counts in
-      heard-out (stretchRefusal x o (length ks) (anyOf isInfinity ks) room bad) (last && (ltb 0 (c .heard) && eqb (c .news) 0))
+      heard-out (stretchRefusal x o (length ks) (anyOf isInfinity ks) room bad (s .done)) (last && (ltb 0 (c .heard) && eqb (c .news) 0))
       (ap (λ (b : Bool). last && (ltb 0 (c .heard) && b)) (ne-eqb (c .news) 0 (λ z. omega arith)) ∙ none last (ltb 0 (c .heard)))
       h
     where

@@ -1,6 +1,6 @@
 -- A stretch's call: its refusals, and its whole outcome, every lent part afterwards, tails included. It is the filter's call, with where it goes on
 -- from (`begins`, or else the saved bytes), whether it is the last (`last`), and one lent part more, to save in.
-use Prim.Native.Nat.{ℕ}
+use Prim.Native.Nat.{ℕ, _+_}
 use mathlib.Core.Bool.{Bool, not, _&&_, _||_, cond}
 use mathlib.Core.List.{List, [], _∷_, _++_, map}
 use lib.ListN.{length}
@@ -9,7 +9,7 @@ use lib.Ieee.{Float}
 use Rattle.definition.specs.Run.{anyOf}
 use Rattle.definition.specs.Mean.{Mean}
 use Rattle.definition.specs.Inputs.{Model, Offsets, Class, classOf, isInfinity}
-use Rattle.definition.specs.Refusals.{beyond, firstOf, ofInputs}
+use Rattle.definition.specs.Refusals.{beyond, firstOf, ofLengths, ofReach, ofEntries}
 use Rattle.definition.specs.Outcome.{CovParts, MeanParts, CovOutcome, MeanOutcome, Ending, endingOf, after, noInformation, roomy, covEnded, meanEnded}
 use Rattle.definition.specs.Carried.{Past, Carried, begunPast, begunMean, covFrom, pastOn, meanOn, meanOffOn, went}
 use Rattle.definition.specs.Saved.{savedOf, savedNeed, badSaved, widths, numbersIn, loadedPast, loadedMean, meanOffIn}
@@ -31,7 +31,7 @@ meanToldIn x w = cond (w .begins) 0 (meanOffIn (numbersIn (widths (x .m)) (w .sa
 abbrev pub carriedIn : Model → Offsets → From → Carried
 carriedIn x o w = record { past = pastIn x w; mean = meanIn x o w; meanOff = meanToldIn x w }
 
--- ---- the refusals: 1, which allows 0 periods here; 2 to 11 as in the filter's call; 15
+-- ---- the refusals: 1, which allows 0 periods here; 2 to 11 as in the filter's call; 15; and 14, over the periods done and the stretch's
 
 -- 1 Dimension
 unfoldable pub outsideStretch : ℕ → ℕ → ℕ → ℕ → Bool
@@ -41,12 +41,13 @@ outsideStretch p m r n = beyond 8 p || beyond 8 m || beyond 8 r || ltb 4096 n
 unfoldable pub badFrom : Model → From → Bool
 badFrom x w = cond (w .begins) (not (eqb (length (w .saved)) 0)) (badSaved (x .p) (x .m) (x .r) (x .n) (w .saved))
 
-unfoldable pub stretchTests : Model → Offsets → ℕ → Bool → Bool → Bool → List (ℕ × Bool)
-stretchTests x o readings infinity room bad =
-    ((1, outsideStretch (x .p) (x .m) (x .r) (x .n)) ∷ []) ++ ofInputs x o readings infinity room ++ ((15, bad) ∷ [])
+unfoldable pub stretchTests : Model → Offsets → ℕ → Bool → Bool → Bool → ℕ → List (ℕ × Bool)
+stretchTests x o readings infinity room bad done =
+    ((1, outsideStretch (x .p) (x .m) (x .r) (x .n)) ∷ []) ++ ofLengths x o readings room ++ ofEntries x o infinity ++ ((15, bad) ∷ [])
+    ++ ofReach x (done + x .n)
 
-unfoldable pub stretchRefusal : Model → Offsets → ℕ → Bool → Bool → Bool → ℕ
-stretchRefusal x o readings infinity room bad = firstOf (stretchTests x o readings infinity room bad)
+unfoldable pub stretchRefusal : Model → Offsets → ℕ → Bool → Bool → Bool → ℕ → ℕ
+stretchRefusal x o readings infinity room bad done = firstOf (stretchTests x o readings infinity room bad done)
 
 -- the last stretch saves nothing, and needs no room for it
 unfoldable pub roomyStretch : Model → Bool → CovParts → MeanParts → List ℕ → Bool
@@ -63,7 +64,7 @@ module _ (x : Model) where
   -- refusal 12 in the last stretch alone, over the counts since the run began
   unfoldable pub stretchEnding : Offsets → Past → Bool → Bool → List Class → Bool → Ending
   stretchEnding o s bad last ks room =
-      endingOf (stretchRefusal x o (length ks) (anyOf isInfinity ks) room bad) (last && noInformation (pastOn x s ks .counts))
+      endingOf (stretchRefusal x o (length ks) (anyOf isInfinity ks) room bad (s .done)) (last && noInformation (pastOn x s ks .counts))
 
   unfoldable pub covStretch : Ending → Past → List Class → CovParts → CovOutcome
   covStretch f s ks b = let s′ = pastOn x s ks in covEnded x f (covFrom x s ks) (s′ .counts) (s′ .covOff) b

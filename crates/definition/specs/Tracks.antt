@@ -14,7 +14,7 @@ use Rattle.definition.specs.Smooth.{Ns, Rs, backN, backR}
 use Rattle.definition.specs.Inputs.{Model, Offsets, Class, finite, classOf, isGap, isInfinity}
 use Rattle.definition.specs.Refusals.{refusal}
 use Rattle.definition.specs.Outcome.{CovParts, MeanParts, countsOf, ending, roomy, roomySmoothed, outcome, outcomeAt, smoothOutcome, smoothOutcomeAt}
-use Rattle.definition.specs.Stretch.{From, badFrom, stretchRefusal, roomyStretch, stretchEnding, stretchOutcome}
+use Rattle.definition.specs.Stretch.{From, pastIn, badFrom, stretchRefusal, roomyStretch, stretchEnding, stretchOutcome}
 
 -- ---- the covariance half goes by the readings' classes, and finite readings are of one class
 
@@ -36,7 +36,7 @@ module _ (x : Model) (o : Offsets) (y y′ : List Float) (alike : map classOf y 
 -- ---- and not by the offsets: of a1, c and d, and of the parts lent to the means, it sees which refusal they bring about, and no more
 
 module _ (x : Model) (o o′ : Offsets) (y : List Float) (b : CovParts) (b′ c′ : MeanParts) where
-  -- the refusal, 1 to 11, of a call with this much room
+  -- the refusal before the run of a call with this much room
   abbrev early : Offsets → Bool → ℕ
   early o room = refusal x o (length (map classOf y)) (anyOf isInfinity (map classOf y)) room
 
@@ -48,10 +48,10 @@ module _ (x : Model) (o o′ : Offsets) (y : List Float) (b : CovParts) (b′ c�
   unfolding smoothOutcome smoothOutcomeAt ending
   smooth-by-refusal sm sm′ sc e = rw e refl
 
-  -- of a stretch, 1 to 11 or 15
+  -- of a stretch
   module _ (w : From) (last : Bool) (save save′ : List ℕ) where
     abbrev earlyIn : Offsets → Bool → ℕ
-    earlyIn o room = stretchRefusal x o (length (map classOf y)) (anyOf isInfinity (map classOf y)) room (badFrom x w)
+    earlyIn o room = stretchRefusal x o (length (map classOf y)) (anyOf isInfinity (map classOf y)) room (badFrom x w) (pastIn x w .done)
 
     pub stretch-by-refusal : earlyIn o (roomyStretch x last b b′ save) ≡ earlyIn o′ (roomyStretch x last b c′ save′) → stretchOutcome x o w last y b b′ save .cov ≡ stretchOutcome x o′ w last y b c′ save′ .cov
     unfolding stretchOutcome stretchEnding

@@ -3,7 +3,7 @@
 -- Doubles are their bits. Every lent output is filled with a pattern first, so that what a call leaves alone shows.
 use Prim.Native.Nat.{ℕ, zero, suc, _-_}
 use mathlib.Core.List.{List, [], _∷_, _++_, map}
-use mathlib.Core.Bool.{Bool, false, _||_, cond}
+use mathlib.Core.Bool.{Bool, false, not, _||_, cond}
 use lib.Dec.{eqb}
 use lib.ListN.{length, replicate}
 use lib.Ieee.{Float, binary64, ofBits, toBits}
@@ -17,7 +17,7 @@ pub record Lent : Type 0 where
   pub long : ℕ
   pub written : List ℕ
 
--- what every call has: the inputs, and eleven outputs
+-- what every call has: the inputs, and eleven outputs. A marker is yes where it is not 0
 pub record Call : Type 0 where
   pub p : ℕ
   pub m : ℕ
@@ -25,6 +25,7 @@ pub record Call : Type 0 where
   pub n : ℕ
   pub z : List ℕ
   pub zs : List ℕ
+  pub repeats : ℕ
   pub h : List ℕ
   pub t : List ℕ
   pub rr : List ℕ
@@ -69,6 +70,7 @@ modelOf k =
       n = k .n;
       zOnce = doubles (k .z);
       zList = doubles (k .zs);
+      repeats = not (eqb (k .repeats) 0);
       h = doubles (k .h);
       t = doubles (k .t);
       rr = doubles (k .rr);

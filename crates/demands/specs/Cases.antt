@@ -1,5 +1,5 @@
 -- Small calls, and what the oracle (the Rust, by document 01's rules) answers and writes: the definition gives the same, bit for bit, tails included.
--- Made by `oracle small 1 40 | tools/cases`; don't edit. 40 calls, which between them take every branch. One theorem, by computation.
+-- Made by `oracle small 1 44 | tools/cases`; don't edit. 44 calls, which between them take every branch. One theorem, by computation.
 use mathlib.Core.List.{List, [], _∷_}
 use lib.Dec.{T}
 use Rattle.definition.specs.Computed.{hold, opened}
@@ -17,6 +17,7 @@ cases =
             n = 0;
             z = 0x3ff0000000000000 ∷ [];
             zs = [];
+            repeats = 0;
             h = 0x0000000000000000 ∷ [];
             t = 0x0000000000000000 ∷ [];
             rr = 0x0000000000000000 ∷ [];
@@ -54,6 +55,7 @@ cases =
             n = 1;
             z = 0x3ff0000000000000 ∷ [];
             zs = [];
+            repeats = 0;
             h = 0x0000000000000000 ∷ [];
             t = 0x3ff0000000000000 ∷ [];
             rr = 0x3ff0000000000000 ∷ [];
@@ -63,7 +65,7 @@ cases =
             a1 = 0x0000000000000000 ∷ [];
             p-star = 0x0000000000000000 ∷ [];
             flags = 0 ∷ [];
-            y = 0x4000000000000000 ∷ [];
+            y = 0x3ff0000000000000 ∷ [];
             pred-mean = record { long = 2; written = 0x0000000000000000 ∷ 0x0000000000000000 ∷ [] };
             pred-cov = record { long = 2; written = 0x0000000000000000 ∷ 0x0000000000000000 ∷ [] };
             pred-inf = record { long = 2; written = 0x0000000000000000 ∷ 0x0000000000000000 ∷ [] };
@@ -91,6 +93,7 @@ cases =
             n = 1;
             z = 0x3ff0000000000000 ∷ [];
             zs = [];
+            repeats = 0;
             h = 0x3ff0000000000000 ∷ [];
             t = 0x3ff0000000000000 ∷ [];
             rr = 0x3ff0000000000000 ∷ [];
@@ -128,6 +131,7 @@ cases =
             n = 1;
             z = 0x3ff0000000000000 ∷ [];
             zs = [];
+            repeats = 0;
             h = 0x3fe0000000000000 ∷ [];
             t = 0x3ff0000000000000 ∷ [];
             rr = 0x3ff8000000000000 ∷ [];
@@ -165,6 +169,7 @@ cases =
             n = 1;
             z = 0x3ff0000000000000 ∷ [];
             zs = [];
+            repeats = 0;
             h = 0x3ff0000000000000 ∷ [];
             t = 0x3ff0000000000000 ∷ [];
             rr = 0x3ff0000000000000 ∷ [];
@@ -192,7 +197,7 @@ cases =
       sm-mean = record { long = 1; written = 0x0000000000000000 ∷ [] };
       sm-cov = record { long = 1; written = 0x7fe0000000000000 ∷ [] };
     }
-    -- usual; skipped by its scale; clear before any update; exactly at a tolerance; known start
+    -- usual; clear before any update; below; known start
     ∷ record {
       call =
           record {
@@ -200,33 +205,34 @@ cases =
             m = 1;
             r = 1;
             n = 1;
-            z = 0x70a0000000000000 ∷ 0x3ff0000000000000 ∷ [];
+            z = 0xbff8000000000000 ∷ 0x3ff0000000000000 ∷ [];
             zs = [];
-            h = 0x3ff0000000000000 ∷ 0x0000000000000000 ∷ 0x0000000000000000 ∷ 0x3ff0000000000000 ∷ [];
+            repeats = 0;
+            h = 0x0000000000000000 ∷ 0x0000000000000000 ∷ 0x0000000000000000 ∷ 0x3c90000000000000 ∷ [];
             t = 0x3ff0000000000000 ∷ [];
             rr = 0x3ff0000000000000 ∷ [];
             q = 0x0000000000000000 ∷ [];
             c = 0x0000000000000000 ∷ [];
             d = 0x0000000000000000 ∷ 0x0000000000000000 ∷ [];
             a1 = 0x0000000000000000 ∷ [];
-            p-star = 0x6570000000000000 ∷ [];
+            p-star = 0x4000000000000000 ∷ [];
             flags = 0 ∷ [];
-            y = 0x0000000000000000 ∷ 0x0000000000000000 ∷ [];
-            pred-mean = record { long = 2; written = 0x0000000000000000 ∷ 0x0000000000000000 ∷ [] };
-            pred-cov = record { long = 2; written = 0x6570000000000000 ∷ 0x0000000000000000 ∷ [] };
+            y = 0xbff0000000000000 ∷ 0xbff0000000000000 ∷ [];
+            pred-mean = record { long = 2; written = 0x0000000000000000 ∷ 0x3fe5555555555555 ∷ [] };
+            pred-cov = record { long = 2; written = 0x4000000000000000 ∷ 0x0000000000000000 ∷ [] };
             pred-inf = record { long = 2; written = 0x0000000000000000 ∷ 0x0000000000000000 ∷ [] };
-            filt-mean = record { long = 1; written = 0x0000000000000000 ∷ [] };
+            filt-mean = record { long = 1; written = 0x3fe5555555555555 ∷ [] };
             filt-cov = record { long = 1; written = 0x0000000000000000 ∷ [] };
-            kinds = record { long = 2; written = 0 ∷ 1 ∷ [] };
-            v = record { long = 2; written = 0x0000000000000000 ∷ 0x0000000000000000 ∷ [] };
-            f-star = record { long = 2; written = 0x0000000000000000 ∷ 0x6570000000000000 ∷ [] };
+            kinds = record { long = 2; written = 1 ∷ 0 ∷ [] };
+            v = record { long = 2; written = 0xbff0000000000000 ∷ 0x0000000000000000 ∷ [] };
+            f-star = record { long = 2; written = 0x4012000000000000 ∷ 0x0000000000000000 ∷ [] };
             f-inf = record { long = 2; written = 0x0000000000000000 ∷ 0x0000000000000000 ∷ [] };
-            m-star = record { long = 2; written = 0x0000000000000000 ∷ 0x6570000000000000 ∷ [] };
+            m-star = record { long = 2; written = 0xc008000000000000 ∷ 0x0000000000000000 ∷ [] };
             m-inf = record { long = 2; written = 0x0000000000000000 ∷ 0x0000000000000000 ∷ [] };
           };
-      filter = 0 ∷ 0xc06a1b9e7495a0a3 ∷ 0 ∷ 2 ∷ 1 ∷ 0 ∷ 0 ∷ [];
-      smooth = 0 ∷ 0xc06a1b9e7495a0a3 ∷ 0 ∷ 2 ∷ 1 ∷ 0 ∷ 0 ∷ [];
-      sm-mean = record { long = 1; written = 0x0000000000000000 ∷ [] };
+      filter = 0 ∷ 0xbffc836f10e7f05b ∷ 0 ∷ 2 ∷ 1 ∷ 0 ∷ 0 ∷ [];
+      smooth = 0 ∷ 0xbffc836f10e7f05b ∷ 0 ∷ 2 ∷ 1 ∷ 0 ∷ 0 ∷ [];
+      sm-mean = record { long = 1; written = 0x3fe5555555555555 ∷ [] };
       sm-cov = record { long = 1; written = 0x0000000000000000 ∷ [] };
     }
     -- usual; clear before any update; suspect accepted by replay; root built; root used again; known start
@@ -237,36 +243,75 @@ cases =
             m = 1;
             r = 1;
             n = 1;
-            z = 0x3fe0000000000000 ∷ 0x3fe0000000000000 ∷ 0x3fe0000000000000 ∷ [];
+            z = 0x3ff8000000000000 ∷ 0x3fe0000000000000 ∷ 0x3ff8000000000000 ∷ [];
             zs = [];
-            h = 0x3d90000000000000 ∷ 0x0000000000000000 ∷ 0x0000000000000000 ∷ 0x0000000000000000 ∷ 0x0000000000000000 ∷ 0x0000000000000000 ∷ 0x0000000000000000 ∷ 0x0000000000000000 ∷ 0x3e80000000000000 ∷ [];
+            repeats = 0;
+            h = 0x3d70000000000000 ∷ 0x0000000000000000 ∷ 0x0000000000000000 ∷ 0x0000000000000000 ∷ 0x3e80000000000000 ∷ 0x0000000000000000 ∷ 0x0000000000000000 ∷ 0x0000000000000000 ∷ 0x0000000000000000 ∷ [];
             t = 0x3ff0000000000000 ∷ [];
             rr = 0x3ff0000000000000 ∷ [];
             q = 0x0000000000000000 ∷ [];
             c = 0x0000000000000000 ∷ [];
             d = 0x0000000000000000 ∷ 0x0000000000000000 ∷ 0x0000000000000000 ∷ [];
             a1 = 0x0000000000000000 ∷ [];
-            p-star = 0x4024000000000000 ∷ [];
+            p-star = 0x4010000000000000 ∷ [];
             flags = 0 ∷ [];
-            y = 0x0000000000000000 ∷ 0x0000000000000000 ∷ 0x4000000000000000 ∷ [];
+            y = 0x4020000000000000 ∷ 0xc000000000000000 ∷ 0x0000000000000000 ∷ [];
             pred-mean = record { long = 2; written = 0x0000000000000000 ∷ 0x0000000000000000 ∷ [] };
-            pred-cov = record { long = 2; written = 0x4024000000000000 ∷ 0x0000000000000000 ∷ [] };
+            pred-cov = record { long = 2; written = 0x4010000000000000 ∷ 0x0000000000000000 ∷ [] };
             pred-inf = record { long = 2; written = 0x0000000000000000 ∷ 0x0000000000000000 ∷ [] };
             filt-mean = record { long = 1; written = 0x0000000000000000 ∷ [] };
             filt-cov = record { long = 1; written = 0x0000000000000000 ∷ [] };
             kinds = record { long = 3; written = 1 ∷ 1 ∷ 1 ∷ [] };
-            v = record { long = 3; written = 0x0000000000000000 ∷ 0x0000000000000000 ∷ 0x4000000000000000 ∷ [] };
-            f-star = record { long = 3; written = 0x4004000000002000 ∷ 0x3d90000000000000 ∷ 0x3e80000000000000 ∷ [] };
+            v = record { long = 3; written = 0x4020000000000000 ∷ 0xc012aaaaaaaaa97c ∷ 0xc01ffffce3c028ac ∷ [] };
+            f-star = record { long = 3; written = 0x4022000000000200 ∷ 0x3e800000e3800000 ∷ 0x3d6ffdfe391c8944 ∷ [] };
             f-inf = record { long = 3; written = 0x0000000000000000 ∷ 0x0000000000000000 ∷ 0x0000000000000000 ∷ [] };
-            m-star = record { long = 3; written = 0x4014000000000000 ∷ 0x3da0000000000000 ∷ 0x0000000000000000 ∷ [] };
+            m-star = record { long = 3; written = 0x4018000000000000 ∷ 0x3d4c700000000000 ∷ 0x3d6553fed0bdb0d8 ∷ [] };
             m-inf = record { long = 3; written = 0x0000000000000000 ∷ 0x0000000000000000 ∷ 0x0000000000000000 ∷ [] };
           };
-      filter = 0 ∷ 0xc16ffffdc25dfa71 ∷ 0 ∷ 3 ∷ 3 ∷ 0 ∷ 0 ∷ [];
-      smooth = 0 ∷ 0xc16ffffdc25dfa71 ∷ 0 ∷ 3 ∷ 3 ∷ 0 ∷ 0 ∷ [];
-      sm-mean = record { long = 1; written = 0x0000000000000000 ∷ [] };
-      sm-cov = record { long = 1; written = 0x3ce0000000000000 ∷ [] };
+      filter = 0 ∷ 0xc2c001009000f54c ∷ 0 ∷ 3 ∷ 3 ∷ 0 ∷ 0 ∷ [];
+      smooth = 0 ∷ 0xc2c001009000f54c ∷ 0 ∷ 3 ∷ 3 ∷ 0 ∷ 0 ∷ [];
+      sm-mean = record { long = 1; written = 0xbf78018018018400 ∷ [] };
+      sm-cov = record { long = 1; written = 0xbcd0000000000000 ∷ [] };
     }
-    -- refusal 3
+    -- usual; clear before any update; clear by bound; listed Z, longer than n; known start; marked, and nothing repeats
+    ∷ record {
+      call =
+          record {
+            p = 2;
+            m = 1;
+            r = 1;
+            n = 1;
+            z = [];
+            zs = 0x8000000000000000 ∷ 0x8000000000000000 ∷ 0x8000000000000000 ∷ 0x8000000000000000 ∷ [];
+            repeats = 1;
+            h = 0x3d20000000000000 ∷ 0x0000000000000000 ∷ 0x0000000000000000 ∷ 0x3d50000000000000 ∷ [];
+            t = 0xbf74000000000000 ∷ [];
+            rr = 0x400c000000000000 ∷ [];
+            q = 0x4000000000000000 ∷ [];
+            c = 0x8000000000000000 ∷ [];
+            d = 0x3ff8000000000000 ∷ 0x8000000000000000 ∷ [];
+            a1 = 0x3fd0000000000000 ∷ [];
+            p-star = 0x4010000000000000 ∷ [];
+            flags = 0 ∷ [];
+            y = 0x401c000000000000 ∷ 0x4004000000000000 ∷ [];
+            pred-mean = record { long = 2; written = 0x3fd0000000000000 ∷ 0xbf54000000000000 ∷ [] };
+            pred-cov = record { long = 2; written = 0x4010000000000000 ∷ 0x4038800640000000 ∷ [] };
+            pred-inf = record { long = 2; written = 0x0000000000000000 ∷ 0x0000000000000000 ∷ [] };
+            filt-mean = record { long = 1; written = 0x3fd0000000000000 ∷ [] };
+            filt-cov = record { long = 1; written = 0x4010000000000000 ∷ [] };
+            kinds = record { long = 2; written = 1 ∷ 1 ∷ [] };
+            v = record { long = 2; written = 0x4016000000000000 ∷ 0x4004000000000000 ∷ [] };
+            f-star = record { long = 2; written = 0x3d20000000000000 ∷ 0x3d50000000000000 ∷ [] };
+            f-inf = record { long = 2; written = 0x0000000000000000 ∷ 0x0000000000000000 ∷ [] };
+            m-star = record { long = 2; written = 0x0000000000000000 ∷ 0x0000000000000000 ∷ [] };
+            m-inf = record { long = 2; written = 0x0000000000000000 ∷ 0x0000000000000000 ∷ [] };
+          };
+      filter = 0 ∷ 0xc2ff07fffffffe3b ∷ 0 ∷ 2 ∷ 2 ∷ 0 ∷ 0 ∷ [];
+      smooth = 0 ∷ 0xc2ff07fffffffe3b ∷ 0 ∷ 2 ∷ 2 ∷ 0 ∷ 0 ∷ [];
+      sm-mean = record { long = 1; written = 0x3fd0000000000000 ∷ [] };
+      sm-cov = record { long = 1; written = 0x4010000000000000 ∷ [] };
+    }
+    -- refusal 4
     ∷ record {
       call =
           record {
@@ -276,16 +321,17 @@ cases =
             n = 1;
             z = 0x0000000000000000 ∷ [];
             zs = [];
+            repeats = 0;
             h = 0x0000000000000000 ∷ [];
             t = 0x3ff0000000000000 ∷ [];
-            rr = 0x7ff0000000000000 ∷ [];
-            q = 0x3ff0000000000000 ∷ [];
+            rr = 0x3fe0000000000000 ∷ [];
+            q = 0xbfe0000000000000 ∷ [];
             c = 0x0000000000000000 ∷ [];
             d = 0x0000000000000000 ∷ [];
             a1 = 0x0000000000000000 ∷ [];
             p-star = 0x0000000000000000 ∷ [];
             flags = 1 ∷ [];
-            y = 0x3ff0000000000000 ∷ [];
+            y = 0x3fe0000000000000 ∷ [];
             pred-mean = record { long = 2; written = [] };
             pred-cov = record { long = 2; written = [] };
             pred-inf = record { long = 2; written = [] };
@@ -298,8 +344,8 @@ cases =
             m-star = record { long = 1; written = [] };
             m-inf = record { long = 1; written = [] };
           };
-      filter = 3 ∷ [];
-      smooth = 3 ∷ [];
+      filter = 4 ∷ [];
+      smooth = 4 ∷ [];
       sm-mean = record { long = 1; written = [] };
       sm-cov = record { long = 1; written = [] };
     }
@@ -313,10 +359,11 @@ cases =
             n = 1;
             z = 0x0000000000000000 ∷ [];
             zs = [];
+            repeats = 0;
             h = 0x0000000000000000 ∷ [];
             t = 0x3ff0000000000000 ∷ [];
-            rr = 0x3fe0000000000000 ∷ [];
-            q = 0x4010000000000000 ∷ [];
+            rr = 0x3ff0000000000000 ∷ [];
+            q = 0x4000000000000000 ∷ [];
             c = 0x0000000000000000 ∷ [];
             d = 0x0000000000000000 ∷ [];
             a1 = 0x0000000000000000 ∷ [];
@@ -340,7 +387,7 @@ cases =
       sm-mean = record { long = 1; written = [] };
       sm-cov = record { long = 1; written = [] };
     }
-    -- refusal 4
+    -- refusal 3
     ∷ record {
       call =
           record {
@@ -350,16 +397,17 @@ cases =
             n = 1;
             z = 0x0000000000000000 ∷ [];
             zs = [];
+            repeats = 0;
             h = 0x0000000000000000 ∷ [];
             t = 0x3ff0000000000000 ∷ [];
             rr = 0x4000000000000000 ∷ [];
-            q = 0xbff0000000000000 ∷ [];
+            q = 0x7ff0000000000000 ∷ [];
             c = 0x0000000000000000 ∷ [];
             d = 0x0000000000000000 ∷ [];
             a1 = 0x0000000000000000 ∷ [];
             p-star = 0x0000000000000000 ∷ [];
             flags = 1 ∷ [];
-            y = 0x4000000000000000 ∷ [];
+            y = 0x4010000000000000 ∷ [];
             pred-mean = record { long = 2; written = [] };
             pred-cov = record { long = 2; written = [] };
             pred-inf = record { long = 2; written = [] };
@@ -372,8 +420,8 @@ cases =
             m-star = record { long = 1; written = [] };
             m-inf = record { long = 1; written = [] };
           };
-      filter = 4 ∷ [];
-      smooth = 4 ∷ [];
+      filter = 3 ∷ [];
+      smooth = 3 ∷ [];
       sm-mean = record { long = 1; written = [] };
       sm-cov = record { long = 1; written = [] };
     }
@@ -387,16 +435,17 @@ cases =
             n = 1;
             z = 0x0000000000000000 ∷ [];
             zs = [];
+            repeats = 0;
             h = 0x0000000000000000 ∷ [];
             t = 0x3ff0000000000000 ∷ [];
-            rr = 0x4000000000000000 ∷ [];
+            rr = 0x3ff0000000000000 ∷ [];
             q = 0x4010000000000000 ∷ [];
             c = 0xfff0000000000000 ∷ [];
             d = 0x0000000000000000 ∷ [];
             a1 = 0x0000000000000000 ∷ [];
             p-star = 0x0000000000000000 ∷ [];
             flags = 1 ∷ [];
-            y = 0x3ff0000000000000 ∷ [];
+            y = 0x3fe0000000000000 ∷ [];
             pred-mean = record { long = 2; written = [] };
             pred-cov = record { long = 2; written = [] };
             pred-inf = record { long = 2; written = [] };
@@ -414,6 +463,44 @@ cases =
       sm-mean = record { long = 1; written = [] };
       sm-cov = record { long = 1; written = [] };
     }
+    -- diffuse; diffuse start; smoother alone refused, by its own parts
+    ∷ record {
+      call =
+          record {
+            p = 1;
+            m = 1;
+            r = 1;
+            n = 1;
+            z = 0x3ff0000000000000 ∷ [];
+            zs = [];
+            repeats = 0;
+            h = 0x3fe0000000000000 ∷ [];
+            t = 0x3ff0000000000000 ∷ [];
+            rr = 0x3fe0000000000000 ∷ [];
+            q = 0x4000000000000000 ∷ [];
+            c = 0x0000000000000000 ∷ [];
+            d = 0x0000000000000000 ∷ [];
+            a1 = 0x0000000000000000 ∷ [];
+            p-star = 0x0000000000000000 ∷ [];
+            flags = 1 ∷ [];
+            y = 0x4000000000000000 ∷ [];
+            pred-mean = record { long = 2; written = 0x0000000000000000 ∷ 0x4000000000000000 ∷ [] };
+            pred-cov = record { long = 2; written = 0x0000000000000000 ∷ 0x3ff0000000000000 ∷ [] };
+            pred-inf = record { long = 2; written = 0x3ff0000000000000 ∷ 0x0000000000000000 ∷ [] };
+            filt-mean = record { long = 1; written = 0x4000000000000000 ∷ [] };
+            filt-cov = record { long = 1; written = 0x3fe0000000000000 ∷ [] };
+            kinds = record { long = 1; written = 2 ∷ [] };
+            v = record { long = 1; written = 0x4000000000000000 ∷ [] };
+            f-star = record { long = 1; written = 0x3fe0000000000000 ∷ [] };
+            f-inf = record { long = 1; written = 0x3ff0000000000000 ∷ [] };
+            m-star = record { long = 1; written = 0x0000000000000000 ∷ [] };
+            m-inf = record { long = 1; written = 0x3ff0000000000000 ∷ [] };
+          };
+      filter = 0 ∷ 0xbfed67f1c864beb4 ∷ 1 ∷ 1 ∷ 1 ∷ 0 ∷ 0 ∷ [];
+      smooth = 2 ∷ [];
+      sm-mean = record { long = 0; written = [] };
+      sm-cov = record { long = 1; written = [] };
+    }
     -- gap; place n's diffuse covariance non-zero; the same, below the tolerance; diffuse start; all readings gaps, answered
     ∷ record {
       call =
@@ -424,6 +511,7 @@ cases =
             n = 1;
             z = 0x3ff0000000000000 ∷ [];
             zs = [];
+            repeats = 0;
             h = 0x3ff0000000000000 ∷ [];
             t = 0x3f50000000000000 ∷ [];
             rr = 0x3ff0000000000000 ∷ [];
@@ -451,43 +539,6 @@ cases =
       sm-mean = record { long = 1; written = 0x0000000000000000 ∷ [] };
       sm-cov = record { long = 1; written = 0x0000000000000000 ∷ [] };
     }
-    -- diffuse; diffuse start; smoother alone refused, by its own parts
-    ∷ record {
-      call =
-          record {
-            p = 1;
-            m = 1;
-            r = 1;
-            n = 1;
-            z = 0x3ff0000000000000 ∷ [];
-            zs = [];
-            h = 0x3fe0000000000000 ∷ [];
-            t = 0x3ff0000000000000 ∷ [];
-            rr = 0x4010000000000000 ∷ [];
-            q = 0x4010000000000000 ∷ [];
-            c = 0x0000000000000000 ∷ [];
-            d = 0x0000000000000000 ∷ [];
-            a1 = 0x0000000000000000 ∷ [];
-            p-star = 0x0000000000000000 ∷ [];
-            flags = 1 ∷ [];
-            y = 0x3fe0000000000000 ∷ [];
-            pred-mean = record { long = 2; written = 0x0000000000000000 ∷ 0x3fe0000000000000 ∷ [] };
-            pred-cov = record { long = 2; written = 0x0000000000000000 ∷ 0x4050200000000000 ∷ [] };
-            pred-inf = record { long = 2; written = 0x3ff0000000000000 ∷ 0x0000000000000000 ∷ [] };
-            filt-mean = record { long = 1; written = 0x3fe0000000000000 ∷ [] };
-            filt-cov = record { long = 1; written = 0x3fe0000000000000 ∷ [] };
-            kinds = record { long = 1; written = 2 ∷ [] };
-            v = record { long = 1; written = 0x3fe0000000000000 ∷ [] };
-            f-star = record { long = 1; written = 0x3fe0000000000000 ∷ [] };
-            f-inf = record { long = 1; written = 0x3ff0000000000000 ∷ [] };
-            m-star = record { long = 1; written = 0x0000000000000000 ∷ [] };
-            m-inf = record { long = 1; written = 0x3ff0000000000000 ∷ [] };
-          };
-      filter = 0 ∷ 0xbfed67f1c864beb4 ∷ 1 ∷ 1 ∷ 1 ∷ 0 ∷ 0 ∷ [];
-      smooth = 2 ∷ [];
-      sm-mean = record { long = 1; written = [] };
-      sm-cov = record { long = 0; written = [] };
-    }
     -- refusal 5
     ∷ record {
       call =
@@ -498,16 +549,17 @@ cases =
             n = 1;
             z = 0x0000000000000000 ∷ [];
             zs = [];
+            repeats = 0;
             h = 0x0000000000000000 ∷ [];
             t = 0x3ff0000000000000 ∷ [];
-            rr = 0x3ff0000000000000 ∷ 0x3ff0000000000000 ∷ [];
-            q = 0x4010000000000000 ∷ 0x8000000000000000 ∷ 0xbfe0000000000000 ∷ 0x4010000000000000 ∷ [];
+            rr = 0x3ff0000000000000 ∷ 0x4000000000000000 ∷ [];
+            q = 0x4000000000000000 ∷ 0xbfe0000000000000 ∷ 0x8000000000000000 ∷ 0x4010000000000000 ∷ [];
             c = 0x0000000000000000 ∷ [];
             d = 0x0000000000000000 ∷ [];
             a1 = 0x0000000000000000 ∷ [];
             p-star = 0x0000000000000000 ∷ [];
             flags = 1 ∷ [];
-            y = 0x3ff0000000000000 ∷ [];
+            y = 0x3fe0000000000000 ∷ [];
             pred-mean = record { long = 2; written = [] };
             pred-cov = record { long = 2; written = [] };
             pred-inf = record { long = 2; written = [] };
@@ -525,7 +577,45 @@ cases =
       sm-mean = record { long = 1; written = [] };
       sm-cov = record { long = 1; written = [] };
     }
-    -- gap; infinity inside a run; NaN inside a run; known start; all readings gaps, answered; covariance report
+    -- gap; known start; NaN with odd bits as a gap; all readings gaps, answered
+    ∷ record {
+      call =
+          record {
+            p = 1;
+            m = 1;
+            r = 2;
+            n = 1;
+            z = 0xbfe0000000000000 ∷ [];
+            zs = [];
+            repeats = 0;
+            h = 0x3d30000000000000 ∷ [];
+            t = 0x3ff0000000000000 ∷ [];
+            rr = 0x3ff8000000000000 ∷ 0xc000000000000000 ∷ [];
+            q = 0x4022000000000000 ∷ 0x0000000000000000 ∷ 0x0000000000000000 ∷ 0x0000000000000000 ∷ [];
+            c = 0x0000000000000000 ∷ [];
+            d = 0x0000000000000000 ∷ [];
+            a1 = 0x3fe0000000000000 ∷ [];
+            p-star = 0x0000000000000000 ∷ [];
+            flags = 0 ∷ [];
+            y = 0x7ff6dd1ea5475949 ∷ [];
+            pred-mean = record { long = 2; written = 0x3fe0000000000000 ∷ 0x3fe0000000000000 ∷ [] };
+            pred-cov = record { long = 2; written = 0x0000000000000000 ∷ 0x4034400000000000 ∷ [] };
+            pred-inf = record { long = 2; written = 0x0000000000000000 ∷ 0x0000000000000000 ∷ [] };
+            filt-mean = record { long = 1; written = 0x3fe0000000000000 ∷ [] };
+            filt-cov = record { long = 1; written = 0x0000000000000000 ∷ [] };
+            kinds = record { long = 1; written = 0 ∷ [] };
+            v = record { long = 1; written = 0x0000000000000000 ∷ [] };
+            f-star = record { long = 1; written = 0x0000000000000000 ∷ [] };
+            f-inf = record { long = 1; written = 0x0000000000000000 ∷ [] };
+            m-star = record { long = 1; written = 0x0000000000000000 ∷ [] };
+            m-inf = record { long = 1; written = 0x0000000000000000 ∷ [] };
+          };
+      filter = 0 ∷ 0x0000000000000000 ∷ 0 ∷ 0 ∷ 0 ∷ 0 ∷ 0 ∷ [];
+      smooth = 0 ∷ 0x0000000000000000 ∷ 0 ∷ 0 ∷ 0 ∷ 0 ∷ 0 ∷ [];
+      sm-mean = record { long = 1; written = 0x3fe0000000000000 ∷ [] };
+      sm-cov = record { long = 1; written = 0x0000000000000000 ∷ [] };
+    }
+    -- usual; clear before any update; listed Z, shorter than n, marked; known start
     ∷ record {
       call =
           record {
@@ -533,34 +623,187 @@ cases =
             m = 1;
             r = 1;
             n = 2;
-            z = 0x3ff0000000000000 ∷ [];
-            zs = [];
+            z = [];
+            zs = 0x3fd0000000000000 ∷ [];
+            repeats = 128;
             h = 0x3ff0000000000000 ∷ [];
             t = 0x3ff0000000000000 ∷ [];
             rr = 0x3ff0000000000000 ∷ [];
-            q = 0x7fe0000000000000 ∷ [];
+            q = 0x0000000000000000 ∷ [];
             c = 0x0000000000000000 ∷ [];
             d = 0x0000000000000000 ∷ [];
             a1 = 0x0000000000000000 ∷ [];
-            p-star = 0x7fe0000000000000 ∷ [];
+            p-star = 0x3ff0000000000000 ∷ [];
             flags = 0 ∷ [];
-            y = 0x7ff8000000000000 ∷ 0x7ff8000000000000 ∷ [];
+            y = 0x0000000000000000 ∷ 0x0000000000000000 ∷ [];
             pred-mean = record { long = 3; written = 0x0000000000000000 ∷ 0x0000000000000000 ∷ 0x0000000000000000 ∷ [] };
-            pred-cov = record { long = 3; written = 0x7fe0000000000000 ∷ 0x7ff0000000000000 ∷ 0x7ff0000000000000 ∷ [] };
+            pred-cov = record { long = 3; written = 0x3ff0000000000000 ∷ 0x3fee1e1e1e1e1e1e ∷ 0x3fec71c71c71c71c ∷ [] };
             pred-inf = record { long = 3; written = 0x0000000000000000 ∷ 0x0000000000000000 ∷ 0x0000000000000000 ∷ [] };
             filt-mean = record { long = 2; written = 0x0000000000000000 ∷ 0x0000000000000000 ∷ [] };
-            filt-cov = record { long = 2; written = 0x7fe0000000000000 ∷ 0x7ff0000000000000 ∷ [] };
-            kinds = record { long = 2; written = 0 ∷ 0 ∷ [] };
+            filt-cov = record { long = 2; written = 0x3fee1e1e1e1e1e1e ∷ 0x3fec71c71c71c71c ∷ [] };
+            kinds = record { long = 2; written = 1 ∷ 1 ∷ [] };
             v = record { long = 2; written = 0x0000000000000000 ∷ 0x0000000000000000 ∷ [] };
-            f-star = record { long = 2; written = 0x0000000000000000 ∷ 0x0000000000000000 ∷ [] };
+            f-star = record { long = 2; written = 0x3ff1000000000000 ∷ 0x3ff0f0f0f0f0f0f1 ∷ [] };
             f-inf = record { long = 2; written = 0x0000000000000000 ∷ 0x0000000000000000 ∷ [] };
-            m-star = record { long = 2; written = 0x0000000000000000 ∷ 0x0000000000000000 ∷ [] };
+            m-star = record { long = 2; written = 0x3fd0000000000000 ∷ 0x3fce1e1e1e1e1e1e ∷ [] };
             m-inf = record { long = 2; written = 0x0000000000000000 ∷ 0x0000000000000000 ∷ [] };
           };
-      filter = 0 ∷ 0x0000000000000000 ∷ 0 ∷ 0 ∷ 0 ∷ 2 ∷ 0 ∷ [];
-      smooth = 0 ∷ 0x0000000000000000 ∷ 0 ∷ 0 ∷ 0 ∷ 2 ∷ 0 ∷ [];
+      filter = 0 ∷ 0xbffe592a03d6164b ∷ 0 ∷ 2 ∷ 2 ∷ 0 ∷ 0 ∷ [];
+      smooth = 0 ∷ 0xbffe592a03d6164b ∷ 0 ∷ 2 ∷ 2 ∷ 0 ∷ 0 ∷ [];
       sm-mean = record { long = 2; written = 0x0000000000000000 ∷ 0x0000000000000000 ∷ [] };
-      sm-cov = record { long = 2; written = 0x7fe0000000000000 ∷ 0x7ff8000000000000 ∷ [] };
+      sm-cov = record { long = 2; written = 0x3fec71c71c71c71c ∷ 0x3fec71c71c71c71c ∷ [] };
+    }
+    -- refusal 14
+    ∷ record {
+      call =
+          record {
+            p = 1;
+            m = 1;
+            r = 1;
+            n = 2;
+            z = [];
+            zs = 0x3fd0000000000000 ∷ [];
+            repeats = 0;
+            h = 0x3ff0000000000000 ∷ [];
+            t = 0x3ff0000000000000 ∷ [];
+            rr = 0x3ff0000000000000 ∷ [];
+            q = 0x0000000000000000 ∷ [];
+            c = 0x0000000000000000 ∷ [];
+            d = 0x0000000000000000 ∷ [];
+            a1 = 0x0000000000000000 ∷ [];
+            p-star = 0x3ff0000000000000 ∷ [];
+            flags = 0 ∷ [];
+            y = 0x0000000000000000 ∷ 0x0000000000000000 ∷ [];
+            pred-mean = record { long = 3; written = [] };
+            pred-cov = record { long = 3; written = [] };
+            pred-inf = record { long = 3; written = [] };
+            filt-mean = record { long = 2; written = [] };
+            filt-cov = record { long = 2; written = [] };
+            kinds = record { long = 2; written = [] };
+            v = record { long = 2; written = [] };
+            f-star = record { long = 2; written = [] };
+            f-inf = record { long = 2; written = [] };
+            m-star = record { long = 2; written = [] };
+            m-inf = record { long = 2; written = [] };
+          };
+      filter = 14 ∷ [];
+      smooth = 14 ∷ [];
+      sm-mean = record { long = 2; written = [] };
+      sm-cov = record { long = 2; written = [] };
+    }
+    -- usual; clear before any update; known start; marked, and nothing repeats
+    ∷ record {
+      call =
+          record {
+            p = 1;
+            m = 1;
+            r = 1;
+            n = 2;
+            z = 0x3fd0000000000000 ∷ [];
+            zs = [];
+            repeats = 1;
+            h = 0x3ff0000000000000 ∷ [];
+            t = 0x3ff0000000000000 ∷ [];
+            rr = 0x3ff0000000000000 ∷ [];
+            q = 0x0000000000000000 ∷ [];
+            c = 0x0000000000000000 ∷ [];
+            d = 0x0000000000000000 ∷ [];
+            a1 = 0x0000000000000000 ∷ [];
+            p-star = 0x3ff0000000000000 ∷ [];
+            flags = 0 ∷ [];
+            y = 0x0000000000000000 ∷ 0x0000000000000000 ∷ [];
+            pred-mean = record { long = 3; written = 0x0000000000000000 ∷ 0x0000000000000000 ∷ 0x0000000000000000 ∷ [] };
+            pred-cov = record { long = 3; written = 0x3ff0000000000000 ∷ 0x3fee1e1e1e1e1e1e ∷ 0x3fec71c71c71c71c ∷ [] };
+            pred-inf = record { long = 3; written = 0x0000000000000000 ∷ 0x0000000000000000 ∷ 0x0000000000000000 ∷ [] };
+            filt-mean = record { long = 2; written = 0x0000000000000000 ∷ 0x0000000000000000 ∷ [] };
+            filt-cov = record { long = 2; written = 0x3fee1e1e1e1e1e1e ∷ 0x3fec71c71c71c71c ∷ [] };
+            kinds = record { long = 2; written = 1 ∷ 1 ∷ [] };
+            v = record { long = 2; written = 0x0000000000000000 ∷ 0x0000000000000000 ∷ [] };
+            f-star = record { long = 2; written = 0x3ff1000000000000 ∷ 0x3ff0f0f0f0f0f0f1 ∷ [] };
+            f-inf = record { long = 2; written = 0x0000000000000000 ∷ 0x0000000000000000 ∷ [] };
+            m-star = record { long = 2; written = 0x3fd0000000000000 ∷ 0x3fce1e1e1e1e1e1e ∷ [] };
+            m-inf = record { long = 2; written = 0x0000000000000000 ∷ 0x0000000000000000 ∷ [] };
+          };
+      filter = 0 ∷ 0xbffe592a03d6164b ∷ 0 ∷ 2 ∷ 2 ∷ 0 ∷ 0 ∷ [];
+      smooth = 0 ∷ 0xbffe592a03d6164b ∷ 0 ∷ 2 ∷ 2 ∷ 0 ∷ 0 ∷ [];
+      sm-mean = record { long = 2; written = 0x0000000000000000 ∷ 0x0000000000000000 ∷ [] };
+      sm-cov = record { long = 2; written = 0x3fec71c71c71c71c ∷ 0x3fec71c71c71c71c ∷ [] };
+    }
+    -- usual; clear before any update; signed zero in an output; known start; listed Z, of n designs
+    ∷ record {
+      call =
+          record {
+            p = 1;
+            m = 1;
+            r = 1;
+            n = 2;
+            z = [];
+            zs = 0x3fd0000000000000 ∷ 0x3fe0000000000000 ∷ [];
+            repeats = 0;
+            h = 0x3ff0000000000000 ∷ [];
+            t = 0x3ff0000000000000 ∷ [];
+            rr = 0x3ff0000000000000 ∷ [];
+            q = 0x0000000000000000 ∷ [];
+            c = 0x0000000000000000 ∷ [];
+            d = 0x0000000000000000 ∷ [];
+            a1 = 0x0000000000000000 ∷ [];
+            p-star = 0x3ff0000000000000 ∷ [];
+            flags = 0 ∷ [];
+            y = 0x8000000000000000 ∷ 0x0000000000000000 ∷ [];
+            pred-mean = record { long = 3; written = 0x0000000000000000 ∷ 0x0000000000000000 ∷ 0x0000000000000000 ∷ [] };
+            pred-cov = record { long = 3; written = 0x3ff0000000000000 ∷ 0x3fee1e1e1e1e1e1e ∷ 0x3fe8618618618618 ∷ [] };
+            pred-inf = record { long = 3; written = 0x0000000000000000 ∷ 0x0000000000000000 ∷ 0x0000000000000000 ∷ [] };
+            filt-mean = record { long = 2; written = 0x0000000000000000 ∷ 0x0000000000000000 ∷ [] };
+            filt-cov = record { long = 2; written = 0x3fee1e1e1e1e1e1e ∷ 0x3fe8618618618618 ∷ [] };
+            kinds = record { long = 2; written = 1 ∷ 1 ∷ [] };
+            v = record { long = 2; written = 0x8000000000000000 ∷ 0x0000000000000000 ∷ [] };
+            f-star = record { long = 2; written = 0x3ff1000000000000 ∷ 0x3ff3c3c3c3c3c3c4 ∷ [] };
+            f-inf = record { long = 2; written = 0x0000000000000000 ∷ 0x0000000000000000 ∷ [] };
+            m-star = record { long = 2; written = 0x3fd0000000000000 ∷ 0x3fde1e1e1e1e1e1e ∷ [] };
+            m-inf = record { long = 2; written = 0x0000000000000000 ∷ 0x0000000000000000 ∷ [] };
+          };
+      filter = 0 ∷ 0xbfff94dd5dda3376 ∷ 0 ∷ 2 ∷ 2 ∷ 0 ∷ 0 ∷ [];
+      smooth = 0 ∷ 0xbfff94dd5dda3376 ∷ 0 ∷ 2 ∷ 2 ∷ 0 ∷ 0 ∷ [];
+      sm-mean = record { long = 2; written = 0x0000000000000000 ∷ 0x0000000000000000 ∷ [] };
+      sm-cov = record { long = 2; written = 0x3fe8618618618618 ∷ 0x3fe8618618618618 ∷ [] };
+    }
+    -- usual; clear before any update; known start; listed Z, of n designs
+    ∷ record {
+      call =
+          record {
+            p = 1;
+            m = 1;
+            r = 1;
+            n = 2;
+            z = [];
+            zs = 0x3fd0000000000000 ∷ 0x3fe0000000000000 ∷ [];
+            repeats = 0;
+            h = 0x3ff0000000000000 ∷ [];
+            t = 0x3ff0000000000000 ∷ [];
+            rr = 0x3ff0000000000000 ∷ [];
+            q = 0x0000000000000000 ∷ [];
+            c = 0x0000000000000000 ∷ [];
+            d = 0x0000000000000000 ∷ [];
+            a1 = 0x0000000000000000 ∷ [];
+            p-star = 0x3ff0000000000000 ∷ [];
+            flags = 0 ∷ [];
+            y = 0x0000000000000000 ∷ 0xbfe0000000000000 ∷ [];
+            pred-mean = record { long = 3; written = 0x0000000000000000 ∷ 0x0000000000000000 ∷ 0xbfc8618618618618 ∷ [] };
+            pred-cov = record { long = 3; written = 0x3ff0000000000000 ∷ 0x3fee1e1e1e1e1e1e ∷ 0x3fe8618618618618 ∷ [] };
+            pred-inf = record { long = 3; written = 0x0000000000000000 ∷ 0x0000000000000000 ∷ 0x0000000000000000 ∷ [] };
+            filt-mean = record { long = 2; written = 0x0000000000000000 ∷ 0xbfc8618618618618 ∷ [] };
+            filt-cov = record { long = 2; written = 0x3fee1e1e1e1e1e1e ∷ 0x3fe8618618618618 ∷ [] };
+            kinds = record { long = 2; written = 1 ∷ 1 ∷ [] };
+            v = record { long = 2; written = 0x0000000000000000 ∷ 0xbfe0000000000000 ∷ [] };
+            f-star = record { long = 2; written = 0x3ff1000000000000 ∷ 0x3ff3c3c3c3c3c3c4 ∷ [] };
+            f-inf = record { long = 2; written = 0x0000000000000000 ∷ 0x0000000000000000 ∷ [] };
+            m-star = record { long = 2; written = 0x3fd0000000000000 ∷ 0x3fde1e1e1e1e1e1e ∷ [] };
+            m-inf = record { long = 2; written = 0x0000000000000000 ∷ 0x0000000000000000 ∷ [] };
+          };
+      filter = 0 ∷ 0xc00099aba2bc56af ∷ 0 ∷ 2 ∷ 2 ∷ 0 ∷ 0 ∷ [];
+      smooth = 0 ∷ 0xc00099aba2bc56af ∷ 0 ∷ 2 ∷ 2 ∷ 0 ∷ 0 ∷ [];
+      sm-mean = record { long = 2; written = 0xbfc8618618618618 ∷ 0xbfc8618618618618 ∷ [] };
+      sm-cov = record { long = 2; written = 0x3fe8618618618618 ∷ 0x3fe8618618618618 ∷ [] };
     }
     -- gap; infinity inside a run; known start; all readings gaps, answered; mean report
     ∷ record {
@@ -572,6 +815,7 @@ cases =
             n = 2;
             z = 0x3ff0000000000000 ∷ [];
             zs = [];
+            repeats = 0;
             h = 0x3ff0000000000000 ∷ [];
             t = 0x4010000000000000 ∷ [];
             rr = 0x3ff0000000000000 ∷ [];
@@ -599,6 +843,44 @@ cases =
       sm-mean = record { long = 2; written = 0xffe0000000000000 ∷ 0xfff0000000000000 ∷ [] };
       sm-cov = record { long = 2; written = 0x3ff0000000000000 ∷ 0x4030000000000000 ∷ [] };
     }
+    -- gap; infinity inside a run; NaN inside a run; known start; all readings gaps, answered; covariance report
+    ∷ record {
+      call =
+          record {
+            p = 1;
+            m = 1;
+            r = 1;
+            n = 2;
+            z = 0x3ff0000000000000 ∷ [];
+            zs = [];
+            repeats = 0;
+            h = 0x3ff0000000000000 ∷ [];
+            t = 0x3ff0000000000000 ∷ [];
+            rr = 0x3ff0000000000000 ∷ [];
+            q = 0x7fe0000000000000 ∷ [];
+            c = 0x0000000000000000 ∷ [];
+            d = 0x0000000000000000 ∷ [];
+            a1 = 0x0000000000000000 ∷ [];
+            p-star = 0x7fe0000000000000 ∷ [];
+            flags = 0 ∷ [];
+            y = 0x7ff8000000000000 ∷ 0x7ff8000000000000 ∷ [];
+            pred-mean = record { long = 3; written = 0x0000000000000000 ∷ 0x0000000000000000 ∷ 0x0000000000000000 ∷ [] };
+            pred-cov = record { long = 3; written = 0x7fe0000000000000 ∷ 0x7ff0000000000000 ∷ 0x7ff0000000000000 ∷ [] };
+            pred-inf = record { long = 3; written = 0x0000000000000000 ∷ 0x0000000000000000 ∷ 0x0000000000000000 ∷ [] };
+            filt-mean = record { long = 2; written = 0x0000000000000000 ∷ 0x0000000000000000 ∷ [] };
+            filt-cov = record { long = 2; written = 0x7fe0000000000000 ∷ 0x7ff0000000000000 ∷ [] };
+            kinds = record { long = 2; written = 0 ∷ 0 ∷ [] };
+            v = record { long = 2; written = 0x0000000000000000 ∷ 0x0000000000000000 ∷ [] };
+            f-star = record { long = 2; written = 0x0000000000000000 ∷ 0x0000000000000000 ∷ [] };
+            f-inf = record { long = 2; written = 0x0000000000000000 ∷ 0x0000000000000000 ∷ [] };
+            m-star = record { long = 2; written = 0x0000000000000000 ∷ 0x0000000000000000 ∷ [] };
+            m-inf = record { long = 2; written = 0x0000000000000000 ∷ 0x0000000000000000 ∷ [] };
+          };
+      filter = 0 ∷ 0x0000000000000000 ∷ 0 ∷ 0 ∷ 0 ∷ 2 ∷ 0 ∷ [];
+      smooth = 0 ∷ 0x0000000000000000 ∷ 0 ∷ 0 ∷ 0 ∷ 2 ∷ 0 ∷ [];
+      sm-mean = record { long = 2; written = 0x0000000000000000 ∷ 0x0000000000000000 ∷ [] };
+      sm-cov = record { long = 2; written = 0x7fe0000000000000 ∷ 0x7ff8000000000000 ∷ [] };
+    }
     -- refusal 8
     ∷ record {
       call =
@@ -609,16 +891,17 @@ cases =
             n = 1;
             z = 0x0000000000000000 ∷ 0x0000000000000000 ∷ [];
             zs = [];
-            h = 0x0000000000000000 ∷ 0x8000000000000000 ∷ 0xbfe0000000000000 ∷ 0x0000000000000000 ∷ [];
+            repeats = 0;
+            h = 0x0000000000000000 ∷ 0x3fe0000000000000 ∷ 0x8000000000000000 ∷ 0x0000000000000000 ∷ [];
             t = 0x3ff0000000000000 ∷ [];
-            rr = 0x4000000000000000 ∷ [];
-            q = 0x4000000000000000 ∷ [];
+            rr = 0x4010000000000000 ∷ [];
+            q = 0x3ff0000000000000 ∷ [];
             c = 0x0000000000000000 ∷ [];
             d = 0x0000000000000000 ∷ 0x0000000000000000 ∷ [];
             a1 = 0x0000000000000000 ∷ [];
             p-star = 0x0000000000000000 ∷ [];
             flags = 1 ∷ [];
-            y = 0x4010000000000000 ∷ 0x4010000000000000 ∷ [];
+            y = 0x3fe0000000000000 ∷ 0x3ff0000000000000 ∷ [];
             pred-mean = record { long = 2; written = [] };
             pred-cov = record { long = 2; written = [] };
             pred-inf = record { long = 2; written = [] };
@@ -636,154 +919,6 @@ cases =
       sm-mean = record { long = 1; written = [] };
       sm-cov = record { long = 1; written = [] };
     }
-    -- gap; listed Z, longer than n; known start; NaN with odd bits as a gap; all readings gaps, answered
-    ∷ record {
-      call =
-          record {
-            p = 1;
-            m = 1;
-            r = 1;
-            n = 1;
-            z = [];
-            zs = 0x4000000000000000 ∷ 0xbff4000000000000 ∷ [];
-            h = 0x3da0000000000000 ∷ [];
-            t = 0x3ff0000000000000 ∷ [];
-            rr = 0xc018000000000000 ∷ [];
-            q = 0x4004000000000000 ∷ [];
-            c = 0xc008000000000000 ∷ [];
-            d = 0x3ff8000000000000 ∷ [];
-            a1 = 0x4014000000000000 ∷ [];
-            p-star = 0x4050000000000000 ∷ [];
-            flags = 0 ∷ [];
-            y = 0xfffb8f89dbf51929 ∷ [];
-            pred-mean = record { long = 2; written = 0x4014000000000000 ∷ 0x4000000000000000 ∷ [] };
-            pred-cov = record { long = 2; written = 0x4050000000000000 ∷ 0x4063400000000000 ∷ [] };
-            pred-inf = record { long = 2; written = 0x0000000000000000 ∷ 0x0000000000000000 ∷ [] };
-            filt-mean = record { long = 1; written = 0x4014000000000000 ∷ [] };
-            filt-cov = record { long = 1; written = 0x4050000000000000 ∷ [] };
-            kinds = record { long = 1; written = 0 ∷ [] };
-            v = record { long = 1; written = 0x0000000000000000 ∷ [] };
-            f-star = record { long = 1; written = 0x0000000000000000 ∷ [] };
-            f-inf = record { long = 1; written = 0x0000000000000000 ∷ [] };
-            m-star = record { long = 1; written = 0x0000000000000000 ∷ [] };
-            m-inf = record { long = 1; written = 0x0000000000000000 ∷ [] };
-          };
-      filter = 0 ∷ 0x0000000000000000 ∷ 0 ∷ 0 ∷ 0 ∷ 0 ∷ 0 ∷ [];
-      smooth = 0 ∷ 0x0000000000000000 ∷ 0 ∷ 0 ∷ 0 ∷ 0 ∷ 0 ∷ [];
-      sm-mean = record { long = 1; written = 0x4014000000000000 ∷ [] };
-      sm-cov = record { long = 1; written = 0x4050000000000000 ∷ [] };
-    }
-    -- usual; clear before any update; known start
-    ∷ record {
-      call =
-          record {
-            p = 1;
-            m = 1;
-            r = 1;
-            n = 2;
-            z = 0x4000000000000000 ∷ [];
-            zs = [];
-            h = 0x4022000000000000 ∷ [];
-            t = 0x3ff0000000000000 ∷ [];
-            rr = 0x0000000000000000 ∷ [];
-            q = 0x3ff8000000000000 ∷ [];
-            c = 0xc01c000000000000 ∷ [];
-            d = 0x4008000000000000 ∷ [];
-            a1 = 0x0000000000000000 ∷ [];
-            p-star = 0x3ff0000000000000 ∷ [];
-            flags = 0 ∷ [];
-            y = 0xc01c000000000000 ∷ 0xc018000000000000 ∷ [];
-            pred-mean = record { long = 3; written = 0x0000000000000000 ∷ 0xc02113b13b13b13b ∷ 0xc02d2d2d2d2d2d2d ∷ [] };
-            pred-cov = record { long = 3; written = 0x3ff0000000000000 ∷ 0x3fe6276276276276 ∷ 0x3fe0f0f0f0f0f0f1 ∷ [] };
-            pred-inf = record { long = 3; written = 0x0000000000000000 ∷ 0x0000000000000000 ∷ 0x0000000000000000 ∷ [] };
-            filt-mean = record { long = 2; written = 0xbff89d89d89d89d9 ∷ 0xc01e5a5a5a5a5a5a ∷ [] };
-            filt-cov = record { long = 2; written = 0x3fe6276276276276 ∷ 0x3fe0f0f0f0f0f0f1 ∷ [] };
-            kinds = record { long = 2; written = 1 ∷ 1 ∷ [] };
-            v = record { long = 2; written = 0xc024000000000000 ∷ 0x4020276276276276 ∷ [] };
-            f-star = record { long = 2; written = 0x402a000000000000 ∷ 0x402789d89d89d89e ∷ [] };
-            f-inf = record { long = 2; written = 0x0000000000000000 ∷ 0x0000000000000000 ∷ [] };
-            m-star = record { long = 2; written = 0x4000000000000000 ∷ 0x3ff6276276276276 ∷ [] };
-            m-inf = record { long = 2; written = 0x0000000000000000 ∷ 0x0000000000000000 ∷ [] };
-          };
-      filter = 0 ∷ 0xc025f1053cddc463 ∷ 0 ∷ 2 ∷ 2 ∷ 0 ∷ 0 ∷ [];
-      smooth = 0 ∷ 0xc025f1053cddc463 ∷ 0 ∷ 2 ∷ 2 ∷ 0 ∷ 0 ∷ [];
-      sm-mean = record { long = 2; written = 0xbfe2d2d2d2d2d2d5 ∷ 0xc01e5a5a5a5a5a5a ∷ [] };
-      sm-cov = record { long = 2; written = 0x3fe0f0f0f0f0f0f1 ∷ 0x3fe0f0f0f0f0f0f1 ∷ [] };
-    }
-    -- usual; clear before any update; signed zero in an output; known start
-    ∷ record {
-      call =
-          record {
-            p = 1;
-            m = 1;
-            r = 2;
-            n = 2;
-            z = 0xc014000000000000 ∷ [];
-            zs = [];
-            h = 0x4024000000000000 ∷ [];
-            t = 0x3ff0000000000000 ∷ [];
-            rr = 0xc004000000000000 ∷ 0x0000000000000000 ∷ [];
-            q = 0x4024000000000000 ∷ 0x0000000000000000 ∷ 0x0000000000000000 ∷ 0x3ff0000000000000 ∷ [];
-            c = 0xbff8000000000000 ∷ [];
-            d = 0xc014000000000000 ∷ [];
-            a1 = 0x8000000000000000 ∷ [];
-            p-star = 0x0000000000000000 ∷ [];
-            flags = 0 ∷ [];
-            y = 0x4010000000000000 ∷ 0x4016000000000000 ∷ [];
-            pred-mean = record { long = 3; written = 0x8000000000000000 ∷ 0xbff8000000000000 ∷ 0xc00cc4fc564871f6 ∷ [] };
-            pred-cov = record { long = 3; written = 0x0000000000000000 ∷ 0x404f400000000000 ∷ 0x404f72dfd8edaf6a ∷ [] };
-            pred-inf = record { long = 3; written = 0x0000000000000000 ∷ 0x0000000000000000 ∷ 0x0000000000000000 ∷ [] };
-            filt-mean = record { long = 2; written = 0x0000000000000000 ∷ 0xc000c4fc564871f6 ∷ [] };
-            filt-cov = record { long = 2; written = 0x0000000000000000 ∷ 0x3fd96fec76d7b500 ∷ [] };
-            kinds = record { long = 2; written = 1 ∷ 1 ∷ [] };
-            v = record { long = 2; written = 0x4022000000000000 ∷ 0x4008000000000000 ∷ [] };
-            f-star = record { long = 2; written = 0x4024000000000000 ∷ 0x4098920000000000 ∷ [] };
-            f-inf = record { long = 2; written = 0x0000000000000000 ∷ 0x0000000000000000 ∷ [] };
-            m-star = record { long = 2; written = 0x0000000000000000 ∷ 0xc073880000000000 ∷ [] };
-            m-inf = record { long = 2; written = 0x0000000000000000 ∷ 0x0000000000000000 ∷ [] };
-          };
-      filter = 0 ∷ 0xc02571c9bde35d06 ∷ 0 ∷ 2 ∷ 2 ∷ 0 ∷ 0 ∷ [];
-      smooth = 0 ∷ 0xc02571c9bde35d06 ∷ 0 ∷ 2 ∷ 2 ∷ 0 ∷ 0 ∷ [];
-      sm-mean = record { long = 2; written = 0x0000000000000000 ∷ 0xc000c4fc564871f5 ∷ [] };
-      sm-cov = record { long = 2; written = 0x0000000000000000 ∷ 0x3fd96fec76d7b580 ∷ [] };
-    }
-    -- usual; skipped by its scale; clear before any update; known start
-    ∷ record {
-      call =
-          record {
-            p = 2;
-            m = 1;
-            r = 1;
-            n = 2;
-            z = 0x8000000000000000 ∷ 0x8000000000000000 ∷ [];
-            zs = [];
-            h = 0x0000000000000000 ∷ 0x0000000000000000 ∷ 0x0000000000000000 ∷ 0x4028000000000000 ∷ [];
-            t = 0xbf94000000000000 ∷ [];
-            rr = 0xbfe0000000000000 ∷ [];
-            q = 0x4010000000000000 ∷ [];
-            c = 0x0000000000000000 ∷ [];
-            d = 0x0000000000000000 ∷ 0xbff8000000000000 ∷ [];
-            a1 = 0x400c000000000000 ∷ [];
-            p-star = 0x3ff8000000000000 ∷ [];
-            flags = 0 ∷ [];
-            y = 0xc000000000000000 ∷ 0x8000000000000000 ∷ 0x0000000000000000 ∷ 0xc000000000000000 ∷ [];
-            pred-mean = record { long = 3; written = 0x400c000000000000 ∷ 0xbfb1800000000000 ∷ 0x3f55e00000000000 ∷ [] };
-            pred-cov = record { long = 3; written = 0x3ff8000000000000 ∷ 0x3ff0025800000000 ∷ 0x3ff001903a980000 ∷ [] };
-            pred-inf = record { long = 3; written = 0x0000000000000000 ∷ 0x0000000000000000 ∷ 0x0000000000000000 ∷ [] };
-            filt-mean = record { long = 2; written = 0x400c000000000000 ∷ 0xbfb1800000000000 ∷ [] };
-            filt-cov = record { long = 2; written = 0x3ff8000000000000 ∷ 0x3ff0025800000000 ∷ [] };
-            kinds = record { long = 4; written = 0 ∷ 1 ∷ 0 ∷ 1 ∷ [] };
-            v = record { long = 4; written = 0x0000000000000000 ∷ 0x3ff8000000000000 ∷ 0x0000000000000000 ∷ 0xbfe0000000000000 ∷ [] };
-            f-star = record { long = 4; written = 0x0000000000000000 ∷ 0x4028000000000000 ∷ 0x0000000000000000 ∷ 0x4028000000000000 ∷ [] };
-            f-inf = record { long = 4; written = 0x0000000000000000 ∷ 0x0000000000000000 ∷ 0x0000000000000000 ∷ 0x0000000000000000 ∷ [] };
-            m-star = record { long = 4; written = 0x0000000000000000 ∷ 0x0000000000000000 ∷ 0x0000000000000000 ∷ 0x0000000000000000 ∷ [] };
-            m-inf = record { long = 4; written = 0x0000000000000000 ∷ 0x0000000000000000 ∷ 0x0000000000000000 ∷ 0x0000000000000000 ∷ [] };
-          };
-      filter = 0 ∷ 0xc011b5327b2da996 ∷ 0 ∷ 4 ∷ 2 ∷ 0 ∷ 0 ∷ [];
-      smooth = 0 ∷ 0xc011b5327b2da996 ∷ 0 ∷ 4 ∷ 2 ∷ 0 ∷ 0 ∷ [];
-      sm-mean = record { long = 2; written = 0x400c000000000000 ∷ 0xbfb1800000000000 ∷ [] };
-      sm-cov = record { long = 2; written = 0x3ff8000000000000 ∷ 0x3ff0025800000000 ∷ [] };
-    }
     -- usual; clear before any update; infinity inside a run; NaN inside a run; known start; covariance report; mean report
     ∷ record {
       call =
@@ -794,6 +929,7 @@ cases =
             n = 1;
             z = 0x3ff0000000000000 ∷ 0x0000000000000000 ∷ [];
             zs = [];
+            repeats = 0;
             h = 0x0000000000000000 ∷ [];
             t = 0x0000000000000000 ∷ 0x0000000000000000 ∷ 0x0000000000000000 ∷ 0x0000000000000000 ∷ [];
             rr = 0x3ff0000000000000 ∷ 0x0000000000000000 ∷ [];
@@ -821,80 +957,6 @@ cases =
       sm-mean = record { long = 2; written = 0x7ff8000000000000 ∷ 0x7ff8000000000000 ∷ [] };
       sm-cov = record { long = 4; written = 0x7ff8000000000000 ∷ 0x7ff8000000000000 ∷ 0x7ff8000000000000 ∷ 0x7ff8000000000000 ∷ [] };
     }
-    -- usual; clear before any update; clear by bound; signed zero in an output; known start
-    ∷ record {
-      call =
-          record {
-            p = 2;
-            m = 1;
-            r = 2;
-            n = 2;
-            z = [];
-            zs = 0x4008000000000000 ∷ 0x0000000000000000 ∷ 0x4008000000000000 ∷ 0x0000000000000000 ∷ [];
-            h = 0x3e30000000000000 ∷ 0x0000000000000000 ∷ 0x0000000000000000 ∷ 0x3d40000000000000 ∷ [];
-            t = 0x3ff0000000000000 ∷ [];
-            rr = 0xc010000000000000 ∷ 0x3ff0000000000000 ∷ [];
-            q = 0x4012000000000000 ∷ 0x0000000000000000 ∷ 0x0000000000000000 ∷ 0x0000000000000000 ∷ [];
-            c = 0x0000000000000000 ∷ [];
-            d = 0x0000000000000000 ∷ 0x0000000000000000 ∷ [];
-            a1 = 0xbffc000000000000 ∷ [];
-            p-star = 0x8000000000000000 ∷ [];
-            flags = 0 ∷ [];
-            y = 0x4004000000000000 ∷ 0x401c000000000000 ∷ 0xc008000000000000 ∷ 0x4028000000000000 ∷ [];
-            pred-mean = record { long = 3; written = 0xbffc000000000000 ∷ 0xbffc000000000000 ∷ 0xbff0000000004bda ∷ [] };
-            pred-cov = record { long = 3; written = 0x8000000000000000 ∷ 0x4052000000000000 ∷ 0x40520000000071c7 ∷ [] };
-            pred-inf = record { long = 3; written = 0x0000000000000000 ∷ 0x0000000000000000 ∷ 0x0000000000000000 ∷ [] };
-            filt-mean = record { long = 2; written = 0xbffc000000000000 ∷ 0xbff0000000004bda ∷ [] };
-            filt-cov = record { long = 2; written = 0x8000000000000000 ∷ 0x3dfc71c000000000 ∷ [] };
-            kinds = record { long = 4; written = 1 ∷ 1 ∷ 1 ∷ 1 ∷ [] };
-            v = record { long = 4; written = 0x401f000000000000 ∷ 0x401c000000000000 ∷ 0x4002000000000000 ∷ 0x4028000000000000 ∷ [] };
-            f-star = record { long = 4; written = 0x3e30000000000000 ∷ 0x3d40000000000000 ∷ 0x4084400000008000 ∷ 0x3d40000000000000 ∷ [] };
-            f-inf = record { long = 4; written = 0x0000000000000000 ∷ 0x0000000000000000 ∷ 0x0000000000000000 ∷ 0x0000000000000000 ∷ [] };
-            m-star = record { long = 4; written = 0x0000000000000000 ∷ 0x0000000000000000 ∷ 0x406b000000000000 ∷ 0x0000000000000000 ∷ [] };
-            m-inf = record { long = 4; written = 0x0000000000000000 ∷ 0x0000000000000000 ∷ 0x0000000000000000 ∷ 0x0000000000000000 ∷ [] };
-          };
-      filter = 0 ∷ 0xc308200f03fffefb ∷ 0 ∷ 4 ∷ 4 ∷ 0 ∷ 0 ∷ [];
-      smooth = 0 ∷ 0xc308200f03fffefb ∷ 0 ∷ 4 ∷ 4 ∷ 0 ∷ 0 ∷ [];
-      sm-mean = record { long = 2; written = 0xbffc000000000000 ∷ 0xbff0000000004bda ∷ [] };
-      sm-cov = record { long = 2; written = 0x8000000000000000 ∷ 0x3dfc71c000000000 ∷ [] };
-    }
-    -- usual; clear before any update; below; known start
-    ∷ record {
-      call =
-          record {
-            p = 2;
-            m = 1;
-            r = 1;
-            n = 2;
-            z = 0xc014000000000000 ∷ 0x4024000000000000 ∷ [];
-            zs = [];
-            h = 0x3d50000000000000 ∷ 0x0000000000000000 ∷ 0x0000000000000000 ∷ 0x3d70000000000000 ∷ [];
-            t = 0x3ff0000000000000 ∷ [];
-            rr = 0xc020000000000000 ∷ [];
-            q = 0x4022000000000000 ∷ [];
-            c = 0x0000000000000000 ∷ [];
-            d = 0x0000000000000000 ∷ 0x0000000000000000 ∷ [];
-            a1 = 0xc018000000000000 ∷ [];
-            p-star = 0x4006000000000000 ∷ [];
-            flags = 0 ∷ [];
-            y = 0x4008000000000000 ∷ 0x3ff8000000000000 ∷ 0xc014000000000000 ∷ 0xc014000000000000 ∷ [];
-            pred-mean = record { long = 3; written = 0xc018000000000000 ∷ 0xbfe33333333333d0 ∷ 0x3ff0000000000000 ∷ [] };
-            pred-cov = record { long = 3; written = 0x4006000000000000 ∷ 0x4082000000000000 ∷ 0x4082000000000000 ∷ [] };
-            pred-inf = record { long = 3; written = 0x0000000000000000 ∷ 0x0000000000000000 ∷ 0x0000000000000000 ∷ [] };
-            filt-mean = record { long = 2; written = 0xbfe33333333333d0 ∷ 0x3ff0000000000000 ∷ [] };
-            filt-cov = record { long = 2; written = 0x3d04000000000000 ∷ 0x0000000000000000 ∷ [] };
-            kinds = record { long = 4; written = 1 ∷ 0 ∷ 1 ∷ 0 ∷ [] };
-            v = record { long = 4; written = 0xc03b000000000000 ∷ 0x0000000000000000 ∷ 0xc020000000000031 ∷ 0x0000000000000000 ∷ [] };
-            f-star = record { long = 4; written = 0x4051300000000010 ∷ 0x0000000000000000 ∷ 0x40cc200000000000 ∷ 0x0000000000000000 ∷ [] };
-            f-inf = record { long = 4; written = 0x0000000000000000 ∷ 0x0000000000000000 ∷ 0x0000000000000000 ∷ 0x0000000000000000 ∷ [] };
-            m-star = record { long = 4; written = 0xc02b800000000000 ∷ 0x0000000000000000 ∷ 0xc0a6800000000000 ∷ 0x0000000000000000 ∷ [] };
-            m-inf = record { long = 4; written = 0x0000000000000000 ∷ 0x0000000000000000 ∷ 0x0000000000000000 ∷ 0x0000000000000000 ∷ [] };
-          };
-      filter = 0 ∷ 0xc02c16dc0c3cd1ea ∷ 0 ∷ 4 ∷ 2 ∷ 0 ∷ 0 ∷ [];
-      smooth = 0 ∷ 0xc02c16dc0c3cd1ea ∷ 0 ∷ 4 ∷ 2 ∷ 0 ∷ 0 ∷ [];
-      sm-mean = record { long = 2; written = 0xbfe33333333333d0 ∷ 0x3ff0000000000001 ∷ [] };
-      sm-cov = record { long = 2; written = 0x3d05000000000000 ∷ 0x0000000000000000 ∷ [] };
-    }
     -- gap; infinity inside a run; NaN inside a run; known start; all readings gaps, answered; covariance report
     ∷ record {
       call =
@@ -905,6 +967,7 @@ cases =
             n = 1;
             z = 0x3ff0000000000000 ∷ 0x0000000000000000 ∷ [];
             zs = [];
+            repeats = 0;
             h = 0x3ff0000000000000 ∷ [];
             t = 0x3ff0000000000000 ∷ 0x0000000000000000 ∷ 0x0000000000000000 ∷ 0x3ff0000000000000 ∷ [];
             rr = 0x3ff0000000000000 ∷ 0x0000000000000000 ∷ [];
@@ -932,42 +995,43 @@ cases =
       sm-mean = record { long = 2; written = 0x0000000000000000 ∷ 0x0000000000000000 ∷ [] };
       sm-cov = record { long = 4; written = 0x7fe0000000000000 ∷ 0x7ff0000000000000 ∷ 0x7ff0000000000000 ∷ 0x7fe0000000000000 ∷ [] };
     }
-    -- gap; usual; skipped by its scale; clear before any update; listed Z, longer than n; known start
+    -- refusal 14
     ∷ record {
       call =
           record {
-            p = 2;
+            p = 1;
             m = 1;
-            r = 2;
+            r = 1;
             n = 2;
             z = [];
-            zs = 0x0000000000000000 ∷ 0x8000000000000000 ∷ 0xbff4000000000000 ∷ 0xc028000000000000 ∷ 0x8000000000000000 ∷ 0xc018000000000000 ∷ [];
-            h = 0x8000000000000000 ∷ 0x0000000000000000 ∷ 0x0000000000000000 ∷ 0x0000000000000000 ∷ [];
+            zs = 0x0000000000000000 ∷ [];
+            repeats = 0;
+            h = 0x0000000000000000 ∷ [];
             t = 0x3ff0000000000000 ∷ [];
-            rr = 0xc000000000000000 ∷ 0x8000000000000000 ∷ [];
-            q = 0x4004000000000000 ∷ 0x0000000000000000 ∷ 0x0000000000000000 ∷ 0x0000000000000000 ∷ [];
+            rr = 0x3ff0000000000000 ∷ [];
+            q = 0x4010000000000000 ∷ [];
             c = 0x0000000000000000 ∷ [];
-            d = 0x0000000000000000 ∷ 0x0000000000000000 ∷ [];
-            a1 = 0xc010000000000000 ∷ [];
-            p-star = 0x4022000000000000 ∷ [];
-            flags = 0 ∷ [];
-            y = 0x7ff8000000000000 ∷ 0x4024000000000000 ∷ 0x4000000000000000 ∷ 0x4002000000000000 ∷ [];
-            pred-mean = record { long = 3; written = 0xc010000000000000 ∷ 0xc010000000000000 ∷ 0xbff9999999999998 ∷ [] };
-            pred-cov = record { long = 3; written = 0x4022000000000000 ∷ 0x4033000000000000 ∷ 0x4024000000000000 ∷ [] };
-            pred-inf = record { long = 3; written = 0x0000000000000000 ∷ 0x0000000000000000 ∷ 0x0000000000000000 ∷ [] };
-            filt-mean = record { long = 2; written = 0xc010000000000000 ∷ 0xbff9999999999998 ∷ [] };
-            filt-cov = record { long = 2; written = 0x4022000000000000 ∷ 0x0000000000000000 ∷ [] };
-            kinds = record { long = 4; written = 0 ∷ 0 ∷ 1 ∷ 0 ∷ [] };
-            v = record { long = 4; written = 0x0000000000000000 ∷ 0x0000000000000000 ∷ 0xc008000000000000 ∷ 0x0000000000000000 ∷ [] };
-            f-star = record { long = 4; written = 0x0000000000000000 ∷ 0x0000000000000000 ∷ 0x403db00000000000 ∷ 0x0000000000000000 ∷ [] };
-            f-inf = record { long = 4; written = 0x0000000000000000 ∷ 0x0000000000000000 ∷ 0x0000000000000000 ∷ 0x0000000000000000 ∷ [] };
-            m-star = record { long = 4; written = 0x0000000000000000 ∷ 0x0000000000000000 ∷ 0xc037c00000000000 ∷ 0x0000000000000000 ∷ [] };
-            m-inf = record { long = 4; written = 0x0000000000000000 ∷ 0x0000000000000000 ∷ 0x0000000000000000 ∷ 0x0000000000000000 ∷ [] };
+            d = 0x0000000000000000 ∷ [];
+            a1 = 0x0000000000000000 ∷ [];
+            p-star = 0x0000000000000000 ∷ [];
+            flags = 1 ∷ [];
+            y = 0x4000000000000000 ∷ 0x4000000000000000 ∷ [];
+            pred-mean = record { long = 3; written = [] };
+            pred-cov = record { long = 3; written = [] };
+            pred-inf = record { long = 3; written = [] };
+            filt-mean = record { long = 2; written = [] };
+            filt-cov = record { long = 2; written = [] };
+            kinds = record { long = 2; written = [] };
+            v = record { long = 2; written = [] };
+            f-star = record { long = 2; written = [] };
+            f-inf = record { long = 2; written = [] };
+            m-star = record { long = 2; written = [] };
+            m-inf = record { long = 2; written = [] };
           };
-      filter = 0 ∷ 0xc0062085f782dfe7 ∷ 0 ∷ 3 ∷ 1 ∷ 0 ∷ 0 ∷ [];
-      smooth = 0 ∷ 0xc0062085f782dfe7 ∷ 0 ∷ 3 ∷ 1 ∷ 0 ∷ 0 ∷ [];
-      sm-mean = record { long = 2; written = 0xc006e7bf53896e7c ∷ 0xbff999999999999a ∷ [] };
-      sm-cov = record { long = 2; written = 0x4012f286bca1af29 ∷ 0x0000000000000000 ∷ [] };
+      filter = 14 ∷ [];
+      smooth = 14 ∷ [];
+      sm-mean = record { long = 2; written = [] };
+      sm-cov = record { long = 2; written = [] };
     }
     -- gap; usual; clear before any update; exactly at a tolerance; d_diffuse over 1; infinity inside a run; NaN inside a run; place n's diffuse covariance non-zero; diffuse start; covariance report
     ∷ record {
@@ -979,8 +1043,9 @@ cases =
             n = 2;
             z = 0x3ff0000000000000 ∷ [];
             zs = [];
+            repeats = 0;
             h = 0x3ff0000000000000 ∷ [];
-            t = 0x73d0000000000000 ∷ [];
+            t = 0x6c40000000000000 ∷ [];
             rr = 0x3ff0000000000000 ∷ [];
             q = 0x3ff0000000000000 ∷ [];
             c = 0x0000000000000000 ∷ [];
@@ -1006,6 +1071,120 @@ cases =
       sm-mean = record { long = 2; written = 0x0000000000000000 ∷ 0x0000000000000000 ∷ [] };
       sm-cov = record { long = 2; written = 0x7ff8000000000000 ∷ 0x7ff8000000000000 ∷ [] };
     }
+    -- refusal 2
+    ∷ record {
+      call =
+          record {
+            p = 1;
+            m = 1;
+            r = 1;
+            n = 2;
+            z = [];
+            zs = 0x3ff0000000000000 ∷ [];
+            repeats = 0;
+            h = 0x3fe0000000000000 ∷ [];
+            t = 0x3ff0000000000000 ∷ [];
+            rr = 0x3ff0000000000000 ∷ [];
+            q = 0x3ff0000000000000 ∷ [];
+            c = 0x0000000000000000 ∷ [];
+            d = 0x0000000000000000 ∷ [];
+            a1 = 0x0000000000000000 ∷ [];
+            p-star = 0x0000000000000000 ∷ [];
+            flags = 1 ∷ [];
+            y = 0x4000000000000000 ∷ 0x4010000000000000 ∷ [];
+            pred-mean = record { long = 3; written = [] };
+            pred-cov = record { long = 0; written = [] };
+            pred-inf = record { long = 3; written = [] };
+            filt-mean = record { long = 2; written = [] };
+            filt-cov = record { long = 2; written = [] };
+            kinds = record { long = 2; written = [] };
+            v = record { long = 2; written = [] };
+            f-star = record { long = 2; written = [] };
+            f-inf = record { long = 2; written = [] };
+            m-star = record { long = 2; written = [] };
+            m-inf = record { long = 2; written = [] };
+          };
+      filter = 2 ∷ [];
+      smooth = 2 ∷ [];
+      sm-mean = record { long = 2; written = [] };
+      sm-cov = record { long = 2; written = [] };
+    }
+    -- refusal 14
+    ∷ record {
+      call =
+          record {
+            p = 1;
+            m = 1;
+            r = 1;
+            n = 2;
+            z = [];
+            zs = 0x3ff0000000000000 ∷ [];
+            repeats = 0;
+            h = 0x3fe0000000000000 ∷ [];
+            t = 0x3ff0000000000000 ∷ [];
+            rr = 0xfff0000000000000 ∷ [];
+            q = 0x4000000000000000 ∷ [];
+            c = 0x0000000000000000 ∷ [];
+            d = 0x0000000000000000 ∷ [];
+            a1 = 0x0000000000000000 ∷ [];
+            p-star = 0x0000000000000000 ∷ [];
+            flags = 1 ∷ [];
+            y = 0x4010000000000000 ∷ 0x4000000000000000 ∷ [];
+            pred-mean = record { long = 3; written = [] };
+            pred-cov = record { long = 3; written = [] };
+            pred-inf = record { long = 3; written = [] };
+            filt-mean = record { long = 2; written = [] };
+            filt-cov = record { long = 2; written = [] };
+            kinds = record { long = 2; written = [] };
+            v = record { long = 2; written = [] };
+            f-star = record { long = 2; written = [] };
+            f-inf = record { long = 2; written = [] };
+            m-star = record { long = 2; written = [] };
+            m-inf = record { long = 2; written = [] };
+          };
+      filter = 14 ∷ [];
+      smooth = 14 ∷ [];
+      sm-mean = record { long = 2; written = [] };
+      sm-cov = record { long = 2; written = [] };
+    }
+    -- gap; diffuse; d_diffuse over 1; diffuse start
+    ∷ record {
+      call =
+          record {
+            p = 1;
+            m = 1;
+            r = 1;
+            n = 2;
+            z = 0x3ff0000000000000 ∷ [];
+            zs = [];
+            repeats = 0;
+            h = 0x3ff0000000000000 ∷ [];
+            t = 0x3ff0000000000000 ∷ [];
+            rr = 0x3ff0000000000000 ∷ [];
+            q = 0x4000000000000000 ∷ [];
+            c = 0x0000000000000000 ∷ [];
+            d = 0x0000000000000000 ∷ [];
+            a1 = 0x0000000000000000 ∷ [];
+            p-star = 0x0000000000000000 ∷ [];
+            flags = 1 ∷ [];
+            y = 0x7ff8000000000000 ∷ 0x0000000000000000 ∷ [];
+            pred-mean = record { long = 3; written = 0x0000000000000000 ∷ 0x0000000000000000 ∷ 0x0000000000000000 ∷ [] };
+            pred-cov = record { long = 3; written = 0x0000000000000000 ∷ 0x4000000000000000 ∷ 0x4008000000000000 ∷ [] };
+            pred-inf = record { long = 3; written = 0x3ff0000000000000 ∷ 0x3ff0000000000000 ∷ 0x0000000000000000 ∷ [] };
+            filt-mean = record { long = 2; written = 0x0000000000000000 ∷ 0x0000000000000000 ∷ [] };
+            filt-cov = record { long = 2; written = 0x0000000000000000 ∷ 0x3ff0000000000000 ∷ [] };
+            kinds = record { long = 2; written = 0 ∷ 2 ∷ [] };
+            v = record { long = 2; written = 0x0000000000000000 ∷ 0x0000000000000000 ∷ [] };
+            f-star = record { long = 2; written = 0x0000000000000000 ∷ 0x4008000000000000 ∷ [] };
+            f-inf = record { long = 2; written = 0x0000000000000000 ∷ 0x3ff0000000000000 ∷ [] };
+            m-star = record { long = 2; written = 0x0000000000000000 ∷ 0x4000000000000000 ∷ [] };
+            m-inf = record { long = 2; written = 0x0000000000000000 ∷ 0x3ff0000000000000 ∷ [] };
+          };
+      filter = 0 ∷ 0xbfed67f1c864beb4 ∷ 2 ∷ 1 ∷ 1 ∷ 0 ∷ 0 ∷ [];
+      smooth = 0 ∷ 0xbfed67f1c864beb4 ∷ 2 ∷ 1 ∷ 1 ∷ 0 ∷ 0 ∷ [];
+      sm-mean = record { long = 2; written = 0x0000000000000000 ∷ 0x0000000000000000 ∷ [] };
+      sm-cov = record { long = 2; written = 0x4008000000000000 ∷ 0x3ff0000000000000 ∷ [] };
+    }
     -- gap; infinity inside a run; NaN inside a run; known start; all readings gaps, answered; covariance report; mean report
     ∷ record {
       call =
@@ -1016,6 +1195,7 @@ cases =
             n = 3;
             z = 0x3ff0000000000000 ∷ [];
             zs = [];
+            repeats = 0;
             h = 0x3ff0000000000000 ∷ [];
             t = 0xc000000000000000 ∷ [];
             rr = 0x3ff0000000000000 ∷ [];
@@ -1043,7 +1223,7 @@ cases =
       sm-mean = record { long = 3; written = 0x7fd0000000000000 ∷ 0xffe0000000000000 ∷ 0x7ff0000000000000 ∷ [] };
       sm-cov = record { long = 3; written = 0x7fd0000000000000 ∷ 0x7ff8000000000000 ∷ 0x7ff8000000000000 ∷ [] };
     }
-    -- usual; clear before any update; suspect accepted by replay; root built; rank short; known start
+    -- usual; clear before any update; clear by reference; signed zero in an output; known start
     ∷ record {
       call =
           record {
@@ -1051,34 +1231,35 @@ cases =
             m = 2;
             r = 1;
             n = 1;
-            z = 0xc000000000000000 ∷ 0xbfe0000000000000 ∷ 0xc000000000000000 ∷ 0xbfe0000000000000 ∷ [];
+            z = 0x3ff0000000000000 ∷ 0x3ff0000000000000 ∷ 0x3ff0000000000000 ∷ 0x3ff0000000000000 ∷ [];
             zs = [];
-            h = 0x0000000000000000 ∷ 0x0000000000000000 ∷ 0x0000000000000000 ∷ 0x3d40000000000000 ∷ [];
+            repeats = 0;
+            h = 0x3ee0000000000000 ∷ 0x0000000000000000 ∷ 0x0000000000000000 ∷ 0x3ed0000000000000 ∷ [];
             t = 0x3ff0000000000000 ∷ 0x0000000000000000 ∷ 0x0000000000000000 ∷ 0x3ff0000000000000 ∷ [];
             rr = 0x3ff0000000000000 ∷ 0x0000000000000000 ∷ [];
             q = 0x0000000000000000 ∷ [];
             c = 0x0000000000000000 ∷ 0x0000000000000000 ∷ [];
             d = 0x0000000000000000 ∷ 0x0000000000000000 ∷ [];
             a1 = 0x0000000000000000 ∷ 0x0000000000000000 ∷ [];
-            p-star = 0x0000000000000000 ∷ 0x0000000000000000 ∷ 0x0000000000000000 ∷ 0x3ff4000000000000 ∷ [];
+            p-star = 0x4010000000000000 ∷ 0x0000000000000000 ∷ 0x0000000000000000 ∷ 0x4010000000000000 ∷ [];
             flags = 0 ∷ 0 ∷ [];
-            y = 0x0000000000000000 ∷ 0xc028000000000000 ∷ [];
+            y = 0x8000000000000000 ∷ 0x0000000000000000 ∷ [];
             pred-mean = record { long = 4; written = 0x0000000000000000 ∷ 0x0000000000000000 ∷ 0x0000000000000000 ∷ 0x0000000000000000 ∷ [] };
-            pred-cov = record { long = 8; written = 0x0000000000000000 ∷ 0x0000000000000000 ∷ 0x0000000000000000 ∷ 0x3ff4000000000000 ∷ 0x0000000000000000 ∷ 0x0000000000000000 ∷ 0x0000000000000000 ∷ 0x0000000000000000 ∷ [] };
+            pred-cov = record { long = 8; written = 0x4010000000000000 ∷ 0x0000000000000000 ∷ 0x0000000000000000 ∷ 0x4010000000000000 ∷ 0x400000005555538e ∷ 0xbfffffff555558e4 ∷ 0xbfffffff555558e4 ∷ 0x400000005555538e ∷ [] };
             pred-inf = record { long = 8; written = 0x0000000000000000 ∷ 0x0000000000000000 ∷ 0x0000000000000000 ∷ 0x0000000000000000 ∷ 0x0000000000000000 ∷ 0x0000000000000000 ∷ 0x0000000000000000 ∷ 0x0000000000000000 ∷ [] };
             filt-mean = record { long = 2; written = 0x0000000000000000 ∷ 0x0000000000000000 ∷ [] };
-            filt-cov = record { long = 4; written = 0x0000000000000000 ∷ 0x0000000000000000 ∷ 0x0000000000000000 ∷ 0x0000000000000000 ∷ [] };
+            filt-cov = record { long = 4; written = 0x400000005555538e ∷ 0xbfffffff555558e4 ∷ 0xbfffffff555558e4 ∷ 0x400000005555538e ∷ [] };
             kinds = record { long = 2; written = 1 ∷ 1 ∷ [] };
-            v = record { long = 2; written = 0x0000000000000000 ∷ 0xc028000000000000 ∷ [] };
-            f-star = record { long = 2; written = 0x3fd4000000000000 ∷ 0x3d40000000000000 ∷ [] };
+            v = record { long = 2; written = 0x8000000000000000 ∷ 0x0000000000000000 ∷ [] };
+            f-star = record { long = 2; written = 0x4020000100000000 ∷ 0x3ee7ffff00000000 ∷ [] };
             f-inf = record { long = 2; written = 0x0000000000000000 ∷ 0x0000000000000000 ∷ [] };
-            m-star = record { long = 4; written = 0x0000000000000000 ∷ 0xbfe4000000000000 ∷ 0x0000000000000000 ∷ 0x0000000000000000 ∷ [] };
+            m-star = record { long = 4; written = 0x4010000000000000 ∷ 0x4010000000000000 ∷ 0x3ecffffe00000000 ∷ 0x3ecffffe00000000 ∷ [] };
             m-inf = record { long = 4; written = 0x0000000000000000 ∷ 0x0000000000000000 ∷ 0x0000000000000000 ∷ 0x0000000000000000 ∷ [] };
           };
-      filter = 0 ∷ 0xc301ffffffffff93 ∷ 0 ∷ 2 ∷ 2 ∷ 0 ∷ 0 ∷ [];
-      smooth = 0 ∷ 0xc301ffffffffff93 ∷ 0 ∷ 2 ∷ 2 ∷ 0 ∷ 0 ∷ [];
+      filter = 0 ∷ 0x40067dca05e23a12 ∷ 0 ∷ 2 ∷ 2 ∷ 0 ∷ 0 ∷ [];
+      smooth = 0 ∷ 0x40067dca05e23a12 ∷ 0 ∷ 2 ∷ 2 ∷ 0 ∷ 0 ∷ [];
       sm-mean = record { long = 2; written = 0x0000000000000000 ∷ 0x0000000000000000 ∷ [] };
-      sm-cov = record { long = 4; written = 0x0000000000000000 ∷ 0x0000000000000000 ∷ 0x0000000000000000 ∷ 0x0000000000000000 ∷ [] };
+      sm-cov = record { long = 4; written = 0x400000005555538e ∷ 0xbfffffff555558e4 ∷ 0xbfffffff555558e4 ∷ 0x400000005555538e ∷ [] };
     }
     -- refusal 7
     ∷ record {
@@ -1088,11 +1269,12 @@ cases =
             m = 2;
             r = 1;
             n = 1;
-            z = 0x3ff0000000000000 ∷ 0x0000000000000000 ∷ [];
+            z = 0x0000000000000000 ∷ 0x0000000000000000 ∷ [];
             zs = [];
-            h = 0x3fe0000000000000 ∷ [];
+            repeats = 0;
+            h = 0x0000000000000000 ∷ [];
             t = 0x3ff0000000000000 ∷ 0x0000000000000000 ∷ 0x0000000000000000 ∷ 0x3ff0000000000000 ∷ [];
-            rr = 0x4010000000000000 ∷ 0x3ff0000000000000 ∷ [];
+            rr = 0x4010000000000000 ∷ 0x4000000000000000 ∷ [];
             q = 0x3ff0000000000000 ∷ [];
             c = 0x0000000000000000 ∷ 0x0000000000000000 ∷ [];
             d = 0x0000000000000000 ∷ [];
@@ -1117,6 +1299,44 @@ cases =
       sm-mean = record { long = 2; written = [] };
       sm-cov = record { long = 4; written = [] };
     }
+    -- usual; clear before any update; suspect accepted by replay; root built; rank short; pivot tie; known start
+    ∷ record {
+      call =
+          record {
+            p = 2;
+            m = 2;
+            r = 1;
+            n = 1;
+            z = 0x3ffc000000000000 ∷ 0xbff8000000000000 ∷ 0xc010000000000000 ∷ 0x4014000000000000 ∷ [];
+            zs = [];
+            repeats = 0;
+            h = 0x3de0000000000000 ∷ 0x0000000000000000 ∷ 0x0000000000000000 ∷ 0x0000000000000000 ∷ [];
+            t = 0x3ff0000000000000 ∷ 0x0000000000000000 ∷ 0x0000000000000000 ∷ 0x3ff0000000000000 ∷ [];
+            rr = 0x3ff0000000000000 ∷ 0x0000000000000000 ∷ [];
+            q = 0x0000000000000000 ∷ [];
+            c = 0x0000000000000000 ∷ 0x0000000000000000 ∷ [];
+            d = 0x0000000000000000 ∷ 0x0000000000000000 ∷ [];
+            a1 = 0x0000000000000000 ∷ 0x0000000000000000 ∷ [];
+            p-star = 0x4030000000000000 ∷ 0x4030000000000000 ∷ 0x4030000000000000 ∷ 0x4030000000000000 ∷ [];
+            flags = 0 ∷ 0 ∷ [];
+            y = 0xc008000000000000 ∷ 0x3fd0000000000000 ∷ [];
+            pred-mean = record { long = 4; written = 0x0000000000000000 ∷ 0x0000000000000000 ∷ 0x3fd0000000000000 ∷ 0x3fd0000000000000 ∷ [] };
+            pred-cov = record { long = 8; written = 0x4030000000000000 ∷ 0x4030000000000000 ∷ 0x4030000000000000 ∷ 0x4030000000000000 ∷ 0x0000000000000000 ∷ 0x0000000000000000 ∷ 0x0000000000000000 ∷ 0x0000000000000000 ∷ [] };
+            pred-inf = record { long = 8; written = 0x0000000000000000 ∷ 0x0000000000000000 ∷ 0x0000000000000000 ∷ 0x0000000000000000 ∷ 0x0000000000000000 ∷ 0x0000000000000000 ∷ 0x0000000000000000 ∷ 0x0000000000000000 ∷ [] };
+            filt-mean = record { long = 2; written = 0x3fd0000000000000 ∷ 0x3fd0000000000000 ∷ [] };
+            filt-cov = record { long = 4; written = 0x0000000000000000 ∷ 0x0000000000000000 ∷ 0x0000000000000000 ∷ 0x0000000000000000 ∷ [] };
+            kinds = record { long = 2; written = 1 ∷ 1 ∷ [] };
+            v = record { long = 2; written = 0xc008000000000000 ∷ 0x40287ffffff40000 ∷ [] };
+            f-star = record { long = 2; written = 0x3ff0000000080000 ∷ 0x3e20000000000000 ∷ [] };
+            f-inf = record { long = 2; written = 0x0000000000000000 ∷ 0x0000000000000000 ∷ [] };
+            m-star = record { long = 4; written = 0x4010000000000000 ∷ 0x4010000000000000 ∷ 0x3e20000000000000 ∷ 0x3e20000000000000 ∷ [] };
+            m-inf = record { long = 4; written = 0x0000000000000000 ∷ 0x0000000000000000 ∷ 0x0000000000000000 ∷ 0x0000000000000000 ∷ [] };
+          };
+      filter = 0 ∷ 0xc222c1ffffe63311 ∷ 0 ∷ 2 ∷ 2 ∷ 0 ∷ 0 ∷ [];
+      smooth = 0 ∷ 0xc222c1ffffe63311 ∷ 0 ∷ 2 ∷ 2 ∷ 0 ∷ 0 ∷ [];
+      sm-mean = record { long = 2; written = 0x3fd0000000000000 ∷ 0x3fd0000000000000 ∷ [] };
+      sm-cov = record { long = 4; written = 0x0000000000000000 ∷ 0x0000000000000000 ∷ 0x0000000000000000 ∷ 0x0000000000000000 ∷ [] };
+    }
     -- refusal 10
     ∷ record {
       call =
@@ -1127,16 +1347,17 @@ cases =
             n = 1;
             z = 0x0000000000000000 ∷ 0x0000000000000000 ∷ [];
             zs = [];
+            repeats = 0;
             h = 0x0000000000000000 ∷ [];
-            t = 0x3ff0000000000000 ∷ 0x3fe0000000000000 ∷ 0x0000000000000000 ∷ 0x3ff0000000000000 ∷ [];
-            rr = 0x3fe0000000000000 ∷ 0x3fe0000000000000 ∷ [];
+            t = 0x3ff0000000000000 ∷ 0xbfe0000000000000 ∷ 0x0000000000000000 ∷ 0x3ff0000000000000 ∷ [];
+            rr = 0x3fe0000000000000 ∷ 0x3ff0000000000000 ∷ [];
             q = 0x4000000000000000 ∷ [];
             c = 0x0000000000000000 ∷ 0x0000000000000000 ∷ [];
             d = 0x0000000000000000 ∷ [];
             a1 = 0x0000000000000000 ∷ 0x0000000000000000 ∷ [];
             p-star = 0x3ff0000000000000 ∷ 0x0000000000000000 ∷ 0x0000000000000000 ∷ 0x0000000000000000 ∷ [];
             flags = 0 ∷ 1 ∷ [];
-            y = 0x4000000000000000 ∷ [];
+            y = 0x3fe0000000000000 ∷ [];
             pred-mean = record { long = 4; written = [] };
             pred-cov = record { long = 8; written = [] };
             pred-inf = record { long = 8; written = [] };
@@ -1154,7 +1375,7 @@ cases =
       sm-mean = record { long = 2; written = [] };
       sm-cov = record { long = 4; written = [] };
     }
-    -- usual; clear before any update; suspect accepted by replay; root built; rank zero; downdate that returns early; known start
+    -- usual; clear before any update; suspect accepted by replay; root built; rank zero; downdate that returns early; signed zero in an output; known start
     ∷ record {
       call =
           record {
@@ -1164,69 +1385,33 @@ cases =
             n = 1;
             z = 0x3ff0000000000000 ∷ 0x3ff0000000000000 ∷ 0x3ff0000000000000 ∷ 0x4008000000000000 ∷ [];
             zs = [];
-            h = 0x0000000000000000 ∷ 0x0000000000000000 ∷ 0x0000000000000000 ∷ 0x3ff0000040000000 ∷ [];
+            repeats = 0;
+            h = 0x0000000000000000 ∷ 0x0000000000000000 ∷ 0x0000000000000000 ∷ 0x4030000080000000 ∷ [];
             t = 0x3ff0000000000000 ∷ 0x0000000000000000 ∷ 0x0000000000000000 ∷ 0x3ff0000000000000 ∷ [];
             rr = 0x3ff0000000000000 ∷ 0x0000000000000000 ∷ [];
             q = 0x0000000000000000 ∷ [];
             c = 0x0000000000000000 ∷ 0x0000000000000000 ∷ [];
             d = 0x0000000000000000 ∷ 0x0000000000000000 ∷ [];
             a1 = 0x0000000000000000 ∷ 0x0000000000000000 ∷ [];
-            p-star = 0x0000000000000000 ∷ 0x3fe0000000000000 ∷ 0x3fe0000000000000 ∷ 0x0000000000000000 ∷ [];
+            p-star = 0x0000000000000000 ∷ 0x4020000000000000 ∷ 0x4020000000000000 ∷ 0x0000000000000000 ∷ [];
             flags = 0 ∷ 0 ∷ [];
-            y = 0x0000000000000000 ∷ 0x0000000000000000 ∷ [];
+            y = 0x0000000000000000 ∷ 0x8000000000000000 ∷ [];
             pred-mean = record { long = 4; written = 0x0000000000000000 ∷ 0x0000000000000000 ∷ 0x0000000000000000 ∷ 0x0000000000000000 ∷ [] };
-            pred-cov = record { long = 8; written = 0x0000000000000000 ∷ 0x3fe0000000000000 ∷ 0x3fe0000000000000 ∷ 0x0000000000000000 ∷ 0xc130000040000000 ∷ 0x4130000040000000 ∷ 0x4130000040000000 ∷ 0xc130000040000000 ∷ [] };
+            pred-cov = record { long = 8; written = 0x0000000000000000 ∷ 0x4020000000000000 ∷ 0x4020000000000000 ∷ 0x0000000000000000 ∷ 0xc160000080000000 ∷ 0x4160000080000000 ∷ 0x4160000080000000 ∷ 0xc160000080000000 ∷ [] };
             pred-inf = record { long = 8; written = 0x0000000000000000 ∷ 0x0000000000000000 ∷ 0x0000000000000000 ∷ 0x0000000000000000 ∷ 0x0000000000000000 ∷ 0x0000000000000000 ∷ 0x0000000000000000 ∷ 0x0000000000000000 ∷ [] };
             filt-mean = record { long = 2; written = 0x0000000000000000 ∷ 0x0000000000000000 ∷ [] };
-            filt-cov = record { long = 4; written = 0xc130000040000000 ∷ 0x4130000040000000 ∷ 0x4130000040000000 ∷ 0xc130000040000000 ∷ [] };
+            filt-cov = record { long = 4; written = 0xc160000080000000 ∷ 0x4160000080000000 ∷ 0x4160000080000000 ∷ 0xc160000080000000 ∷ [] };
             kinds = record { long = 2; written = 1 ∷ 1 ∷ [] };
-            v = record { long = 2; written = 0x0000000000000000 ∷ 0x0000000000000000 ∷ [] };
-            f-star = record { long = 2; written = 0x3ff0000000000000 ∷ 0x3e90000000000000 ∷ [] };
+            v = record { long = 2; written = 0x0000000000000000 ∷ 0x8000000000000000 ∷ [] };
+            f-star = record { long = 2; written = 0x4030000000000000 ∷ 0x3ee0000000000000 ∷ [] };
             f-inf = record { long = 2; written = 0x0000000000000000 ∷ 0x0000000000000000 ∷ [] };
-            m-star = record { long = 4; written = 0x3fe0000000000000 ∷ 0x3fe0000000000000 ∷ 0x3fe0000000000000 ∷ 0xbfe0000000000000 ∷ [] };
+            m-star = record { long = 4; written = 0x4020000000000000 ∷ 0x4020000000000000 ∷ 0x4020000000000000 ∷ 0xc020000000000000 ∷ [] };
             m-inf = record { long = 4; written = 0x0000000000000000 ∷ 0x0000000000000000 ∷ 0x0000000000000000 ∷ 0x0000000000000000 ∷ [] };
           };
-      filter = 0 ∷ 0x4017259fac7edffc ∷ 0 ∷ 2 ∷ 2 ∷ 0 ∷ 0 ∷ [];
-      smooth = 0 ∷ 0x4017259fac7edffc ∷ 0 ∷ 2 ∷ 2 ∷ 0 ∷ 0 ∷ [];
+      filter = 0 ∷ 0x40055733fa243ecc ∷ 0 ∷ 2 ∷ 2 ∷ 0 ∷ 0 ∷ [];
+      smooth = 0 ∷ 0x40055733fa243ecc ∷ 0 ∷ 2 ∷ 2 ∷ 0 ∷ 0 ∷ [];
       sm-mean = record { long = 2; written = 0x0000000000000000 ∷ 0x0000000000000000 ∷ [] };
-      sm-cov = record { long = 4; written = 0xc130000040000000 ∷ 0x4130000040000000 ∷ 0x4130000040000000 ∷ 0xc130000040000000 ∷ [] };
-    }
-    -- usual; clear before any update; clear by reference; suspect accepted by replay; root built; pivot tie; known start
-    ∷ record {
-      call =
-          record {
-            p = 3;
-            m = 2;
-            r = 1;
-            n = 1;
-            z = 0xbfe0000000000000 ∷ 0x3fd0000000000000 ∷ 0xbfe0000000000000 ∷ 0x3fd0000000000000 ∷ 0xbfe0000000000000 ∷ 0x3fd0000000000000 ∷ [];
-            zs = [];
-            h = 0x0000000000000000 ∷ 0x0000000000000000 ∷ 0x0000000000000000 ∷ 0x0000000000000000 ∷ 0x3e10000000000000 ∷ 0x0000000000000000 ∷ 0x0000000000000000 ∷ 0x0000000000000000 ∷ 0x3ed0000000000000 ∷ [];
-            t = 0x3ff0000000000000 ∷ 0x0000000000000000 ∷ 0x0000000000000000 ∷ 0x3ff0000000000000 ∷ [];
-            rr = 0x3ff0000000000000 ∷ 0x0000000000000000 ∷ [];
-            q = 0x0000000000000000 ∷ [];
-            c = 0x0000000000000000 ∷ 0x0000000000000000 ∷ [];
-            d = 0x0000000000000000 ∷ 0x0000000000000000 ∷ 0x0000000000000000 ∷ [];
-            a1 = 0x0000000000000000 ∷ 0x0000000000000000 ∷ [];
-            p-star = 0x4026000000000000 ∷ 0x0000000000000000 ∷ 0x0000000000000000 ∷ 0x4026000000000000 ∷ [];
-            flags = 0 ∷ 0 ∷ [];
-            y = 0x3fe0000000000000 ∷ 0xc008000000000000 ∷ 0xc010000000000000 ∷ [];
-            pred-mean = record { long = 4; written = 0x0000000000000000 ∷ 0x0000000000000000 ∷ 0xbfe9999d19e1a79b ∷ 0x3fd999999999999a ∷ [] };
-            pred-cov = record { long = 8; written = 0x4026000000000000 ∷ 0x0000000000000000 ∷ 0x0000000000000000 ∷ 0x4026000000000000 ∷ 0x4001999999999998 ∷ 0x401199999999999a ∷ 0x401199999999999a ∷ 0x402199999999999a ∷ [] };
-            pred-inf = record { long = 8; written = 0x0000000000000000 ∷ 0x0000000000000000 ∷ 0x0000000000000000 ∷ 0x0000000000000000 ∷ 0x0000000000000000 ∷ 0x0000000000000000 ∷ 0x0000000000000000 ∷ 0x0000000000000000 ∷ [] };
-            filt-mean = record { long = 2; written = 0xbfe9999d19e1a79b ∷ 0x3fd999999999999a ∷ [] };
-            filt-cov = record { long = 4; written = 0x4001999999999998 ∷ 0x401199999999999a ∷ 0x401199999999999a ∷ 0x402199999999999a ∷ [] };
-            kinds = record { long = 3; written = 1 ∷ 1 ∷ 1 ∷ [] };
-            v = record { long = 3; written = 0x3fe0000000000000 ∷ 0xc00c000000000000 ∷ 0xc0120000380000e0 ∷ [] };
-            f-star = record { long = 3; written = 0x400b800000000000 ∷ 0x3e0fffff80000000 ∷ 0x3ecffffffff80000 ∷ [] };
-            f-inf = record { long = 3; written = 0x0000000000000000 ∷ 0x0000000000000000 ∷ 0x0000000000000000 ∷ [] };
-            m-star = record { long = 6; written = 0xc016000000000000 ∷ 0x4006000000000000 ∷ 0x3cc0000000000000 ∷ 0x0000000000000000 ∷ 0x3cc0000000000000 ∷ 0x0000000000000000 ∷ [] };
-            m-inf = record { long = 6; written = 0x0000000000000000 ∷ 0x0000000000000000 ∷ 0x0000000000000000 ∷ 0x0000000000000000 ∷ 0x0000000000000000 ∷ 0x0000000000000000 ∷ [] };
-          };
-      filter = 0 ∷ 0xc1f88288613c28a5 ∷ 0 ∷ 3 ∷ 3 ∷ 0 ∷ 0 ∷ [];
-      smooth = 0 ∷ 0xc1f88288613c28a5 ∷ 0 ∷ 3 ∷ 3 ∷ 0 ∷ 0 ∷ [];
-      sm-mean = record { long = 2; written = 0xbfe99996d9999999 ∷ 0x3fd9999419999999 ∷ [] };
-      sm-cov = record { long = 4; written = 0x400199999999999c ∷ 0x4011999999999999 ∷ 0x4011999999999999 ∷ 0x402199999999999a ∷ [] };
+      sm-cov = record { long = 4; written = 0xc160000080000000 ∷ 0x4160000080000000 ∷ 0x4160000080000000 ∷ 0xc160000080000000 ∷ [] };
     }
     -- refusal 11
     ∷ record {
@@ -1238,6 +1423,7 @@ cases =
             n = 1;
             z = 0x0000000000000000 ∷ 0x0000000000000000 ∷ [];
             zs = [];
+            repeats = 0;
             h = 0x0000000000000000 ∷ [];
             t = 0x3ff0000000000000 ∷ 0x0000000000000000 ∷ 0x0000000000000000 ∷ 0x3ff0000000000000 ∷ [];
             rr = 0x3ff0000000000000 ∷ 0x3ff0000000000000 ∷ [];
@@ -1275,6 +1461,7 @@ cases =
             n = 1;
             z = 0x4014000000000000 ∷ 0x3fe0000000000000 ∷ 0x4014400000000000 ∷ 0x3fe2000000000000 ∷ 0x4010000000000000 ∷ 0xc010000000000000 ∷ [];
             zs = [];
+            repeats = 0;
             h = 0x0000000000000000 ∷ 0x0000000000000000 ∷ 0x0000000000000000 ∷ 0x0000000000000000 ∷ 0x0000000000000000 ∷ 0x0000000000000000 ∷ 0x0000000000000000 ∷ 0x0000000000000000 ∷ 0x0000000000000000 ∷ [];
             t = 0x3ff0000000000000 ∷ 0x0000000000000000 ∷ 0x0000000000000000 ∷ 0x3ff0000000000000 ∷ [];
             rr = 0x3ff0000000000000 ∷ 0x0000000000000000 ∷ [];
@@ -1302,7 +1489,7 @@ cases =
       sm-mean = record { long = 2; written = 0x0000000000000000 ∷ 0x0000000000000000 ∷ [] };
       sm-cov = record { long = 4; written = 0x3d42400000000000 ∷ 0xbd5f300000000000 ∷ 0xbd5f300000000000 ∷ 0x3d97160000000000 ∷ [] };
     }
-    -- usual; clear before any update; below; suspect accepted in a diffuse period; place n's diffuse covariance non-zero; signed zero in an output; mixed start
+    -- usual; skipped by its scale; clear before any update; suspect accepted in a diffuse period; place n's diffuse covariance non-zero; mixed start
     ∷ record {
       call =
           record {
@@ -1310,36 +1497,37 @@ cases =
             m = 2;
             r = 1;
             n = 1;
-            z = 0xbff0000000000000 ∷ 0x0000000000000000 ∷ 0xc000000000000000 ∷ 0x0000000000000000 ∷ 0xc000000000000000 ∷ 0x0000000000000000 ∷ [];
+            z = 0x4010000000000000 ∷ 0x0000000000000000 ∷ 0x4010000000000000 ∷ 0x0000000000000000 ∷ 0x4010000000000000 ∷ 0x0000000000000000 ∷ [];
             zs = [];
-            h = 0x0000000000000000 ∷ 0x0000000000000000 ∷ 0x0000000000000000 ∷ 0x0000000000000000 ∷ 0x3c90000000000000 ∷ 0x0000000000000000 ∷ 0x0000000000000000 ∷ 0x0000000000000000 ∷ 0x3e30000000000000 ∷ [];
+            repeats = 0;
+            h = 0x0000000000000000 ∷ 0x0000000000000000 ∷ 0x0000000000000000 ∷ 0x0000000000000000 ∷ 0x3eb0000000000000 ∷ 0x0000000000000000 ∷ 0x0000000000000000 ∷ 0x0000000000000000 ∷ 0x0000000000000000 ∷ [];
             t = 0x3ff0000000000000 ∷ 0x0000000000000000 ∷ 0x0000000000000000 ∷ 0x3ff0000000000000 ∷ [];
             rr = 0x3ff0000000000000 ∷ 0x0000000000000000 ∷ [];
             q = 0x0000000000000000 ∷ [];
             c = 0x0000000000000000 ∷ 0x0000000000000000 ∷ [];
             d = 0x0000000000000000 ∷ 0x0000000000000000 ∷ 0x0000000000000000 ∷ [];
             a1 = 0x0000000000000000 ∷ 0x0000000000000000 ∷ [];
-            p-star = 0x4008000000000000 ∷ 0x0000000000000000 ∷ 0x0000000000000000 ∷ 0x0000000000000000 ∷ [];
+            p-star = 0x4010000000000000 ∷ 0x0000000000000000 ∷ 0x0000000000000000 ∷ 0x0000000000000000 ∷ [];
             flags = 0 ∷ 1 ∷ [];
-            y = 0x8000000000000000 ∷ 0x4000000000000000 ∷ 0x0000000000000000 ∷ [];
+            y = 0x0000000000000000 ∷ 0xc008000000000000 ∷ 0x3ff0000000000000 ∷ [];
             pred-mean = record { long = 4; written = 0x0000000000000000 ∷ 0x0000000000000000 ∷ 0x0000000000000000 ∷ 0x0000000000000000 ∷ [] };
-            pred-cov = record { long = 8; written = 0x4008000000000000 ∷ 0x0000000000000000 ∷ 0x0000000000000000 ∷ 0x0000000000000000 ∷ 0x0000000000000000 ∷ 0x0000000000000000 ∷ 0x0000000000000000 ∷ 0x0000000000000000 ∷ [] };
+            pred-cov = record { long = 8; written = 0x4010000000000000 ∷ 0x0000000000000000 ∷ 0x0000000000000000 ∷ 0x0000000000000000 ∷ 0x0000000000000000 ∷ 0x0000000000000000 ∷ 0x0000000000000000 ∷ 0x0000000000000000 ∷ [] };
             pred-inf = record { long = 8; written = 0x0000000000000000 ∷ 0x0000000000000000 ∷ 0x0000000000000000 ∷ 0x3ff0000000000000 ∷ 0x0000000000000000 ∷ 0x0000000000000000 ∷ 0x0000000000000000 ∷ 0x3ff0000000000000 ∷ [] };
             filt-mean = record { long = 2; written = 0x0000000000000000 ∷ 0x0000000000000000 ∷ [] };
             filt-cov = record { long = 4; written = 0x0000000000000000 ∷ 0x0000000000000000 ∷ 0x0000000000000000 ∷ 0x0000000000000000 ∷ [] };
-            kinds = record { long = 3; written = 1 ∷ 0 ∷ 1 ∷ [] };
-            v = record { long = 3; written = 0x8000000000000000 ∷ 0x0000000000000000 ∷ 0x0000000000000000 ∷ [] };
-            f-star = record { long = 3; written = 0x4008000000000000 ∷ 0x0000000000000000 ∷ 0x3e30000000000000 ∷ [] };
+            kinds = record { long = 3; written = 1 ∷ 1 ∷ 0 ∷ [] };
+            v = record { long = 3; written = 0x0000000000000000 ∷ 0xc008000000000000 ∷ 0x0000000000000000 ∷ [] };
+            f-star = record { long = 3; written = 0x4050000000000000 ∷ 0x3eb0000000000000 ∷ 0x0000000000000000 ∷ [] };
             f-inf = record { long = 3; written = 0x0000000000000000 ∷ 0x0000000000000000 ∷ 0x0000000000000000 ∷ [] };
-            m-star = record { long = 6; written = 0xc008000000000000 ∷ 0x0000000000000000 ∷ 0x0000000000000000 ∷ 0x0000000000000000 ∷ 0x0000000000000000 ∷ 0x0000000000000000 ∷ [] };
+            m-star = record { long = 6; written = 0x4030000000000000 ∷ 0x0000000000000000 ∷ 0x0000000000000000 ∷ 0x0000000000000000 ∷ 0x0000000000000000 ∷ 0x0000000000000000 ∷ [] };
             m-inf = record { long = 6; written = 0x0000000000000000 ∷ 0x0000000000000000 ∷ 0x0000000000000000 ∷ 0x0000000000000000 ∷ 0x0000000000000000 ∷ 0x0000000000000000 ∷ [] };
           };
-      filter = 0 ∷ 0x401d447b7cc71554 ∷ 1 ∷ 3 ∷ 2 ∷ 0 ∷ 0 ∷ [];
-      smooth = 0 ∷ 0x401d447b7cc71554 ∷ 1 ∷ 3 ∷ 2 ∷ 0 ∷ 0 ∷ [];
+      filter = 0 ∷ 0xc151ffff3f181d30 ∷ 1 ∷ 3 ∷ 2 ∷ 0 ∷ 0 ∷ [];
+      smooth = 0 ∷ 0xc151ffff3f181d30 ∷ 1 ∷ 3 ∷ 2 ∷ 0 ∷ 0 ∷ [];
       sm-mean = record { long = 2; written = 0x0000000000000000 ∷ 0x0000000000000000 ∷ [] };
       sm-cov = record { long = 4; written = 0x0000000000000000 ∷ 0x0000000000000000 ∷ 0x0000000000000000 ∷ 0x0000000000000000 ∷ [] };
     }
-    -- diffuse; diffuse refused by the root; skipped by its scale; d_diffuse over 1; place n's diffuse covariance non-zero; diffuse start
+    -- refusal 14
     ∷ record {
       call =
           record {
@@ -1348,33 +1536,72 @@ cases =
             r = 1;
             n = 2;
             z = [];
-            zs = 0x0000000000000000 ∷ 0x3ff0000000000000 ∷ 0x3ff0000000000000 ∷ 0x0000000000000000 ∷ [];
-            h = 0x0000000000000000 ∷ [];
-            t = 0x3ff0000000000000 ∷ 0x4180000000000000 ∷ 0x0000000000000000 ∷ 0x0000000000000000 ∷ [];
+            zs = 0x3ff0000000000000 ∷ 0x0000000000000000 ∷ [];
+            repeats = 0;
+            h = 0x3ff0000000000000 ∷ [];
+            t = 0x3ff0000000000000 ∷ 0x0000000000000000 ∷ 0x0000000000000000 ∷ 0x3ff0000000000000 ∷ [];
             rr = 0x3ff0000000000000 ∷ 0x0000000000000000 ∷ [];
             q = 0x0000000000000000 ∷ [];
             c = 0x0000000000000000 ∷ 0x0000000000000000 ∷ [];
             d = 0x0000000000000000 ∷ [];
             a1 = 0x0000000000000000 ∷ 0x0000000000000000 ∷ [];
             p-star = 0x0000000000000000 ∷ 0x0000000000000000 ∷ 0x0000000000000000 ∷ 0x0000000000000000 ∷ [];
-            flags = 1 ∷ 1 ∷ [];
-            y = 0x0000000000000000 ∷ 0x0000000000000000 ∷ [];
-            pred-mean = record { long = 6; written = 0x0000000000000000 ∷ 0x0000000000000000 ∷ 0x0000000000000000 ∷ 0x0000000000000000 ∷ 0x0000000000000000 ∷ 0x0000000000000000 ∷ [] };
-            pred-cov = record { long = 12; written = 0x0000000000000000 ∷ 0x0000000000000000 ∷ 0x0000000000000000 ∷ 0x0000000000000000 ∷ 0x0000000000000000 ∷ 0x0000000000000000 ∷ 0x0000000000000000 ∷ 0x0000000000000000 ∷ 0x0000000000000000 ∷ 0x0000000000000000 ∷ 0x0000000000000000 ∷ 0x0000000000000000 ∷ [] };
-            pred-inf = record { long = 12; written = 0x3ff0000000000000 ∷ 0x0000000000000000 ∷ 0x0000000000000000 ∷ 0x3ff0000000000000 ∷ 0x3ff0000000000000 ∷ 0x0000000000000000 ∷ 0x0000000000000000 ∷ 0x0000000000000000 ∷ 0x3ff0000000000000 ∷ 0x0000000000000000 ∷ 0x0000000000000000 ∷ 0x0000000000000000 ∷ [] };
-            filt-mean = record { long = 4; written = 0x0000000000000000 ∷ 0x0000000000000000 ∷ 0x0000000000000000 ∷ 0x0000000000000000 ∷ [] };
-            filt-cov = record { long = 8; written = 0x0000000000000000 ∷ 0x0000000000000000 ∷ 0x0000000000000000 ∷ 0x0000000000000000 ∷ 0x0000000000000000 ∷ 0x0000000000000000 ∷ 0x0000000000000000 ∷ 0x0000000000000000 ∷ [] };
-            kinds = record { long = 2; written = 2 ∷ 0 ∷ [] };
-            v = record { long = 2; written = 0x0000000000000000 ∷ 0x0000000000000000 ∷ [] };
-            f-star = record { long = 2; written = 0x0000000000000000 ∷ 0x0000000000000000 ∷ [] };
-            f-inf = record { long = 2; written = 0x3ff0000000000000 ∷ 0x0000000000000000 ∷ [] };
-            m-star = record { long = 4; written = 0x0000000000000000 ∷ 0x0000000000000000 ∷ 0x0000000000000000 ∷ 0x0000000000000000 ∷ [] };
-            m-inf = record { long = 4; written = 0x0000000000000000 ∷ 0x3ff0000000000000 ∷ 0x0000000000000000 ∷ 0x0000000000000000 ∷ [] };
+            flags = 0 ∷ 0 ∷ [];
+            y = 0x3ff0000000000000 ∷ 0x3ff0000000000000 ∷ [];
+            pred-mean = record { long = 6; written = [] };
+            pred-cov = record { long = 12; written = [] };
+            pred-inf = record { long = 12; written = [] };
+            filt-mean = record { long = 4; written = [] };
+            filt-cov = record { long = 8; written = [] };
+            kinds = record { long = 2; written = [] };
+            v = record { long = 2; written = [] };
+            f-star = record { long = 2; written = [] };
+            f-inf = record { long = 2; written = [] };
+            m-star = record { long = 4; written = [] };
+            m-inf = record { long = 4; written = [] };
           };
-      filter = 0 ∷ 0xbfed67f1c864beb4 ∷ 2 ∷ 2 ∷ 1 ∷ 0 ∷ 0 ∷ [];
-      smooth = 0 ∷ 0xbfed67f1c864beb4 ∷ 2 ∷ 2 ∷ 1 ∷ 0 ∷ 0 ∷ [];
-      sm-mean = record { long = 4; written = 0x0000000000000000 ∷ 0x0000000000000000 ∷ 0x0000000000000000 ∷ 0x0000000000000000 ∷ [] };
-      sm-cov = record { long = 8; written = 0x0000000000000000 ∷ 0x0000000000000000 ∷ 0x0000000000000000 ∷ 0x0000000000000000 ∷ 0x0000000000000000 ∷ 0x0000000000000000 ∷ 0x0000000000000000 ∷ 0x0000000000000000 ∷ [] };
+      filter = 14 ∷ [];
+      smooth = 14 ∷ [];
+      sm-mean = record { long = 4; written = [] };
+      sm-cov = record { long = 8; written = [] };
+    }
+    -- diffuse; diffuse refused by the root; usual; clear by bound; exactly at a tolerance; place n's diffuse covariance non-zero; diffuse start
+    ∷ record {
+      call =
+          record {
+            p = 2;
+            m = 2;
+            r = 1;
+            n = 1;
+            z = 0x3ff0000000000000 ∷ 0x0000000000000000 ∷ 0x3ff08a7c84e56240 ∷ 0x3e7bc04a0fc1e320 ∷ [];
+            zs = [];
+            repeats = 0;
+            h = 0x3ff0000000000000 ∷ 0x0000000000000000 ∷ 0x0000000000000000 ∷ 0x3ff0000000000000 ∷ [];
+            t = 0x3ff0000000000000 ∷ 0x0000000000000000 ∷ 0x0000000000000000 ∷ 0x3ff0000000000000 ∷ [];
+            rr = 0x3ff0000000000000 ∷ 0x0000000000000000 ∷ [];
+            q = 0x0000000000000000 ∷ [];
+            c = 0x0000000000000000 ∷ 0x0000000000000000 ∷ [];
+            d = 0x0000000000000000 ∷ 0x0000000000000000 ∷ [];
+            a1 = 0x0000000000000000 ∷ 0x0000000000000000 ∷ [];
+            p-star = 0x0000000000000000 ∷ 0x0000000000000000 ∷ 0x0000000000000000 ∷ 0x0000000000000000 ∷ [];
+            flags = 1 ∷ 1 ∷ [];
+            y = 0x0000000000000000 ∷ 0xbff0000000000000 ∷ [];
+            pred-mean = record { long = 4; written = 0x0000000000000000 ∷ 0x0000000000000000 ∷ 0xbfdffb792fcf51dc ∷ 0x0000000000000000 ∷ [] };
+            pred-cov = record { long = 8; written = 0x0000000000000000 ∷ 0x0000000000000000 ∷ 0x0000000000000000 ∷ 0x0000000000000000 ∷ 0x3fdeefb4f463f416 ∷ 0x0000000000000000 ∷ 0x0000000000000000 ∷ 0x0000000000000000 ∷ [] };
+            pred-inf = record { long = 8; written = 0x3ff0000000000000 ∷ 0x0000000000000000 ∷ 0x0000000000000000 ∷ 0x3ff0000000000000 ∷ 0x0000000000000000 ∷ 0x0000000000000000 ∷ 0x0000000000000000 ∷ 0x3ff0000000000000 ∷ [] };
+            filt-mean = record { long = 2; written = 0xbfdffb792fcf51dc ∷ 0x0000000000000000 ∷ [] };
+            filt-cov = record { long = 4; written = 0x3fdeefb4f463f416 ∷ 0x0000000000000000 ∷ 0x0000000000000000 ∷ 0x0000000000000000 ∷ [] };
+            kinds = record { long = 2; written = 2 ∷ 1 ∷ [] };
+            v = record { long = 2; written = 0x0000000000000000 ∷ 0xbff0000000000000 ∷ [] };
+            f-star = record { long = 2; written = 0x3ff0000000000000 ∷ 0x40008cd3d8c424c9 ∷ [] };
+            f-inf = record { long = 2; written = 0x3ff0000000000000 ∷ 0x0000000000000000 ∷ [] };
+            m-star = record { long = 4; written = 0x0000000000000000 ∷ 0x0000000000000000 ∷ 0x3ff08a7c84e56240 ∷ 0x0000000000000000 ∷ [] };
+            m-inf = record { long = 4; written = 0x3ff0000000000000 ∷ 0x0000000000000000 ∷ 0x0000000000000000 ∷ 0x0000000000000000 ∷ [] };
+          };
+      filter = 0 ∷ 0xc0038b5a0f188a29 ∷ 1 ∷ 2 ∷ 2 ∷ 0 ∷ 0 ∷ [];
+      smooth = 0 ∷ 0xc0038b5a0f188a29 ∷ 1 ∷ 2 ∷ 2 ∷ 0 ∷ 0 ∷ [];
+      sm-mean = record { long = 2; written = 0xbfdffb792fcf51dc ∷ 0x0000000000000000 ∷ [] };
+      sm-cov = record { long = 4; written = 0x3fdeefb4f463f416 ∷ 0x0000000000000000 ∷ 0x0000000000000000 ∷ 0x0000000000000000 ∷ [] };
     }
     -- gap; usual; clear before any update; NaN inside a run; diffuse start
     ∷ record {
@@ -1386,8 +1613,9 @@ cases =
             n = 2;
             z = 0x3ff0000000000000 ∷ 0x0000000000000000 ∷ [];
             zs = [];
+            repeats = 0;
             h = 0x3ff0000000000000 ∷ [];
-            t = 0x79f0000000000000 ∷ 0xf9f0000000000000 ∷ 0x79f0000000000000 ∷ 0x79f0000000000000 ∷ [];
+            t = 0x6490000000000000 ∷ 0xe490000000000000 ∷ 0x6490000000000000 ∷ 0x6490000000000000 ∷ [];
             rr = 0x3ff0000000000000 ∷ 0x0000000000000000 ∷ [];
             q = 0x0000000000000000 ∷ [];
             c = 0x0000000000000000 ∷ 0x0000000000000000 ∷ [];
@@ -1413,43 +1641,6 @@ cases =
       sm-mean = record { long = 4; written = 0x0000000000000000 ∷ 0x0000000000000000 ∷ 0x0000000000000000 ∷ 0x0000000000000000 ∷ [] };
       sm-cov = record { long = 8; written = 0x7ff8000000000000 ∷ 0x7ff8000000000000 ∷ 0x7ff8000000000000 ∷ 0x7ff8000000000000 ∷ 0x0000000000000000 ∷ 0x0000000000000000 ∷ 0x0000000000000000 ∷ 0x0000000000000000 ∷ [] };
     }
-    -- usual; clear before any update; clear by bound; signed zero in an output; listed Z, shorter than n; known start
-    ∷ record {
-      call =
-          record {
-            p = 2;
-            m = 2;
-            r = 1;
-            n = 2;
-            z = [];
-            zs = 0x8000000000000000 ∷ 0xbffc000000000000 ∷ 0x8000000000000000 ∷ 0xbffc000000000000 ∷ [];
-            h = 0x4002000000000000 ∷ 0x0000000000000000 ∷ 0x0000000000000000 ∷ 0x3fe0000000000000 ∷ [];
-            t = 0x0000000000000000 ∷ 0x3ff0000000000000 ∷ 0x3ff0000000000000 ∷ 0x0000000000000000 ∷ [];
-            rr = 0x4010000000000000 ∷ 0xc002000000000000 ∷ [];
-            q = 0x3ffc000000000000 ∷ [];
-            c = 0xc000000000000000 ∷ 0xc010000000000000 ∷ [];
-            d = 0x0000000000000000 ∷ 0x0000000000000000 ∷ [];
-            a1 = 0x0000000000000000 ∷ 0xc014000000000000 ∷ [];
-            p-star = 0x4014000000000000 ∷ 0x0000000000000000 ∷ 0x8000000000000000 ∷ 0x4014000000000000 ∷ [];
-            flags = 0 ∷ 0 ∷ [];
-            y = 0xc016000000000000 ∷ 0x4008000000000000 ∷ 0x0000000000000000 ∷ 0x3fd0000000000000 ∷ [];
-            pred-mean = record { long = 6; written = 0x0000000000000000 ∷ 0xc014000000000000 ∷ 0xc007846507dd367f ∷ 0xc010000000000000 ∷ 0xc0013b4b6b9f89ba ∷ 0xc0269ee66453ef5f ∷ [] };
-            pred-cov = record { long = 12; written = 0x4014000000000000 ∷ 0x0000000000000000 ∷ 0x8000000000000000 ∷ 0x4014000000000000 ∷ 0x403c214e8c719d01 ∷ 0xc02f800000000000 ∷ 0xc02f800000000000 ∷ 0x402bb80000000000 ∷ 0x403c21dec60ce402 ∷ 0xc02fccfb31403873 ∷ 0xc02fccfb31403873 ∷ 0x40334305f8f39d55 ∷ [] };
-            pred-inf = record { long = 12; written = 0x0000000000000000 ∷ 0x0000000000000000 ∷ 0x0000000000000000 ∷ 0x0000000000000000 ∷ 0x0000000000000000 ∷ 0x0000000000000000 ∷ 0x0000000000000000 ∷ 0x0000000000000000 ∷ 0x0000000000000000 ∷ 0x0000000000000000 ∷ 0x0000000000000000 ∷ 0x0000000000000000 ∷ [] };
-            filt-mean = record { long = 4; written = 0x0000000000000000 ∷ 0xbfee11941f74d9fc ∷ 0xc01d3dccc8a7debe ∷ 0xbfc3b4b6b9f89ba6 ∷ [] };
-            filt-cov = record { long = 8; written = 0x4014000000000000 ∷ 0x0000000000000000 ∷ 0x0000000000000000 ∷ 0x3fc0a74638ce8098 ∷ 0x4024ce0bf1e73aaa ∷ 0xbfc33ecc500e1cac ∷ 0xbfc33ecc500e1cac ∷ 0x3fc0ef6306720140 ∷ [] };
-            kinds = record { long = 4; written = 1 ∷ 1 ∷ 1 ∷ 1 ∷ [] };
-            v = record { long = 4; written = 0xc02c800000000000 ∷ 0x401ab28ff16c69ae ∷ 0xc01c000000000000 ∷ 0xbfba36785137e570 ∷ [] };
-            f-star = record { long = 4; written = 0x4031900000000000 ∷ 0x4003b1a6b80749cc ∷ 0x404658e000000000 ∷ 0x400518063853b963 ∷ [] };
-            f-inf = record { long = 4; written = 0x0000000000000000 ∷ 0x0000000000000000 ∷ 0x0000000000000000 ∷ 0x0000000000000000 ∷ [] };
-            m-star = record { long = 8; written = 0x0000000000000000 ∷ 0xc021800000000000 ∷ 0x0000000000000000 ∷ 0xbff1ef99f6e3c20e ∷ 0x403b900000000000 ∷ 0xc038410000000000 ∷ 0x3ff633679bfcc170 ∷ 0xbff3892bae168aba ∷ [] };
-            m-inf = record { long = 8; written = 0x0000000000000000 ∷ 0x0000000000000000 ∷ 0x0000000000000000 ∷ 0x0000000000000000 ∷ 0x0000000000000000 ∷ 0x0000000000000000 ∷ 0x0000000000000000 ∷ 0x0000000000000000 ∷ [] };
-          };
-      filter = 0 ∷ 0xc03752aeb1e8941f ∷ 0 ∷ 4 ∷ 4 ∷ 0 ∷ 0 ∷ [];
-      smooth = 0 ∷ 0xc03752aeb1e8941f ∷ 0 ∷ 4 ∷ 4 ∷ 0 ∷ 0 ∷ [];
-      sm-mean = record { long = 4; written = 0x3ff6334e0e2014b0 ∷ 0xbfee11941f74d9f8 ∷ 0xc01d3dccc8a7debc ∷ 0xbfc3b4b6b9f89bb0 ∷ [] };
-      sm-cov = record { long = 8; written = 0x4009b5041d6f32e6 ∷ 0x0000000000000000 ∷ 0x0000000000000000 ∷ 0x3fc0a74638ce80a0 ∷ 0x4024ce0bf1e73aaa ∷ 0xbfc33ecc500e1cc0 ∷ 0xbfc33ecc500e1cc0 ∷ 0x3fc0ef6306720180 ∷ [] };
-    }
     -- gap; d_diffuse over 1; infinity inside a run; NaN inside a run; diffuse start; all readings gaps, answered; covariance report
     ∷ record {
       call =
@@ -1460,8 +1651,9 @@ cases =
             n = 3;
             z = 0x3ff0000000000000 ∷ 0x0000000000000000 ∷ [];
             zs = [];
+            repeats = 0;
             h = 0x3ff0000000000000 ∷ [];
-            t = 0x7060000000000000 ∷ 0x3ff0000000000000 ∷ 0x3ff0000000000000 ∷ 0x0000000000000000 ∷ [];
+            t = 0x7810000000000000 ∷ 0x3ff0000000000000 ∷ 0x3ff0000000000000 ∷ 0x0000000000000000 ∷ [];
             rr = 0x3ff0000000000000 ∷ 0x0000000000000000 ∷ [];
             q = 0x0000000000000000 ∷ [];
             c = 0x0000000000000000 ∷ 0x0000000000000000 ∷ [];
@@ -1472,7 +1664,7 @@ cases =
             y = 0x7ff8000000000000 ∷ 0x7ff8000000000000 ∷ 0x7ff8000000000000 ∷ [];
             pred-mean = record { long = 8; written = 0x0000000000000000 ∷ 0x0000000000000000 ∷ 0x0000000000000000 ∷ 0x0000000000000000 ∷ 0x0000000000000000 ∷ 0x0000000000000000 ∷ 0x0000000000000000 ∷ 0x0000000000000000 ∷ [] };
             pred-cov = record { long = 16; written = 0x0000000000000000 ∷ 0x0000000000000000 ∷ 0x0000000000000000 ∷ 0x0000000000000000 ∷ 0x0000000000000000 ∷ 0x0000000000000000 ∷ 0x0000000000000000 ∷ 0x0000000000000000 ∷ 0x0000000000000000 ∷ 0x0000000000000000 ∷ 0x0000000000000000 ∷ 0x0000000000000000 ∷ 0x0000000000000000 ∷ 0x0000000000000000 ∷ 0x0000000000000000 ∷ 0x0000000000000000 ∷ [] };
-            pred-inf = record { long = 16; written = 0x3ff0000000000000 ∷ 0x0000000000000000 ∷ 0x0000000000000000 ∷ 0x3ff0000000000000 ∷ 0x7ff0000000000000 ∷ 0x7060000000000000 ∷ 0x7060000000000000 ∷ 0x3ff0000000000000 ∷ 0x0000000000000000 ∷ 0x0000000000000000 ∷ 0x0000000000000000 ∷ 0x0000000000000000 ∷ 0x0000000000000000 ∷ 0x0000000000000000 ∷ 0x0000000000000000 ∷ 0x0000000000000000 ∷ [] };
+            pred-inf = record { long = 16; written = 0x3ff0000000000000 ∷ 0x0000000000000000 ∷ 0x0000000000000000 ∷ 0x3ff0000000000000 ∷ 0x7ff0000000000000 ∷ 0x7810000000000000 ∷ 0x7810000000000000 ∷ 0x3ff0000000000000 ∷ 0x0000000000000000 ∷ 0x0000000000000000 ∷ 0x0000000000000000 ∷ 0x0000000000000000 ∷ 0x0000000000000000 ∷ 0x0000000000000000 ∷ 0x0000000000000000 ∷ 0x0000000000000000 ∷ [] };
             filt-mean = record { long = 6; written = 0x0000000000000000 ∷ 0x0000000000000000 ∷ 0x0000000000000000 ∷ 0x0000000000000000 ∷ 0x0000000000000000 ∷ 0x0000000000000000 ∷ [] };
             filt-cov = record { long = 12; written = 0x0000000000000000 ∷ 0x0000000000000000 ∷ 0x0000000000000000 ∷ 0x0000000000000000 ∷ 0x0000000000000000 ∷ 0x0000000000000000 ∷ 0x0000000000000000 ∷ 0x0000000000000000 ∷ 0x0000000000000000 ∷ 0x0000000000000000 ∷ 0x0000000000000000 ∷ 0x0000000000000000 ∷ [] };
             kinds = record { long = 3; written = 0 ∷ 0 ∷ 0 ∷ [] };

@@ -1,4 +1,4 @@
--- Document 01's table of refusals, "The twelve refusals": each condition as a statement about what the caller lends, in its order.
+-- Document 01's table of refusals, "The twelve refusals", and document 02's 14, right after 2: each condition as a statement about what is lent.
 use mathlib.Core.Path.{_≡_}
 use Prim.Native.Nat.{ℕ, _*_, _/_, _≤_, _<_}
 use mathlib.Core.List.{List, [], _∷_, _++_, map}
@@ -55,6 +55,10 @@ pub record Lengths (x : Model) (o : Offsets) (y : List Float) (Room : Type 0) : 
   pub flags : length (x .flags) ≡ x .m
   pub readings : length y ≡ x .n * x .p
   pub room : Room
+
+-- 14: a list holds fewer designs than the run has periods, and the call does not ask that the last be used again
+abbrev pub ListShort : Model → ℕ → Type 0
+ListShort x periods = (T (x .repeats) → ⊥) × (length (x .zList) ≡ 0 → ⊥) × (length (x .zList) / (x .p * x .m) < periods)
 
 -- 3 and 6: an entry is not finite
 abbrev pub NonFiniteSystem : Model → Type 0
@@ -127,6 +131,9 @@ OfSizes x = (1, Dimension x) ∷ []
 abbrev pub OfLengths : Model → Offsets → List Float → Type 0 → List (ℕ × Type 0)
 OfLengths x o y Room = (2, Lengths x o y Room → ⊥) ∷ []
 
+abbrev pub OfReach : Model → ℕ → List (ℕ × Type 0)
+OfReach x periods = (14, ListShort x periods) ∷ []
+
 abbrev pub OfSystem : Model → List (ℕ × Type 0)
 OfSystem x = (3, NonFiniteSystem x) ∷ (4, NotPsd x) ∷ (5, OffDiagonal (x .r) (x .q)) ∷ []
 
@@ -145,13 +152,13 @@ OfStep x = (10, MixedDriven x) ∷ (11, NonFiniteNoise x) ∷ []
 abbrev pub OfRun : Model → List Float → List (ℕ × Type 0)
 OfRun x y = (12, NoInformation x y) ∷ []
 
--- 2 to 11, which the calls share
-abbrev pub OfInputs : Model → Offsets → List Float → Type 0 → List (ℕ × Type 0)
-OfInputs x o y Room = OfLengths x o y Room ++ OfSystem x ++ OfStart x o ++ OfH x ++ OfReadings y ++ OfStep x
+-- 3 to 11
+abbrev pub OfEntries : Model → Offsets → List Float → List (ℕ × Type 0)
+OfEntries x o y = OfSystem x ++ OfStart x o ++ OfH x ++ OfReadings y ++ OfStep x
 
 -- the filter's call and the smoother's
 abbrev pub table : Model → Offsets → List Float → Type 0 → List (ℕ × Type 0)
-table x o y Room = OfSizes x ++ OfInputs x o y Room ++ OfRun x y
+table x o y Room = OfSizes x ++ OfLengths x o y Room ++ OfReach x (x .n) ++ OfEntries x o y ++ OfRun x y
 
 -- k is the number of the first condition that applies; 0 where none does
 abbrev pub First : ℕ → List (ℕ × Type 0) → Type 0

@@ -1,7 +1,7 @@
 -- The cut, over calls: a call over y ++ y′, against one over y that is not the last and one over y′ that goes on from its saved bytes (`cut-call`).
 use mathlib.Core.Path.{_≡_, refl, sym, ap, ap₂, _∙_, subst}
 use mathlib.Core.Logic.{_⊎_}
-use Prim.Native.Nat.{ℕ, _+_, _*_, _≤_}
+use Prim.Native.Nat.{ℕ, _+_, _*_, _/_, _≤_}
 use native.Mathlib.Nat.{add-mul}
 use native.Mathlib.Omega.{arith}
 use mathlib.Core.Bool.{Bool, true, false, not, _&&_, _||_, cond}
@@ -16,7 +16,7 @@ use Rattle.definition.specs.Cov.{Cov, CovPeriod}
 use Rattle.definition.specs.Mean.{Mean, MeanPeriod}
 use Rattle.definition.specs.Inputs.{Model, Offsets, Class, classOf, isInfinity, noise, startOf}
 use Rattle.definition.specs.Parts.{CovPart, predCov, predInf, filtCov, fStar, fInf, mStar, mInf, MeanPart, predMean, filtMean, innovations}
-use Rattle.definition.specs.Refusals.{beyond, badLength, inputsFit}
+use Rattle.definition.specs.Refusals.{beyond, badLength, inputsFit, outrun, listShort}
 use Rattle.definition.specs.Outcome.{CovParts, MeanParts, Ending, answered, endingOf, numberOf, after, countsIn, loglikIn, reportIn, noInformation, kindsNeed, covNeed, meanNeed, kindsWritten, covWritten, meanWritten}
 use Rattle.definition.specs.Carried.{Past, Carried, begunPast, covFrom, pastOn, meanOn, went}
 use Rattle.definition.specs.Saved.{savedOf, savedNeed, widths, wrongCount, numbersIn, numberAt, doneIn, badSizes, badTallies, badFloats, badSaved}
@@ -39,6 +39,15 @@ unfolding outsideStretch
 shorter p m r n k h e =
     let s = either-false (beyond 8 p || beyond 8 m || beyond 8 r) (ltb 4096 n) e in
     rw (s .0) (le-ltb 4096 k (omega (arith, ltb-false 4096 n (s .1))))
+
+reach-less : (repeats : Bool) (pm list n k : ℕ) → k ≤ n → listShort repeats pm list n ≡ false → listShort repeats pm list k ≡ false
+unfolding listShort outrun
+reach-less repeats pm list n k h e = go repeats (eqb list 0) e
+  where
+    go : (r none : Bool) → (not r && (not none && ltb (list / pm) n)) ≡ false → (not r && (not none && ltb (list / pm) k)) ≡ false
+    go true none e = refl
+    go false true e = refl
+    go false false e = le-ltb (list / pm) k (omega (arith, ltb-false (list / pm) n e))
 
 shorter-sizes : (p m r n k : ℕ) (ns : List (List ℕ)) → badSizes p m r (n + k) ns ≡ false → badSizes p m r n ns ≡ false
 unfolding badSizes
@@ -142,8 +151,8 @@ module _ (x : Model) (o : Offsets) (w : From) (n k : ℕ) (last : Bool) (y y′ 
     uncut-free : Free (lasting (n + k) x) o w last (y ++ y′) (u .cov) (u .mean) (u .save)
     uncut-free = stretch.free (lasting (n + k) x) o w last (y ++ y′) (u .cov) (u .mean) (u .save) (h .passed)
 
-    all : Passed (lasting (n + k) x) o (length (map classOf (y ++ y′))) (anyOf isInfinity (map classOf (y ++ y′))) (roomyStretch (lasting (n + k) x) last (u .cov) (u .mean) (u .save)) (badFrom (lasting (n + k) x) w)
-    all = passes _ _ _ _ _ _ uncut-free
+    all : Passed (lasting (n + k) x) o (length (map classOf (y ++ y′))) (anyOf isInfinity (map classOf (y ++ y′))) (roomyStretch (lasting (n + k) x) last (u .cov) (u .mean) (u .save)) (badFrom (lasting (n + k) x) w) (pastIn (lasting (n + k) x) w .done)
+    all = passes _ _ _ _ _ _ _ uncut-free
 
     fits-classes : length (map classOf y) ≡ n * x .p
     fits-classes = length-map y classOf ∙ h .fits
@@ -166,23 +175,28 @@ module _ (x : Model) (o : Offsets) (w : From) (n k : ℕ) (last : Bool) (y y′ 
         let b : eqb (length (map classOf z)) (j * x .p) ≡ true = eq-eqb _ _ (length-map z classOf ∙ q) in
         rw (a, b)
 
-    -- all tests but 1, 2, 9 and 15 are the uncut call's
-    part-free : (j : ℕ) (z : List Float) (room bad : Bool) → j ≤ n + k → length z ≡ j * x .p → anyOf isInfinity (map classOf z) ≡ false → room ≡ true → bad ≡ false → stretchRefusal (lasting j x) o (length (map classOf z)) (anyOf isInfinity (map classOf z)) room bad ≡ 0
+    -- all tests but 1, 2, 9, 15 and 14 are the uncut call's; and a list that reaches the uncut run's end reaches that of a part of it
+    part-free : (j : ℕ) (z : List Float) (room bad : Bool) (done : ℕ) → j ≤ n + k → done + j ≤ pastIn (lasting (n + k) x) w .done + (n + k) → length z ≡ j * x .p → anyOf isInfinity (map classOf z) ≡ false → room ≡ true → bad ≡ false → stretchRefusal (lasting j x) o (length (map classOf z)) (anyOf isInfinity (map classOf z)) room bad done ≡ 0
     unfolding noise
-    part-free j z room bad less long finite roomy ok =
-        none-applies _ _ _ _ _ _
+    part-free j z room bad done less within long finite roomy ok =
+        none-applies _ _ _ _ _ _ _
         (record {
           sizes = shorter (x .p) (x .m) (x .r) (n + k) j less (all .sizes);
           lengths = rw roomy (fitting j z long);
           others = all .others;
           finite = finite;
           saved = ok;
+          reach = reach-less (x .repeats) (x .p * x .m) (length (x .zList)) _ _ within (all .reach);
         })
 
     -- ---- the early call, and the state where it is cut
 
+    early-within : pastIn (lasting n x) w .done + n ≤ pastIn (lasting (n + k) x) w .done + (n + k)
+    unfolding pastIn begunPast startOf
+    early-within = let e : pastIn (lasting n x) w .done ≡ pastIn (lasting (n + k) x) w .done = refl in omega (arith, e)
+
     early-free : Free (lasting n x) o w false y (e .cov) (e .mean) (e .save)
-    early-free = part-free n y _ _ (omega arith) (h .fits) (infinities .0) (h .roomEarly) (shorter-from x n k w (all .saved))
+    early-free = part-free n y _ _ _ (omega arith) early-within (h .fits) (infinities .0) (h .roomEarly) (shorter-from x n k w (all .saved))
 
     early-ending : stretchEnding (lasting n x) o (pastIn (lasting n x) w) (badFrom (lasting n x) w) false (map classOf y) (roomyStretch (lasting n x) false (e .cov) (e .mean) (e .save)) ≡ answered
     early-ending = stretch.answers (lasting n x) o w false y (e .cov) (e .mean) (e .save) (readyOf n) early-free refl
@@ -226,8 +240,15 @@ module _ (x : Model) (o : Offsets) (w : From) (n k : ℕ) (last : Bool) (y y′ 
     unfolding badFrom
     late-good = ap (badSaved (x .p) (x .m) (x .r) k) cut-saves ∙ good (x .p) (x .m) (x .r) cut cut-ended k cut-early
 
+    late-within : pastIn (lasting k x) (resume handed) .done + k ≤ pastIn (lasting (n + k) x) w .done + (n + k)
+    unfolding went pastOn
+    late-within =
+        let e : pastIn (lasting k x) (resume handed) .done ≡ pastIn (lasting n x) w .done + n = ap (λ (s : Carried). s .past .done) same-cut in
+        let b : pastIn (lasting (n + k) x) w .done ≡ pastIn (lasting n x) w .done = ap (λ (s : Carried). s .past .done) same-begin in
+        omega (arith, e, b)
+
     late-free : Free (lasting k x) o (resume handed) last y′ (l .cov) (l .mean) (l .save)
-    late-free = part-free k y′ _ _ (omega arith) fits-late (infinities .1) (h .roomLate) late-good
+    late-free = part-free k y′ _ _ _ (omega arith) late-within fits-late (infinities .1) (h .roomLate) late-good
 
     late-ready : Ready (lasting k x) o (resume handed)
     late-ready = record { pStar = h .ready .pStar; a1 = h .ready .a1; bytes = handed-bytes }

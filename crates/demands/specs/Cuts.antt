@@ -98,7 +98,7 @@ unfolding after
 fronts N f g w blank old old′ a b l =
     ap (λ (f : Ending). take N (after f w blank old)) a ∙ take-at w _ N l ∙ sym (ap (λ (f : Ending). take N (after f w blank old′)) b ∙ take-at w _ N l)
 
-answered-by-zero : (x : Model) (o : Offsets) (w : From) (last : Bool) (ks : List Class) (room : Bool) → stretchRefusal x o (length ks) (anyOf isInfinity ks) room (badFrom x w) ≡ 0 → numberOf (stretchEnding x o (pastIn x w) (badFrom x w) last ks room) ≡ 0 → stretchEnding x o (pastIn x w) (badFrom x w) last ks room ≡ answered
+answered-by-zero : (x : Model) (o : Offsets) (w : From) (last : Bool) (ks : List Class) (room : Bool) → stretchRefusal x o (length ks) (anyOf isInfinity ks) room (badFrom x w) (pastIn x w .done) ≡ 0 → numberOf (stretchEnding x o (pastIn x w) (badFrom x w) last ks room) ≡ 0 → stretchEnding x o (pastIn x w) (badFrom x w) last ks room ≡ answered
 unfolding stretchEnding
 answered-by-zero x o w last ks room ok q =
     let b = last && noInformation (pastOn x (pastIn x w) ks .counts) in
@@ -130,9 +130,9 @@ module _ (x : Model) (o : Offsets) (last : Bool) where
       let v = z .lent in
       let ready′ : Ready X o w = record { pStar = ready .pStar; a1 = ready .a1; bytes = ready .bytes } in
       let ok = stretch.free X o w last y (u .cov) (u .mean) (u .save) pass in
-      let room : roomyStretch X last (u .cov) (u .mean) (u .save) ≡ true = lengths-pass X o _ _ (passes X o _ _ _ _ ok .lengths) .2 in
+      let room : roomyStretch X last (u .cov) (u .mean) (u .save) ≡ true = lengths-pass X o _ _ (passes X o _ _ _ _ _ ok .lengths) .2 in
       let same : roomyStretch X last (v .cov) (v .mean) (v .save) ≡ roomyStretch X last (u .cov) (u .mean) (u .save) = fit .room ∙ sym room in
-      let ok′ = ap (λ (r : Bool). stretchRefusal X o (length (map classOf y)) (anyOf isInfinity (map classOf y)) r (badFrom X w)) same ∙ ok in
+      let ok′ = ap (λ (r : Bool). stretchRefusal X o (length (map classOf y)) (anyOf isInfinity (map classOf y)) r (badFrom X w) (pastIn X w .done)) same ∙ ok in
       let s = carriedIn X o w in
       let ks = map classOf y in
       let f : Bool → Ending = λ r. stretchEnding X o (pastIn X w) (badFrom X w) last ks r in

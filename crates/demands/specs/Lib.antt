@@ -17,6 +17,8 @@ pub mod StretchValues
 pub mod StretchUnheard
 pub mod StretchCall
 pub mod Stretches
+-- the marker of a list that runs out
+pub mod Marked
 -- tables that ignore the offsets too
 pub mod Offsets
 -- what is mirrored, and what is not

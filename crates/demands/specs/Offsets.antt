@@ -2,50 +2,67 @@
 -- get past refusals 1 to 11 agree in the covariance half. That is all that demand 3 lists, refusal 12 with it: `Same` of Values spells it out.
 use mathlib.Core.Path.{_≡_, refl, sym, ap, _∙_, subst}
 use mathlib.Core.Logic.{_⊎_, inl, ⊎-elim}
-use Prim.Native.Nat.{ℕ, zero, suc, _≤_, _<_}
+use Prim.Native.Nat.{ℕ, zero, suc, _+_, _<_}
 use native.Mathlib.Omega.{arith}
-use mathlib.Core.Bool.{Bool, false}
-use mathlib.Core.List.{List, [], _∷_, _++_}
+use mathlib.Core.Bool.{Bool, true, false, cond}
+use mathlib.Core.List.{List, [], _∷_}
 use lib.ListN.{take}
-use lib.Dec.{T, leb, leb→le}
+use lib.Dec.{T, ltb, ltb→lt}
 use lib.Ieee.{Float}
+use lib.Ieee.Fits.{and-l, and-r}
+use borrow.Author.Tests.{ltb-false}
 use Rattle.definition.specs.Inputs.{Model, Offsets}
-use Rattle.definition.specs.Refusals.{firstOf, ofInputs, tests, refusal}
+use Rattle.definition.specs.Refusals.{firstOf, ofReach, tests, refusal}
 use Rattle.definition.specs.Outcome.{CovParts, MeanParts, CovOutcome, SmoothedCov, endingOf, numberOf, ending, covOutcome, outcome, outcomeAt, smoothOutcome, smoothOutcomeAt}
 use Rattle.definition.specs.Saved.{savedNeed}
-use Rattle.definition.specs.Stretch.{StretchOutcome, outsideStretch, stretchTests, stretchRefusal, stretchEnding, covStretch, stretchOutcome}
+use Rattle.definition.specs.Stretch.{StretchOutcome, stretchTests, stretchRefusal, stretchEnding, covStretch, stretchOutcome}
 use Rattle.definition.specs.Tracks.{by-classes, smooth-by-classes, by-refusal, smooth-by-refusal, stretch-by-refusal}
 use Rattle.laws.specs.AcceptedStretch.{Ready}
-use Rattle.laws.specs.Numbered.{numbers, numbered, first-passes, orElse, joined}
+use Rattle.laws.specs.Numbered.{numbered}
 use Rattle.demands.specs.Values.{Alike, alike-classes}
 use Rattle.demands.specs.StretchValues.{Akin, from}
 use Rattle.demands.specs.StretchValues as stretch
 
--- past refusals 1 to 11: an answer, or a refusal that comes after them
+-- past refusals 1 to 11: an answer, or a refusal with another number (so 14 too, which the filter's call tells before 3 to 11)
 abbrev pub Admitted : ℕ → Type 0
 Admitted k = (k ≡ 0) ⊎ (11 < k)
 
--- past the tests with the numbers 1 to 11 only those after them are left
-module _ (before later : List (ℕ × Bool)) (some : T (numbered before)) (low : T (numbers (λ k. leb k 11) before)) where
-  past : (quiet : Bool) → Admitted (numberOf (endingOf (firstOf (before ++ later)) quiet)) → firstOf (before ++ later) ≡ firstOf later
-  unfolding endingOf numberOf
-  past quiet h =
-      let e = joined before later some in
-      e ∙ go (firstOf before) (leb→le _ 11 (first-passes (λ k. leb k 11) before tt low)) (subst (λ (k : ℕ). Admitted (numberOf (endingOf k quiet))) e h)
-    where
-      go : (r : ℕ) → r ≤ 11 → Admitted (numberOf (endingOf (orElse r (firstOf later)) quiet)) → orElse r (firstOf later) ≡ firstOf later
-      go zero l h = refl
-      go (suc r) l h = ⊎-elim (λ e. absurd (omega arith)) (λ g. absurd (omega arith)) h
+-- the tests with the other numbers: wherever they stand, only they are left
+abbrev others : List (ℕ × Bool) → List (ℕ × Bool)
+others [] = []
+others (e ∷ es) = cond (ltb 11 (e .0)) (e ∷ others es) (others es)
 
+left : (es : List (ℕ × Bool)) → T (numbered es) → Admitted (firstOf es) → firstOf es ≡ firstOf (others es)
+unfolding firstOf
+left [] h a = refl
+left (e ∷ es) h a = pick (e .1) (ltb 11 (e .0)) refl (ltb→lt 0 (e .0) (and-l (ltb 0 (e .0)) (numbered es) h)) a (left es (and-r (ltb 0 (e .0)) (numbered es) h))
+  where
+    pick : (t high : Bool) → ltb 11 (e .0) ≡ high → 0 < e .0 → Admitted (cond t (e .0) (firstOf es)) → (Admitted (firstOf es) → firstOf es ≡ firstOf (others es))
+        → cond t (e .0) (firstOf es) ≡ firstOf (cond high ((e .0, t) ∷ others es) (others es))
+    pick true true q l a rest = refl
+    pick true false q l a rest = ⊎-elim (λ z. absurd (omega arith)) (λ g. absurd (omega (arith, ltb-false 11 (e .0) q))) a
+    pick false true q l a rest = rest a
+    pick false false q l a rest = rest a
+
+-- of a call, which 12 may end
+left-of : (es : List (ℕ × Bool)) (quiet : Bool) → T (numbered es) → Admitted (numberOf (endingOf (firstOf es) quiet)) → firstOf es ≡ firstOf (others es)
+unfolding endingOf numberOf
+left-of es quiet h a = left es h (before (firstOf es) a)
+  where
+    before : (r : ℕ) → Admitted (numberOf (endingOf r quiet)) → Admitted r
+    before zero a = inl refl
+    before (suc r) a = a
+
+-- of the filter's call 14 is left, which goes by the model alone; of a stretch 15 too
 module _ (x : Model) (o : Offsets) (readings : ℕ) (infinity room : Bool) where
-  admitted : (quiet : Bool) → Admitted (numberOf (endingOf (refusal x o readings infinity room) quiet)) → refusal x o readings infinity room ≡ 0
-  unfolding refusal tests firstOf
-  admitted = past (tests x o readings infinity room) [] tt tt
+  admitted : (quiet : Bool) → Admitted (numberOf (endingOf (refusal x o readings infinity room) quiet)) → refusal x o readings infinity room ≡ firstOf (ofReach x (x .n))
+  unfolding refusal tests
+  admitted quiet = left-of (tests x o readings infinity room) quiet tt
 
-  -- of a stretch 15 comes after them
-  admitted-stretch : (bad quiet : Bool) → Admitted (numberOf (endingOf (stretchRefusal x o readings infinity room bad) quiet)) → stretchRefusal x o readings infinity room bad ≡ firstOf ((15, bad) ∷ [])
+  admitted-stretch : (bad : Bool) (done : ℕ) (quiet : Bool) → Admitted (numberOf (endingOf (stretchRefusal x o readings infinity room bad done) quiet))
+      → stretchRefusal x o readings infinity room bad done ≡ firstOf ((15, bad) ∷ ofReach x (done + x .n))
   unfolding stretchRefusal stretchTests
-  admitted-stretch bad = past ((1, outsideStretch (x .p) (x .m) (x .r) (x .n)) ∷ ofInputs x o readings infinity room) ((15, bad) ∷ []) tt tt
+  admitted-stretch bad done quiet = left-of (stretchTests x o readings infinity room bad done) quiet tt
 
 -- ---- the calls. The parts lent to the means, and the part to save in, may be others too
 
@@ -80,7 +97,7 @@ module _ (x : Model) (o o′ : Offsets) (y y′ : List Float) (alike : Alike y y
     offsets-stretch h h′ =
         let e = stretch.values x begins bs bs′ akin o last y y′ alike b b′ save in
         let g = subst (λ (c : CovOutcome). Admitted (c .refused)) e h in
-        e ∙ stretch-by-refusal x o o′ y′ b b′ c′ (from begins bs′) last save save′ (admitted-stretch x o _ _ _ _ _ g ∙ sym (admitted-stretch x o′ _ _ _ _ _ h′))
+        e ∙ stretch-by-refusal x o o′ y′ b b′ c′ (from begins bs′) last save save′ (admitted-stretch x o _ _ _ _ _ _ g ∙ sym (admitted-stretch x o′ _ _ _ _ _ _ h′))
 
     -- and what it saves is akin again: so the runs may be cut anywhere
     pub offsets-saved : last ≡ false → Ready x o (from begins bs) → Ready x o′ (from begins bs′) → first .cov .refused ≡ 0 → Admitted (second .cov .refused) → (k : ℕ)

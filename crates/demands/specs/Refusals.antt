@@ -1,25 +1,26 @@
--- Document 01's table of refusals, for the filter's call and the smoother's: a call refuses with the number of the first condition that applies, and
--- answers where none does; 1 to 11 leave every lent part as it was; 12 blanks what is needed of each, and leaves the rest.
+-- The table of refusals, for the filter's call and the smoother's: a call refuses with the number of the first condition that applies, and answers
+-- where none does; 12 blanks what is needed of every lent part, and leaves the rest; every other one leaves each as it was.
 use mathlib.Core.Path.{_≡_, refl, sym, ap, _∙_}
 use mathlib.Core.Logic.{inl, inr, ⊎-elim, _↔_}
-use Prim.Native.Nat.{ℕ, zero, suc, _*_, _≤_, _<_}
+use Prim.Native.Nat.{ℕ, zero, suc, _*_, _/_, _<_}
 use native.Mathlib.Omega.{arith}
 use mathlib.Core.Bool.{Bool, true, false, cond, _||_}
 use mathlib.Core.List.{List, [], _∷_, _++_, map}
 use lib.Dec.{T, ltb, eqb}
 use lib.ListN.{length, getD, drop, replicate, length-map, length-replicate}
 use lib.Ieee.{Float, nan, lt, eq}
+use lib.Ieee.Bits.{is-false}
 use Rattle.definition.specs.Num.{0ᶠ, isZero, isFinite, isInfinite, at, ent}
 use Rattle.definition.specs.Run.{anyOf}
 use Rattle.definition.specs.Inputs.{Model, Offsets, classOf, isInfinity, isFlagged, noise}
-use Rattle.definition.specs.Refusals.{outside, badLength, badSystem, badStart, negativeAt, negative, notPsd, offAt, offRow, offDiagonal, shapeAt, shapeRow, shapeOf, startShape, drivenAt, drivenRow, mixedDriven, notFinite, firstOf, ofSizes, ofLengths, ofSystem, ofStart, ofH, ofReadings, ofStep, ofInputs, tests, refusal}
+use Rattle.definition.specs.Refusals.{outside, badLength, outrun, listShort, badSystem, badStart, negativeAt, negative, notPsd, offAt, offRow, offDiagonal, shapeAt, shapeRow, shapeOf, startShape, drivenAt, drivenRow, mixedDriven, notFinite, firstOf, ofSizes, ofLengths, ofReach, ofSystem, ofStart, ofH, ofReadings, ofStep, ofEntries, tests, refusal}
 use Rattle.definition.specs.Parts.{CovPart, MeanPart}
 use Rattle.definition.specs.Outcome.{CovParts, MeanParts, CovOutcome, MeanOutcome, SmoothedCov, SmoothedMean, Ending, turned, silent, endingOf, numberOf, ending, after, kindsNeed, covNeed, meanNeed, smoothedCovNeed, smoothedMeanNeed, roomy, roomySmoothed, noInformation, covOutcome, meanOutcome, outcome, outcomeAt, smoothedCov, smoothedMean, smoothOutcome, smoothOutcomeAt}
 use Rattle.laws.specs.Any.{infinite-classes}
 use Rattle.laws.specs.Accepted.{InputsFit, positive, says-inputs, says-roomy}
-use Rattle.laws.specs.Numbered.{numbered, orElse, joined, refusal-le}
+use Rattle.laws.specs.Numbered.{numbered, orElse, joined, not-twelve}
 use Rattle.laws.specs.Says.{Says, says-itself, says-as, says-of, says-not, says-and, says-or, says-eq, says-le, says-lt, says-below, says-within}
-use Rattle.demands.specs.Conditions.{NotFinite, Negative, Some, OutOf, Dimension, Lengths, NonFiniteSystem, NonFiniteStart, NotPsd, OffDiagonal, Flagged, Misshapen, StartShape, InfiniteReading, MixedDriven, ran, NoInformation, Room, RoomSmooth, OfSizes, OfLengths, OfSystem, OfStart, OfH, OfReadings, OfStep, OfRun, OfInputs, table, First}
+use Rattle.demands.specs.Conditions.{NotFinite, Negative, Some, OutOf, Dimension, Lengths, ListShort, NonFiniteSystem, NonFiniteStart, NotPsd, OffDiagonal, Flagged, Misshapen, StartShape, InfiniteReading, MixedDriven, ran, NoInformation, Room, RoomSmooth, OfSizes, OfLengths, OfReach, OfSystem, OfStart, OfH, OfReadings, OfStep, OfRun, OfEntries, table, First}
 
 -- ---- each test of the definition says its condition
 
@@ -70,6 +71,19 @@ says-lengths x o y room Room s =
     } in
     ((i, length-map y classOf ∙ h .readings), h .room))
     (says-and (says-and (says-inputs x o) (says-eq (length (map classOf y)) (x .n * x .p))) s))
+
+pub says-short : (x : Model) (periods : ℕ) → Says (listShort (x .repeats) (x .p * x .m) (length (x .zList)) periods) (ListShort x periods)
+unfolding listShort outrun
+says-short x periods =
+    says-as
+    (λ h. (h .0, h .1 .0, h .1 .1))
+    (λ h. (h .0, (h .1, h .2)))
+    (says-and
+    (says-not (says-itself (x .repeats)))
+    (says-and (says-not (says-eq (length (x .zList)) 0)) (says-lt (length (x .zList) / (x .p * x .m)) periods)))
+
+pub not-short : (x : Model) (periods : ℕ) → (ListShort x periods → ⊥) → listShort (x .repeats) (x .p * x .m) (length (x .zList)) periods ≡ false
+not-short x periods h = is-false _ (says-not (says-short x periods) .from h)
 
 says-system : (x : Model) → Says (badSystem (x .zOnce) (x .zList) (x .h) (x .t) (x .rr) (x .q)) (NonFiniteSystem x)
 unfolding badSystem
@@ -193,6 +207,9 @@ pub reads-lengths : (x : Model) (o : Offsets) (y : List Float) (room : Bool) (Ro
     → Reads (ofLengths x o (length (map classOf y)) room) (OfLengths x o y Room)
 reads-lengths x o y room Room s = record { rows = ((refl, says-lengths x o y room Room s), tt) }
 
+pub reads-reach : (x : Model) (periods : ℕ) → Reads (ofReach x periods) (OfReach x periods)
+reads-reach x periods = record { rows = ((refl, says-short x periods), tt) }
+
 pub reads-system : (x : Model) → Reads (ofSystem x) (OfSystem x)
 reads-system x = record { rows = ((refl, says-system x), ((refl, says-psd x), ((refl, says-off (x .r) (x .q)), tt))) }
 
@@ -211,10 +228,8 @@ reads-step x = record { rows = ((refl, says-driven x), ((refl, says-finite (nois
 pub reads-run : (x : Model) (y : List Float) → Reads ((12, noInformation (ran x y)) ∷ []) (OfRun x y)
 reads-run x y = record { rows = ((refl, says-silent x y), tt) }
 
-pub reads-inputs : (x : Model) (o : Offsets) (y : List Float) (room : Bool) (Room : Type 0) → Says room Room
-    → Reads (ofInputs x o (length (map classOf y)) (anyOf isInfinity (map classOf y)) room) (OfInputs x o y Room)
-reads-inputs x o y room Room s =
-    reads-lengths x o y room Room s then reads-system x then reads-start x o then reads-h x then reads-readings y then reads-step x
+pub reads-entries : (x : Model) (o : Offsets) (y : List Float) → Reads (ofEntries x o (anyOf isInfinity (map classOf y))) (OfEntries x o y)
+reads-entries x o y = reads-system x then reads-start x o then reads-h x then reads-readings y then reads-step x
 
 -- the ending's number: that of the early refusal, else 12 where the run has no information
 number-of : (early : ℕ) (q : Bool) → numberOf (endingOf early q) ≡ orElse early (firstOf ((12, q) ∷ []))
@@ -240,7 +255,7 @@ module _ (x : Model) (o : Offsets) (y : List Float) (room : Bool) (Room : Type 0
 
   reads : Reads (before ++ ((12, noInformation (ran x y)) ∷ [])) (table x o y Room)
   unfolding tests
-  reads = reads-sizes x then reads-inputs x o y room Room s then reads-run x y
+  reads = reads-sizes x then reads-lengths x o y room Room s then reads-reach x (x .n) then reads-entries x o y then reads-run x y
 
   filter-is : (k : ℕ) → (numberOf (ending x o (map classOf y) room) ≡ k) ↔ First k (table x o y Room)
   unfolding ending refusal tests
@@ -253,7 +268,7 @@ says-room x b b′ =
     (λ h. record { kinds = h .kinds; cov = h .covs; mean = h .means })
     (says-roomy x b b′)
 
-says-room-smooth : (x : Model) (b : CovParts) (b′ : MeanParts) (sm sc : List Float) → Says (roomySmoothed x b b′ sm sc) (RoomSmooth x b b′ sm sc)
+pub says-room-smooth : (x : Model) (b : CovParts) (b′ : MeanParts) (sm sc : List Float) → Says (roomySmoothed x b b′ sm sc) (RoomSmooth x b b′ sm sc)
 unfolding roomySmoothed
 says-room-smooth x b b′ sm sc =
     says-as
@@ -274,9 +289,6 @@ unfolding endingOf numberOf
 twelfth zero true l e = refl
 twelfth zero false l e = absurd (omega arith)
 twelfth (suc r) q l e = absurd (l e)
-
-below-12 : {r : ℕ} → r ≤ 11 → r ≡ 12 → ⊥
-below-12 l e = omega arith
 
 -- w needed places of an output blank, and the rest of it as it was
 abbrev pub Blanked : {A : Type 0} → ℕ → A → List A → List A → Type 0
@@ -299,11 +311,11 @@ module _ (x : Model) (o : Offsets) (y : List Float) (b : CovParts) (b′ : MeanP
   unfolding outcome outcomeAt covOutcome
   refuses = filter-is x o y (roomy x b b′) (Room x b b′) (says-room x b b′)
 
-  -- 1 to 11 write nothing
-  pub keeps : (k : ℕ) → 0 < k → k < 12 → outcome x o y b b′ .0 .refused ≡ k → (outcome x o y b b′ .0 .parts ≡ b) × (outcome x o y b b′ .1 .parts ≡ b′)
+  -- all but 12 write nothing
+  pub keeps : (k : ℕ) → 0 < k → (k ≡ 12 → ⊥) → outcome x o y b b′ .0 .refused ≡ k → (outcome x o y b b′ .0 .parts ≡ b) × (outcome x o y b b′ .1 .parts ≡ b′)
   unfolding outcome outcomeAt covOutcome meanOutcome ending after
-  keeps k l u e =
-      let f = early _ _ k l (λ z. omega arith) e in (
+  keeps k l n e =
+      let f = early _ _ k l n e in (
         ap (λ (f : Ending). covOutcome x f (map classOf y) b .parts) f,
         ap (λ (f : Ending). meanOutcome x f o (map classOf y) y b′ .parts) f,
       )
@@ -312,7 +324,7 @@ module _ (x : Model) (o : Offsets) (y : List Float) (b : CovParts) (b′ : MeanP
   pub blanked : outcome x o y b b′ .0 .refused ≡ 12 → Blank x b b′ (outcome x o y b b′)
   unfolding outcome outcomeAt covOutcome meanOutcome ending
   blanked e =
-      let f = twelfth _ _ (below-12 (refusal-le x o _ _ _)) e in
+      let f = twelfth _ _ (not-twelve x o _ _ _) e in
       record {
         kinds = blanks (ending x o (map classOf y) (roomy x b b′)) _ (b .kinds) (kindsNeed x) 0 f;
         covs = λ q. blanks (ending x o (map classOf y) (roomy x b b′)) _ (b .part q) (covNeed x q) 0ᶠ f;
@@ -329,11 +341,11 @@ module _ (x : Model) (o : Offsets) (y : List Float) (b : CovParts) (b′ : MeanP
   unfolding smoothOutcome smoothOutcomeAt covOutcome
   refuses-smooth = filter-is x o y (roomySmoothed x b b′ sm sc) (RoomSmooth x b b′ sm sc) (says-room-smooth x b b′ sm sc)
 
-  pub keeps-smooth : (k : ℕ) → 0 < k → k < 12 → ended .0 .filter .refused ≡ k
+  pub keeps-smooth : (k : ℕ) → 0 < k → (k ≡ 12 → ⊥) → ended .0 .filter .refused ≡ k
       → (ended .0 .filter .parts ≡ b) × (ended .1 .filter .parts ≡ b′) × (ended .0 .smoothed ≡ sc) × (ended .1 .smoothed ≡ sm)
   unfolding smoothOutcome smoothOutcomeAt covOutcome meanOutcome smoothedCov smoothedMean ending after
-  keeps-smooth k l u e =
-      let f = early _ _ k l (λ z. omega arith) e in (
+  keeps-smooth k l n e =
+      let f = early _ _ k l n e in (
         ap (λ (f : Ending). covOutcome x f (map classOf y) b .parts) f,
         ap (λ (f : Ending). meanOutcome x f o (map classOf y) y b′ .parts) f,
         ap (λ (f : Ending). smoothedCov x f (map classOf y) sc) f,
@@ -346,7 +358,7 @@ module _ (x : Model) (o : Offsets) (y : List Float) (b : CovParts) (b′ : MeanP
       × Blanked (smoothedMeanNeed x) 0ᶠ sm (ended .1 .smoothed)
   unfolding smoothOutcome smoothOutcomeAt covOutcome meanOutcome smoothedCov smoothedMean ending
   blanked-smooth e =
-      let f = twelfth _ _ (below-12 (refusal-le x o _ _ _)) e in
+      let f = twelfth _ _ (not-twelve x o _ _ _) e in
       let g = ending x o (map classOf y) (roomySmoothed x b b′ sm sc) in (
         record {
           kinds = blanks g _ (b .kinds) (kindsNeed x) 0 f;

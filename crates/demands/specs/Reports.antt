@@ -121,7 +121,7 @@ module _ (x : Model) (o : Offsets) (w : From) (last : Bool) (y : List Float) (b 
   unfolding stretchOutcome stretchEnding covStretch
   reports-stretch e =
       let ok = zero-answers _ _ e in
-      let fit = inputs-fit x o (lengths-pass x o _ _ (passes x o _ _ _ _ (answered-by _ _ ok .0) .lengths) .0) in
+      let fit = inputs-fit x o (lengths-pass x o _ _ (passes x o _ _ _ _ _ (answered-by _ _ ok .0) .lengths) .0) in
       let s = carriedIn x o w in
       subst (λ (f : Ending). Reports x (s .past .done) (s .past .covOff) (s .meanOff) (covStretch x f (s .past) (map classOf y) b) (meanStretch x f o s y b′)) (sym ok) (from-there fit)
 

@@ -11,7 +11,7 @@ use Rattle.definition.specs.Stretch
 use Rattle.definition.specs.Stretch.{From, stretchOutcome}
 use Rattle.demands.specs.Call.{Lent, Call, doubles, modelOf, offsetsOf, covParts, meanParts, kindFill, answerOf, writes, left, covRows, meanRows}
 
--- a marker is yes where it is not 0; saved bytes are numbers
+-- saved bytes are numbers
 pub record Stretched : Type 0 where
   pub call : Call
   pub begins : ℕ

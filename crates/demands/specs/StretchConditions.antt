@@ -1,4 +1,5 @@
--- A stretch's table of refusals, document 02's: each condition as a statement about what the caller lends, in its order. 2 to 11 are the filter's call's.
+-- A stretch's table of refusals, document 02's: each condition as a statement about what the caller lends, in its order. 2 to 11 are the filter's
+-- call's, and so is 14, over the periods done and the stretch's.
 use mathlib.Core.Path.{_≡_}
 use Prim.Native.Nat.{ℕ, _+_, _*_, _≤_, _<_}
 use mathlib.Core.Bool.{Bool}
@@ -12,7 +13,7 @@ use Rattle.definition.specs.Carried.{pastOn}
 use Rattle.definition.specs.Saved.{float, fromBytes, widths, savedNeed, numbersIn, sectionAt, numberAt, doneIn, diffuseIn, heardIn, newsIn, stateIn, covOffIn, meanOffIn}
 use Rattle.definition.specs.Stretch.{From, pastIn}
 use Rattle.laws.specs.Says.{_or_, Within}
-use Rattle.demands.specs.Conditions.{OutOf, Room, OfInputs}
+use Rattle.demands.specs.Conditions.{OutOf, Room, OfLengths, OfReach, OfEntries}
 
 -- 1: as for the filter, but there may be no periods
 abbrev pub StretchDimension : Model → Type 0
@@ -60,8 +61,9 @@ counted x w y = pastOn x (pastIn x w) (map classOf y) .counts
 abbrev pub StretchSilent : Model → From → Bool → List Float → Type 0
 StretchSilent x w last y = T last × ((0 < counted x w y .heard) × (counted x w y .news ≡ 0))
 
--- ---- the table: 15 after 11, and 12 at the end
+-- ---- the table: 15 after 11, then 14, and 12 at the end
 
 abbrev pub stretchTable : Model → Offsets → From → Bool → List Float → Type 0 → List (ℕ × Type 0)
 stretchTable x o w last y Room =
-    ((1, StretchDimension x) ∷ []) ++ OfInputs x o y Room ++ ((15, BadFrom x w) ∷ []) ++ ((12, StretchSilent x w last y) ∷ [])
+    ((1, StretchDimension x) ∷ []) ++ OfLengths x o y Room ++ OfEntries x o y ++ ((15, BadFrom x w) ∷ []) ++ OfReach x (pastIn x w .done + x .n)
+    ++ ((12, StretchSilent x w last y) ∷ [])

@@ -1,6 +1,6 @@
--- The refusals of a stretch, as a table of conditions on what the caller hands over: it refuses with the number of the first that applies, 15 after 11
--- and 12 at the end (`refuses`); 1 to 11 and 15 leave every lent part as it was (`keeps`); 12 blanks what the stretch lent and saves nothing (`blanked`).
--- The last stretch saves nothing (`last-keeps`); none writes past a saved run's length (`tail-keeps`).
+-- The refusals of a stretch, as a table of conditions on what the caller hands over: it refuses with the number of the first that applies, 15 after
+-- 11, then 14, and 12 at the end (`refuses`); 12 blanks what the stretch lent and saves nothing (`blanked`); the others leave every lent part as it
+-- was (`keeps`). The last stretch saves nothing (`last-keeps`); none writes past a saved run's length (`tail-keeps`).
 use mathlib.Core.Path.{_≡_, refl, ap, _∙_}
 use mathlib.Core.Logic.{inl, inr, ⊎-elim, _↔_}
 use Prim.Native.Nat.{ℕ, _+_, _*_, _<_}
@@ -23,7 +23,7 @@ use Rattle.laws.specs.AcceptedStretch.{not-twelve, Ready}
 use Rattle.laws.specs.AcceptedStretch as stretch
 use Rattle.demands.specs.Conditions.{First}
 use Rattle.demands.specs.Unheard.{answered-by}
-use Rattle.demands.specs.Refusals.{Reads, _then_, reads-inputs, first-is, early, twelfth, Blank, blanks, says-out, says-room}
+use Rattle.demands.specs.Refusals.{Reads, _then_, reads-lengths, reads-reach, reads-entries, first-is, early, twelfth, Blank, blanks, says-out, says-room}
 use Rattle.demands.specs.StretchConditions.{StretchDimension, RoomToo, WrongCount, OtherNan, BadSaved, BadFrom, counted, StretchSilent, stretchTable}
 
 -- ---- each test says its condition
@@ -83,7 +83,7 @@ module _ (x : Model) (o : Offsets) (w : From) (final : Bool) (y : List Float) (b
   room = roomyStretch x final b b′ save
 
   abbrev before : List (ℕ × Bool)
-  before = stretchTests x o (length (map classOf y)) (anyOf isInfinity (map classOf y)) room (badFrom x w)
+  before = stretchTests x o (length (map classOf y)) (anyOf isInfinity (map classOf y)) room (badFrom x w) (pastIn x w .done)
 
   reads : Reads (before ++ ((12, final && noInformation (counted x w y)) ∷ [])) (stretchTable x o w final y (RoomToo x final b b′ save))
   unfolding stretchTests
@@ -91,7 +91,8 @@ module _ (x : Model) (o : Offsets) (w : From) (final : Bool) (y : List Float) (b
       let sizes : Reads ((1, outsideStretch (x .p) (x .m) (x .r) (x .n)) ∷ []) ((1, StretchDimension x) ∷ []) = record { rows = ((refl, says-dimension x), tt) } in
       let saved : Reads ((15, badFrom x w) ∷ []) ((15, BadFrom x w) ∷ []) = record { rows = ((refl, says-from x w), tt) } in
       let run : Reads ((12, final && noInformation (counted x w y)) ∷ []) ((12, StretchSilent x w final y) ∷ []) = record { rows = ((refl, says-silent x w final y), tt) } in
-      sizes then reads-inputs x o y room (RoomToo x final b b′ save) (says-room-too x final b b′ save) then saved then run
+      let lengths = reads-lengths x o y room (RoomToo x final b b′ save) (says-room-too x final b b′ save) in
+      sizes then lengths then reads-entries x o y then saved then reads-reach x (pastIn x w .done + x .n) then run
 
   pub refuses : (k : ℕ) → (now .cov .refused ≡ k) ↔ First k (stretchTable x o w final y (RoomToo x final b b′ save))
   unfolding stretchOutcome covStretch stretchEnding stretchRefusal stretchTests
@@ -119,7 +120,7 @@ module _ (x : Model) (o : Offsets) (w : From) (final : Bool) (y : List Float) (b
   pub blanked : now .cov .refused ≡ 12 → Blank x b b′ (now .cov, now .mean) × (now .save ≡ save)
   unfolding stretchOutcome covStretch meanStretch saveStretch stretchEnding after
   blanked e =
-      let f = twelfth _ _ (not-twelve x o _ _ _ _) e in
+      let f = twelfth _ _ (not-twelve x o _ _ _ _ _) e in
       let g = stretchEnding x o (pastIn x w) (badFrom x w) final (map classOf y) room in (
         record {
           kinds = blanks g _ (b .kinds) (kindsNeed x) 0 f;

@@ -54,9 +54,9 @@ module _ (x : Model) (o : Offsets) (s : Carried) (y : List Float) (old : List �
       }
 
   -- the refusals before the run are the same
-  same-refusal : (room bad : Bool) → stretchRefusal x o (length (set (map classOf y) (t * x .p + i) gap)) (anyOf isInfinity (set (map classOf y) (t * x .p + i) gap)) room bad ≡ stretchRefusal x o (length (map classOf y)) (anyOf isInfinity (map classOf y)) room bad
-  same-refusal room bad =
-      ap₂ (λ (l : ℕ) (q : Bool). stretchRefusal x o l q room bad) (same-many x o s y old t i inT inI fit read skip) (same-infinity x o s y old t i inT inI fit read skip)
+  same-refusal : (room bad : Bool) (done : ℕ) → stretchRefusal x o (length (set (map classOf y) (t * x .p + i) gap)) (anyOf isInfinity (set (map classOf y) (t * x .p + i) gap)) room bad done ≡ stretchRefusal x o (length (map classOf y)) (anyOf isInfinity (map classOf y)) room bad done
+  same-refusal room bad done =
+      ap₂ (λ (l : ℕ) (q : Bool). stretchRefusal x o l q room bad done) (same-many x o s y old t i inT inI fit read skip) (same-infinity x o s y old t i inT inI fit read skip)
 
   number-means : (v : Float) → T (isFinite v) → meanOn x o s (set y (t * x .p + i) v) ≡ meanOn x o s y
   unfolding meanOn
@@ -114,12 +114,12 @@ module _ (x : Model) (o : Offsets) (w : From) (last : Bool) (y : List Float) (b 
     unfolding stretchOutcome covStretch stretchEnding
     ok = zero-answers _ _ (h .answers)
 
-    passed : stretchRefusal x o (length (map classOf y)) (anyOf isInfinity (map classOf y)) room (badFrom x w) ≡ 0
+    passed : stretchRefusal x o (length (map classOf y)) (anyOf isInfinity (map classOf y)) room (badFrom x w) (pastIn x w .done) ≡ 0
     unfolding stretchEnding
     passed = answered-by _ _ ok .0
 
     fit : length (map classOf y) ≡ x .n * x .p
-    fit = lengths-pass x o _ _ (passes x o _ _ _ _ passed .lengths) .1
+    fit = lengths-pass x o _ _ (passes x o _ _ _ _ _ passed .lengths) .1
 
     inside : k < x .n * x .p
     inside = let l : length y ≡ x .n * x .p = sym (length-map y classOf) ∙ fit in omega (arith, within y k (h .read))
@@ -150,7 +150,7 @@ module _ (x : Model) (o : Offsets) (w : From) (last : Bool) (y : List Float) (b 
     still-answered : endingAt muted ≡ answered
     unfolding stretchEnding endingOf noInformation
     still-answered =
-        let e = same-refusal x o (carriedIn x o w) y (b .kinds) t i inT inI (fit (t * x .p + i) h) (h .read) (real-skip (t * x .p + i) h) room (badFrom x w) ∙ passed (t * x .p + i) h in
+        let e = same-refusal x o (carriedIn x o w) y (b .kinds) t i inT inI (fit (t * x .p + i) h) (h .read) (real-skip (t * x .p + i) h) room (badFrom x w) (pastIn x w .done) ∙ passed (t * x .p + i) h in
         let n : (0 < pastOn x (pastIn x w) muted .counts .news) ⊎ (last ≡ false) = rw (less-heard .news) (real-news (t * x .p + i) h) in
         ap₂ endingOf e (informs last (ltb 0 (pastOn x (pastIn x w) muted .counts .heard)) (pastOn x (pastIn x w) muted .counts .news) n)
 

@@ -1,23 +1,29 @@
--- A stretch that begins, is the last and has a period is the filter's call (`whole`).
-use mathlib.Core.Path.{_≡_, refl, ap, ap₂, _∙_}
-use Prim.Native.Nat.{ℕ, _<_}
+-- A stretch that begins, is the last and has a period is the filter's call (`whole`), unless its list of designs is short. The filter's call tells
+-- that right after 2, a stretch after 15: so of a short list and a refusal from 3 to 11 the one tells 14, the other that refusal. Either way both are
+-- turned away (`reaches`, `reaches-stretch`).
+use mathlib.Core.Path.{_≡_, refl, ap, ap₂, _∙_, subst}
+use mathlib.Core.Logic.{_⊎_}
+use Prim.Native.Nat.{ℕ, _+_, _<_}
 use native.Mathlib.Nat.{zero-add}
 use native.Mathlib.Omega.{arith}
 use mathlib.Core.Bool.{Bool, true, false, _&&_}
-use mathlib.Core.List.{List, [], _∷_, map}
+use mathlib.Core.List.{List, [], map}
 use lib.ListN.{length}
-use lib.Dec.{eqb}
+use lib.Dec.{T, eqb}
 use lib.Ieee.{Float}
 use borrow.Author.Tests.{ne-eqb}
 use Rattle.definition.specs.Run.{anyOf}
 use Rattle.definition.specs.Inputs.{Model, Offsets, Class, classOf, isInfinity}
-use Rattle.definition.specs.Refusals.{outside, firstOf, ofInputs, tests, refusal}
+use Rattle.definition.specs.Refusals.{outside, firstOf, tests, refusal}
 use Rattle.definition.specs.Reports.{covReport, toldBefore}
 use Rattle.definition.specs.Outcome.{CovParts, MeanParts, CovOutcome, MeanOutcome, Counts, Ending, turned, silent, answered, endingOf, ending, after, countsOf, covOf, meanOf, covEnded, covOutcome, meanOutcome, noInformation, outcome, outcomeAt, roomy}
 use Rattle.definition.specs.Carried.{begunPast, begunMean, covFrom, meanFrom, plus, pastOn, meanOn, meanOffOn}
 use Rattle.definition.specs.Stretch.{From, StretchOutcome, pastIn, meanIn, meanToldIn, outsideStretch, badFrom, stretchTests, stretchRefusal, roomyStretch, stretchEnding, covStretch, meanStretch, saveStretch, stretchOutcome}
-use Rattle.laws.specs.Numbered.{first-more}
+use Rattle.laws.specs.Numbered.{first-none, not-twelve}
 use Rattle.laws.specs.Kept.{begun}
+use Rattle.laws.specs.AcceptedStretch.{passes, not-turned, free}
+use Rattle.demands.specs.Conditions.{ListShort}
+use Rattle.demands.specs.Refusals.{says-short, not-short}
 
 -- a run's start
 abbrev pub start : From
@@ -32,22 +38,20 @@ pub same-outside : (p m r n : ℕ) → 0 < n → outsideStretch p m r n ≡ outs
 unfolding outsideStretch outside
 same-outside p m r n h = let e : eqb n 0 ≡ false = ne-eqb n 0 (λ z. omega arith) in rw e
 
-pub same-refusal : (x : Model) (o : Offsets) (n : ℕ) (infinity room : Bool) → 0 < x .n → stretchRefusal x o n infinity room false ≡ refusal x o n infinity room
-unfolding stretchRefusal stretchTests refusal tests
-same-refusal x o n infinity room h =
-    let rest = ofInputs x o n infinity room in
-    first-more ((1, outsideStretch (x .p) (x .m) (x .r) (x .n)) ∷ rest) 15 ∙ ap (λ (b : Bool). firstOf ((1, b) ∷ rest)) (same-outside (x .p) (x .m) (x .r) (x .n) h)
+pub same-refusal : (x : Model) (o : Offsets) (n : ℕ) (infinity room : Bool) → 0 < x .n → (ListShort x (x .n) → ⊥) → stretchRefusal x o n infinity room false 0 ≡ refusal x o n infinity room
+unfolding stretchRefusal stretchTests refusal tests firstOf
+same-refusal x o n infinity room h reaches = rw (zero-add (x .n), not-short x (x .n) reaches, same-outside (x .p) (x .m) (x .r) (x .n) h) refl
 
-module _ (x : Model) (o : Offsets) (some : 0 < x .n) where
+module _ (x : Model) (o : Offsets) (some : 0 < x .n) (reaches : ListShort x (x .n) → ⊥) where
   same-counts : (ks : List Class) → pastOn x (begunPast x) ks .counts ≡ countsOf (covOf x ks .0) ks
   unfolding pastOn plus begunPast covFrom covOf
   same-counts ks = rw (zero-add (countsOf (covOf x ks .0) ks .dDiffuse), zero-add (countsOf (covOf x ks .0) ks .heard), zero-add (countsOf (covOf x ks .0) ks .news))
 
   same-ending : (ks : List Class) (b : CovParts) (b′ : MeanParts) (save : List ℕ) → stretchEnding x o (begunPast x) false true ks (roomyStretch x true b b′ save) ≡ ending x o ks (roomy x b b′)
-  unfolding stretchEnding ending roomyStretch
+  unfolding stretchEnding ending roomyStretch begunPast
   same-ending ks b b′ save =
       ap₂ endingOf
-      (ap (λ (room : Bool). stretchRefusal x o (length ks) (anyOf isInfinity ks) room false) (and-yes (roomy x b b′)) ∙ same-refusal x o (length ks) (anyOf isInfinity ks) (roomy x b b′) some)
+      (ap (λ (room : Bool). stretchRefusal x o (length ks) (anyOf isInfinity ks) room false 0) (and-yes (roomy x b b′)) ∙ same-refusal x o (length ks) (anyOf isInfinity ks) (roomy x b b′) some reaches)
       (ap noInformation (same-counts ks))
 
   same-cov : (f : Ending) (ks : List Class) (b : CovParts) → covStretch x f (begunPast x) ks b ≡ covOutcome x f ks b
@@ -75,3 +79,16 @@ module _ (x : Model) (o : Offsets) (some : 0 < x .n) where
     where
       made : (c c′ : CovOutcome) (s s′ : MeanOutcome) (v v′ : List ℕ) → c ≡ c′ → s ≡ s′ → v ≡ v′ → _≡_ {A = StretchOutcome} (record { cov = c; mean = s; save = v }) (record { cov = c′; mean = s′; save = v′ })
       made c c′ s s′ v v′ p q r = cc
+
+-- ---- of a call that is not turned away the list is not short
+
+module _ (x : Model) (o : Offsets) (y : List Float) (b : CovParts) (b′ : MeanParts) where
+  pub reaches : (outcome x o y b b′ .0 .refused ≡ 0) ⊎ (outcome x o y b b′ .0 .refused ≡ 12) → ListShort x (x .n) → ⊥
+  unfolding outcome outcomeAt covOutcome ending refusal tests
+  reaches e short =
+      let none = first-none (tests x o (length (map classOf y)) (anyOf isInfinity (map classOf y)) (roomy x b b′)) tt (not-turned _ _ (not-twelve x o _ _ _) e) in
+      subst T (none .1 .1 .0) (says-short x (x .n) .from short)
+
+  pub reaches-stretch : (w : From) (last : Bool) (save : List ℕ) → (stretchOutcome x o w last y b b′ save .cov .refused ≡ 0) ⊎ (stretchOutcome x o w last y b b′ save .cov .refused ≡ 12)
+      → ListShort x (pastIn x w .done + x .n) → ⊥
+  reaches-stretch w last save e short = subst T (passes x o _ _ _ _ _ (free x o w last y b b′ save e) .reach) (says-short x (pastIn x w .done + x .n) .from short)

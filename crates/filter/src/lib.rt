@@ -10,6 +10,7 @@ pub fn filter_univariate<'a>(
     n: usize,
     z: &'a [f64],
     zs: &'a [f64],
+    repeats: bool,
     h: &[f64],
     t: &[f64],
     rr: &[f64],
@@ -34,7 +35,7 @@ pub fn filter_univariate<'a>(
 ) -> promise::Outcome
     ensures { λ o. ⌜ Filtered
         (given p m r n
-        (now (z .entry)) (now (zs .entry)) (now (h .entry)) (now (t .entry)) (now (rr .entry)) (now (q .entry))
+        (now (z .entry)) (now (zs .entry)) repeats (now (h .entry)) (now (t .entry)) (now (rr .entry)) (now (q .entry))
         (now (c .entry)) (now (d .entry)) (now (a1 .entry)) (now («p_star» .entry)) (now (flags .entry)) (now (y .entry)))
         (lent
         (now («pred_mean» .entry)) (now («pred_cov» .entry)) (now («pred_inf» .entry))
@@ -73,6 +74,7 @@ pub fn filter_univariate<'a>(
         n,
         z,
         zs,
+        repeats,
         h,
         t,
         rr,
@@ -98,6 +100,7 @@ pub fn filter_univariate<'a>(
         n,
         z,
         zs,
+        repeats,
         h,
         t,
         rr,

@@ -48,7 +48,7 @@ fn reported(a: promise::Answer, mean_off: usize) -> promise::Answer
 
 // The two passes over n periods, after `done` others: every part written, the state carried on, and the answer, which goes
 // on from the one before. An empty state: the run begins at the start, and its state is not kept. There may be no periods.
-// `rqr` is R Q R', which the checks have worked out; R and Q are there for the contract, which speaks of the model.
+// `rqr` is R Q R', which the checks have worked out; R, Q and the marker `repeats` are there for the contract, which speaks of the model.
 pub fn run<'a>(
     p: usize,
     m: usize,
@@ -56,6 +56,7 @@ pub fn run<'a>(
     n: usize,
     z: &'a [f64],
     zs: &'a [f64],
+    repeats: bool,
     h: &[f64],
     t: &[f64],
     rr: &[f64],
@@ -84,13 +85,13 @@ pub fn run<'a>(
     before: promise::Answer,
 ) -> End
     requires { ⌜ FitOn
-        (modelOf p m r n (now z) (now zs) (now h) (now t) (now rr) (now q) (now «p_star») (now flags))
+        (modelOf p m r n (now z) (now zs) repeats (now h) (now t) (now rr) (now q) (now «p_star») (now flags))
         (offsetsOf (now c) (now d) (now a1)) (length (now y)) (now rqr)
         (covParts (now «pred_cov») (now «pred_inf») (now «filt_cov») (now kinds)
         (now «f_star») (now «f_inf») (now «m_star») (now «m_inf»))
         (meanParts (now «pred_mean») (now «filt_mean») (now v)) (length (now state)) done before ⌝ }
     ensures { λ e. ⌜ Ran
-        (modelOf p m r n (now (z .entry)) (now (zs .entry)) (now (h .entry)) (now (t .entry))
+        (modelOf p m r n (now (z .entry)) (now (zs .entry)) repeats (now (h .entry)) (now (t .entry))
         (now (rr .entry)) (now (q .entry)) (now («p_star» .entry)) (now (flags .entry)))
         (offsetsOf (now (c .entry)) (now (d .entry)) (now (a1 .entry))) (now (y .entry))
         (now (state .entry)) live done before e (now (state .exit))

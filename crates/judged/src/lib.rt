@@ -22,7 +22,7 @@ fn is_silent(a: promise::Answer, last: bool) -> bool
 }
 
 // n periods from the state that is lent, after `done` others. Where refusal 12 applies, what they wrote is blank; the state is carried on.
-// `rqr` is R Q R', which the checks have worked out; R and Q are there for the contract, which speaks of the model.
+// `rqr` is R Q R', which the checks have worked out; R, Q and the marker `repeats` are there for the contract, which speaks of the model.
 pub fn run<'a>(
     p: usize,
     m: usize,
@@ -30,6 +30,7 @@ pub fn run<'a>(
     n: usize,
     z: &'a [f64],
     zs: &'a [f64],
+    repeats: bool,
     h: &[f64],
     t: &[f64],
     rr: &[f64],
@@ -59,13 +60,13 @@ pub fn run<'a>(
     last: bool,
 ) -> Judged
     requires { ⌜ FitOn
-        (modelOf p m r n (now z) (now zs) (now h) (now t) (now rr) (now q) (now «p_star») (now flags))
+        (modelOf p m r n (now z) (now zs) repeats (now h) (now t) (now rr) (now q) (now «p_star») (now flags))
         (offsetsOf (now c) (now d) (now a1)) (length (now y)) (now rqr)
         (covParts (now «pred_cov») (now «pred_inf») (now «filt_cov») (now kinds)
         (now «f_star») (now «f_inf») (now «m_star») (now «m_inf»))
         (meanParts (now «pred_mean») (now «filt_mean») (now v)) (length (now state)) done before ⌝ }
     ensures { λ e. ⌜ Went
-        (modelOf p m r n (now (z .entry)) (now (zs .entry)) (now (h .entry)) (now (t .entry))
+        (modelOf p m r n (now (z .entry)) (now (zs .entry)) repeats (now (h .entry)) (now (t .entry))
         (now (rr .entry)) (now (q .entry)) (now («p_star» .entry)) (now (flags .entry)))
         (offsetsOf (now (c .entry)) (now (d .entry)) (now (a1 .entry))) (now (y .entry))
         (now (state .entry)) live done before last e (now (state .exit))
@@ -83,6 +84,7 @@ pub fn run<'a>(
         n,
         z,
         zs,
+        repeats,
         h,
         t,
         rr,

@@ -10,7 +10,7 @@ use lib.Dec.{T, leb, ltb, eqb}
 use lib.Ieee.{Float}
 use borrow.Author.Tests.{ltb-false, eqb-true, eqb-false, not-false}
 use Rattle.definition.specs.Inputs.{Model, Offsets}
-use Rattle.definition.specs.Refusals.{beyond, outside, designFits, inputsFit, badLength, firstOf, ofSizes, ofLengths, ofSystem, ofStart, ofH, ofReadings, ofStep, refusal, tests}
+use Rattle.definition.specs.Refusals.{beyond, outside, designFits, inputsFit, badLength, firstOf, ofSizes, ofLengths, ofReach, ofEntries, refusal, tests}
 use Rattle.definition.specs.Parts.{CovPart, predCov, predInf, filtCov, fStar, fInf, mStar, mInf, MeanPart, predMean, filtMean, innovations}
 use Rattle.definition.specs.Outcome.{CovParts, MeanParts, kindsNeed, covNeed, meanNeed, smoothedCovNeed, smoothedMeanNeed, roomy, roomySmoothed}
 use Rattle.laws.specs.Any.{either-false, both-true}
@@ -152,7 +152,7 @@ pub record Accepted (x : Model) (o : Offsets) (y : ℕ) (room : Bool) : Type 0 w
 pub accepted : (x : Model) (o : Offsets) (y : ℕ) (infinity room : Bool) → refusal x o y infinity room ≡ 0 → Accepted x o y room
 unfolding refusal tests
 accepted x o y infinity room e =
-    let rest = ofSystem x ++ ofStart x o ++ ofH x ++ ofReadings infinity ++ ofStep x in
+    let rest = ofReach x (x .n) ++ ofEntries x o infinity in
     let s = none-of-both (ofSizes x) (ofLengths x o y room ++ rest) tt e in
     let f = past-lengths x o y room (none-of-both (ofLengths x o y room) rest tt (s .1) .0) in
     record { sizes = past-sizes x (s .0); inputs = f .0; readings = f .1; roomy = f .2 }

@@ -16,7 +16,7 @@ use Rattle.definition.specs.Run.{scan, pairs, chunks, count, join, anyOf}
 use Rattle.definition.specs.Cov.{covRun}
 use Rattle.definition.specs.Mean.{meanRun}
 use Rattle.definition.specs.Inputs.{Model, Offsets, classOf, isInfinity, gapRows}
-use Rattle.definition.specs.Refusals.{beyond, outside, inputsFit, badLength, firstOf, ofSystem, ofStart, ofH, ofStep}
+use Rattle.definition.specs.Refusals.{beyond, outside, inputsFit, badLength, listShort, firstOf, ofSystem, ofStart, ofH, ofStep}
 use Rattle.definition.specs.Reports.{firstFrom, covReport, meanReport}
 use Rattle.definition.specs.Outcome.{CovParts, MeanParts, Ending, answered, endingOf, numberOf, after, countsOf, noInformation}
 use Rattle.definition.specs.Carried.{begunPast, begunMean, covFrom, meanFrom, plus, pastOn, meanOn, meanOffOn, went, Carried}
@@ -24,7 +24,7 @@ use Rattle.definition.specs.Saved.{savedOf, savedNeed, badSaved, loadedPast}
 use Rattle.definition.specs.Stretch.{From, pastIn, meanIn, meanToldIn, carriedIn, outsideStretch, badFrom, stretchTests, stretchRefusal, roomyStretch, stretchEnding, covStretch, saveStretch, stretchOutcome}
 use Rattle.laws.specs.Any.{either-false}
 use Rattle.laws.specs.All.{AllOf}
-use Rattle.laws.specs.Numbered.{first-none, first-passes}
+use Rattle.laws.specs.Numbered.{first-none, no-number}
 use Rattle.laws.specs.Accepted.{InRange, in-range, InputsFit, inputs-fit, lengths-pass}
 use Rattle.laws.specs.Bytes.{Byte}
 use Rattle.laws.specs.Kept.{Double, Kept, Tallied, went-kept, begun-kept, begun-tallied, tallies-kept}
@@ -41,23 +41,24 @@ fixed x o = ofSystem x ++ ofStart x o ++ ofH x ++ ofStep x
 abbrev pub Fails : List (ℕ × Bool) → Type 0
 Fails es = AllOf (λ e. e .1 ≡ false) es
 
-pub record Passed (x : Model) (o : Offsets) (n : ℕ) (infinity room bad : Bool) : Type 0 where
+pub record Passed (x : Model) (o : Offsets) (n : ℕ) (infinity room bad : Bool) (done : ℕ) : Type 0 where
   pub sizes : outsideStretch (x .p) (x .m) (x .r) (x .n) ≡ false
   pub lengths : badLength x o n room ≡ false
   pub others : Fails (fixed x o)
   pub finite : infinity ≡ false
   pub saved : bad ≡ false
+  pub reach : listShort (x .repeats) (x .p * x .m) (length (x .zList)) (done + x .n) ≡ false
 
 first-zero : (es : List (ℕ × Bool)) → Fails es → firstOf es ≡ 0
 unfolding firstOf
 first-zero [] h = refl
 first-zero (e ∷ es) h = rw (h .0) (first-zero es (h .1))
 
-module _ (x : Model) (o : Offsets) (n : ℕ) (infinity room bad : Bool) where
-  pub passes : stretchRefusal x o n infinity room bad ≡ 0 → Passed x o n infinity room bad
+module _ (x : Model) (o : Offsets) (n : ℕ) (infinity room bad : Bool) (done : ℕ) where
+  pub passes : stretchRefusal x o n infinity room bad done ≡ 0 → Passed x o n infinity room bad done
   unfolding stretchRefusal stretchTests
   passes e =
-      let a = first-none (stretchTests x o n infinity room bad) tt e in
+      let a = first-none (stretchTests x o n infinity room bad done) tt e in
       let b = a .1 .1 in
       let c = b .1 .1 .1 .1 .1 .1 in
       record {
@@ -66,20 +67,20 @@ module _ (x : Model) (o : Offsets) (n : ℕ) (infinity room bad : Bool) where
         others = (b .0, (b .1 .0, (b .1 .1 .0, (b .1 .1 .1 .0, (b .1 .1 .1 .1 .0, (b .1 .1 .1 .1 .1 .0, (c .1 .0, (c .1 .1 .0, tt))))))));
         finite = c .0;
         saved = c .1 .1 .1 .0;
+        reach = c .1 .1 .1 .1 .0;
       }
 
-  pub none-applies : Passed x o n infinity room bad → stretchRefusal x o n infinity room bad ≡ 0
+  pub none-applies : Passed x o n infinity room bad done → stretchRefusal x o n infinity room bad done ≡ 0
   unfolding stretchRefusal stretchTests
   none-applies a =
       let b = a .others in
       let c = b .1 .1 .1 .1 .1 in
-      first-zero (stretchTests x o n infinity room bad)
-      (a .sizes, (a .lengths, (b .0, (b .1 .0, (b .1 .1 .0, (b .1 .1 .1 .0, (b .1 .1 .1 .1 .0, (c .0, (a .finite, (c .1 .0, (c .1 .1 .0, (a .saved, tt))))))))))))
+      first-zero (stretchTests x o n infinity room bad done)
+      (a .sizes, (a .lengths, (b .0, (b .1 .0, (b .1 .1 .0, (b .1 .1 .1 .0, (b .1 .1 .1 .1 .0, (c .0, (a .finite, (c .1 .0, (c .1 .1 .0, (a .saved, (a .reach, tt)))))))))))))
 
-  -- no refusal before the run has number 12
-  pub not-twelve : stretchRefusal x o n infinity room bad ≡ 12 → ⊥
+  pub not-twelve : stretchRefusal x o n infinity room bad done ≡ 12 → ⊥
   unfolding stretchRefusal stretchTests
-  not-twelve e = subst (λ (k : ℕ). T (not (eqb k 12))) e (first-passes (λ k. not (eqb k 12)) (stretchTests x o n infinity room bad) tt tt)
+  not-twelve e = no-number 12 (stretchTests x o n infinity room bad done) tt tt e
 
 pub not-turned : (r : ℕ) (quiet : Bool) → (r ≡ 12 → ⊥) → (numberOf (endingOf r quiet) ≡ 0) ⊎ (numberOf (endingOf r quiet) ≡ 12) → r ≡ 0
 unfolding endingOf numberOf
@@ -143,15 +144,15 @@ quiet-not false e = refl
 
 module _ (x : Model) (o : Offsets) (w : From) (last : Bool) (y : List Float) (b : CovParts) (b′ : MeanParts) (save : List ℕ) where
   abbrev pub Free : Type 0
-  Free = stretchRefusal x o (length (map classOf y)) (anyOf isInfinity (map classOf y)) (roomyStretch x last b b′ save) (badFrom x w) ≡ 0
+  Free = stretchRefusal x o (length (map classOf y)) (anyOf isInfinity (map classOf y)) (roomyStretch x last b b′ save) (badFrom x w) (pastIn x w .done) ≡ 0
 
   pub free : (stretchOutcome x o w last y b b′ save .cov .refused ≡ 0) ⊎ (stretchOutcome x o w last y b b′ save .cov .refused ≡ 12) → Free
   unfolding stretchOutcome covStretch stretchEnding
-  free e = not-turned _ _ (not-twelve x o _ _ _ _) e
+  free e = not-turned _ _ (not-twelve x o _ _ _ _ _) e
 
   module _ (ready : Ready x o w) (ok : Free) where
-    all : Passed x o (length (map classOf y)) (anyOf isInfinity (map classOf y)) (roomyStretch x last b b′ save) (badFrom x w)
-    all = passes _ _ _ _ _ _ ok
+    all : Passed x o (length (map classOf y)) (anyOf isInfinity (map classOf y)) (roomyStretch x last b b′ save) (badFrom x w) (pastIn x w .done)
+    all = passes _ _ _ _ _ _ _ ok
 
     pub sizes : InRange (x .p) (x .m) (x .r) (x .n)
     sizes = sizes-pass (x .p) (x .m) (x .r) (x .n) (all .sizes)
@@ -204,7 +205,7 @@ pub again : (x : Model) (o : Offsets) (bs : List ℕ) (b : CovParts) (b′ : Mea
 unfolding pastIn meanIn meanToldIn badFrom
 again x o bs b b′ save ready e =
     let ok = free (lasting 0 x) o (resume bs) false [] b b′ save (inl e) in
-    let good : badSaved (x .p) (x .m) (x .r) 0 bs ≡ false = passes _ _ _ _ _ _ ok .saved in
+    let good : badSaved (x .p) (x .m) (x .r) 0 bs ≡ false = passes _ _ _ _ _ _ _ ok .saved in
     saved-is (lasting 0 x) o (resume bs) false [] b b′ save ready ok refl
     ∙ ap (savedOf (x .p) (x .m) (x .r)) (stays x o (carriedIn (lasting 0 x) o (resume bs)))
     ∙ saves (x .p) (x .m) (x .r) 0 bs (ready .bytes) good

@@ -1,10 +1,10 @@
 -- Laws of a numbered list of tests: what the number of the first that holds can be, and what it is of two lists in a row.
-use mathlib.Core.Path.{_≡_, refl, sym, ap, _∙_}
-use Prim.Native.Nat.{ℕ, zero, suc, _≤_, _<_}
+use mathlib.Core.Path.{_≡_, refl, sym, ap, subst, _∙_}
+use Prim.Native.Nat.{ℕ, zero, suc, _<_}
 use native.Mathlib.Omega.{arith}
-use mathlib.Core.Bool.{Bool, true, false, cond, _&&_}
+use mathlib.Core.Bool.{Bool, true, false, not, cond, _&&_}
 use mathlib.Core.List.{List, [], _∷_, _++_}
-use lib.Dec.{T, leb, ltb, leb→le, ltb→lt}
+use lib.Dec.{T, T-not, ltb, eqb, ltb→lt, eqb-refl}
 use lib.Ieee.Fits.{and-l, and-r}
 use Rattle.definition.specs.Inputs.{Model, Offsets}
 use Rattle.definition.specs.Refusals.{firstOf, tests, refusal}
@@ -28,6 +28,10 @@ first-passes q (e ∷ es) z h = pick (e .1) (and-l (q (e .0)) (numbers q es) h) 
     pick : (t : Bool) → T (q (e .0)) → T (q (firstOf es)) → T (q (cond t (e .0) (firstOf es)))
     pick true h g = h
     pick false h g = g
+
+-- so it is none that no test has
+pub no-number : (n : ℕ) (es : List (ℕ × Bool)) → T (not (eqb 0 n)) → T (numbers (λ k. not (eqb k n)) es) → firstOf es ≡ n → ⊥
+no-number n es z h e = T-not (eqb n n) (subst (λ (k : ℕ). T (not (eqb k n))) e (first-passes (λ k. not (eqb k n)) es z h)) (eqb-refl n)
 
 -- where none holds, each fails
 pub first-none : (es : List (ℕ × Bool)) → T (numbered es) → firstOf es ≡ 0 → AllOf (λ e. e .1 ≡ false) es
@@ -59,12 +63,6 @@ joined (e ∷ a) b h =
     pick true (suc k) l ih = refl
     pick false k l ih = ih
 
--- a last test that fails
-pub first-more : (es : List (ℕ × Bool)) (k : ℕ) → firstOf (es ++ ((k, false) ∷ [])) ≡ firstOf es
-unfolding firstOf
-first-more [] k = refl
-first-more (e ∷ es) k = ap (λ (r : ℕ). cond (e .1) (e .0) r) (first-more es k)
-
 or-some : (k j : ℕ) → (k ≡ 0 → ⊥) → k ≡ orElse k j
 or-some zero j h = absurd (h refl)
 or-some (suc k) j h = refl
@@ -86,6 +84,7 @@ module _ (a b : List (ℕ × Bool)) (h : T (numbered a)) where
 
 -- ---- the filter's call and the smoother's
 
-pub refusal-le : (x : Model) (o : Offsets) (readings : ℕ) (infinity room : Bool) → refusal x o readings infinity room ≤ 11
+-- no refusal before the run has number 12
+pub not-twelve : (x : Model) (o : Offsets) (readings : ℕ) (infinity room : Bool) → refusal x o readings infinity room ≡ 12 → ⊥
 unfolding refusal tests
-refusal-le x o readings infinity room = leb→le _ 11 (first-passes (λ k. leb k 11) (tests x o readings infinity room) tt tt)
+not-twelve x o readings infinity room e = no-number 12 (tests x o readings infinity room) tt tt e

@@ -1,8 +1,8 @@
-// The tests of refusals 1 and 2: the sizes, and the lengths of the lent parts.
+// The tests of refusals 1, 2 and 14: the sizes, the lengths of the lent parts, a list's reach.
 ghost use mathlib.Core.Path.{_≡_};
 ghost use mathlib.Core.Bool.{false};
 ghost use Prim.Native.Nat.{_<_};
-ghost use Rattle.definition.specs.Refusals.{beyond, outside, designFits};
+ghost use Rattle.definition.specs.Refusals.{beyond, outside, designFits, listShort};
 ghost use Rattle.definition.specs.Stretch.{outsideStretch};
 ghost use Rattle.laws.specs.Accepted.{InRange};
 ghost use Rattle.model.specs.Lengths.{lengthsFit, rooms, roomsSmoothed};
@@ -71,6 +71,14 @@ pub fn lengths_fit(
         & (p_star == m * m)
         & (flags == m)
         & (y == n * p)
+}
+
+// 14: a list of so many numbers has fewer designs than there are periods, and the call does not ask that the last be used again.
+pub fn list_short(repeats: bool, pm: usize, list: usize, periods: usize) -> bool
+    requires { ⌜ 0 < pm ⌝ }
+    ensures { λ b. ⌜ b ≡ listShort repeats pm list periods ⌝ }
+{
+    !repeats & ((list != 0) & (list / pm < periods))
 }
 
 // Each of the filter's outputs is as long as needed, for sizes in range.

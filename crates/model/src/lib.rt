@@ -5,8 +5,8 @@ ghost use Prim.Native.Nat.{_<_, _≤_, _-_, _*_, _/_, min};
 ghost use lib.ListN.{length, drop};
 ghost use Rattle.definition.specs.Run.{anyOf};
 ghost use Rattle.definition.specs.Inputs.{designFrom, noiseOf, startFrom, isInfinity, classOf};
-ghost use Rattle.definition.specs.Refusals.{firstOf, ofInputs, refusal};
-ghost use Rattle.laws.specs.Accepted.{InRange};
+ghost use Rattle.definition.specs.Refusals.{firstOf, ofEntries, refusal};
+ghost use Rattle.laws.specs.Accepted.{InRange, InputsFit};
 ghost use Rattle.dense.specs.Views.{mat};
 ghost use Rattle.promise.specs.Lent.{modelOf, offsetsOf};
 ghost use Rattle.model.specs.Design.{DesignFits};
@@ -15,22 +15,23 @@ ghost use Rattle.model.specs.Start.{covOf};
 
 mod diffuse; // P∞ and its root
 mod entries; // the tests of refusals 3 to 10
-pub mod lengths; // the tests of refusals 1 and 2
+pub mod lengths; // the tests of refusals 1, 2 and 14
 mod noise; // R Q R'
 pub mod refusals; // the refusals by segments
 
 // ---- the checks
 
-// Of sizes in range, the number of the first of refusals 2 to 11 that applies, by document 01's table; 0 for none. The
-// order is every call's; `room` says whether each output is as long as the call needs it. Where none applies rqr holds R Q R',
-// which refusal 11 looks at and the run goes by.
-pub fn refusal_of_inputs(
+// Of inputs that have their lengths, the number of the first of refusals 3 to 11 that applies, by document 01's table; 0 for
+// none. The order is every call's. Where none applies rqr holds R Q R', which refusal 11 looks at and the run goes by.
+// n and the marker `repeats` are there for the contract, which speaks of the model.
+pub fn refusal_of_entries(
     p: usize,
     m: usize,
     r: usize,
     n: usize,
     z: &[f64],
     zs: &[f64],
+    repeats: bool,
     h: &[f64],
     t: &[f64],
     rr: &[f64],
@@ -41,39 +42,18 @@ pub fn refusal_of_inputs(
     p_star: &[f64],
     flags: &[u8],
     y: &[f64],
-    room: bool,
     rqr: &mut [f64; 64],
 ) -> u8
-    requires { ⌜ InRange p m r n ⌝ }
-    ensures { λ k. ⌜ k ≡ firstOf (ofInputs
-        (modelOf p m r n (now (z .entry)) (now (zs .entry)) (now (h .entry)) (now (t .entry)) (now (rr .entry))
+    requires { ⌜ InRange p m r n × InputsFit
+        (modelOf p m r n (now z) (now zs) repeats (now h) (now t) (now rr) (now q) (now «p_star») (now flags))
+        (offsetsOf (now c) (now d) (now a1)) ⌝ }
+    ensures { λ k. ⌜ k ≡ firstOf (ofEntries
+        (modelOf p m r n (now (z .entry)) (now (zs .entry)) repeats (now (h .entry)) (now (t .entry)) (now (rr .entry))
         (now (q .entry)) (now («p_star» .entry)) (now (flags .entry)))
         (offsetsOf (now (c .entry)) (now (d .entry)) (now (a1 .entry)))
-        (length (now (y .entry))) (anyOf isInfinity (map classOf (now (y .entry)))) room)
+        (anyOf isInfinity (map classOf (now (y .entry)))))
         × (k ≡ 0 → mat m (now (rqr .exit)) ≡ noiseOf m r (now (rr .entry)) (now (q .entry))) ⌝ }
 {
-    let lengths = refusals::of_lengths(
-        p,
-        m,
-        r,
-        n,
-        z,
-        zs,
-        h,
-        t,
-        rr,
-        q,
-        c,
-        d,
-        a1,
-        p_star,
-        flags,
-        y,
-        room,
-    );
-    if lengths != 0 {
-        return lengths;
-    }
     let system = refusals::of_system(p, r, z, zs, h, t, rr, q);
     if system != 0 {
         return system;
@@ -93,7 +73,7 @@ pub fn refusal_of_inputs(
     refusals::of_step(m, r, t, rr, q, flags, rqr)
 }
 
-// The same with refusal 1 before it: the filter's call and the smoother's. `room` is what lengths::room, or
+// The first of refusals 1, 2, 14 and 3 to 11 that applies: the filter's call and the smoother's. `room` is what lengths::room, or
 // lengths::room_smoothed, says of the outputs.
 pub fn refusal(
     p: usize,
@@ -102,6 +82,7 @@ pub fn refusal(
     n: usize,
     z: &[f64],
     zs: &[f64],
+    repeats: bool,
     h: &[f64],
     t: &[f64],
     rr: &[f64],
@@ -116,7 +97,7 @@ pub fn refusal(
     rqr: &mut [f64; 64],
 ) -> u8
     ensures { λ k. ⌜ k ≡ refusal
-        (modelOf p m r n (now (z .entry)) (now (zs .entry)) (now (h .entry)) (now (t .entry)) (now (rr .entry))
+        (modelOf p m r n (now (z .entry)) (now (zs .entry)) repeats (now (h .entry)) (now (t .entry)) (now (rr .entry))
         (now (q .entry)) (now («p_star» .entry)) (now (flags .entry)))
         (offsetsOf (now (c .entry)) (now (d .entry)) (now (a1 .entry)))
         (length (now (y .entry))) (anyOf isInfinity (map classOf (now (y .entry)))) room
@@ -126,13 +107,14 @@ pub fn refusal(
     if sizes != 0 {
         return sizes;
     }
-    refusal_of_inputs(
+    let lengths = refusals::of_lengths(
         p,
         m,
         r,
         n,
         z,
         zs,
+        repeats,
         h,
         t,
         rr,
@@ -144,6 +126,32 @@ pub fn refusal(
         flags,
         y,
         room,
+    );
+    if lengths != 0 {
+        return lengths;
+    }
+    let reach = refusals::of_reach(p, m, zs, repeats, n);
+    if reach != 0 {
+        return reach;
+    }
+    refusal_of_entries(
+        p,
+        m,
+        r,
+        n,
+        z,
+        zs,
+        repeats,
+        h,
+        t,
+        rr,
+        q,
+        c,
+        d,
+        a1,
+        p_star,
+        flags,
+        y,
         rqr,
     )
 }

@@ -1,14 +1,16 @@
-// Refusals 1 to 11 by the segments of the definition's table (`ofSizes` to `ofStep`). Each function gives the number of
+// Refusals 1 to 11 and 14 by the segments of the definition's table (`ofSizes` to `ofStep`). Each function gives the number of
 // the first of its segment's tests that applies, 0 for none. A call's order is a chain of them; sizes and lengths come
 // first, since what the others require follows from these two (specs/Past).
 ghost use mathlib.Core.Path.{_≡_};
 ghost use mathlib.Core.List.{[], _∷_, map};
+ghost use Prim.Native.Nat.{_<_, _≤_, _*_};
 ghost use lib.ListN.{length};
 ghost use Rattle.definition.specs.Run.{anyOf};
 ghost use Rattle.definition.specs.Inputs.{isInfinity, classOf, noiseOf};
 ghost use Rattle.definition.specs.Refusals.{
   outside,
   badLength,
+  listShort,
   badSystem,
   notPsd,
   offDiagonal,
@@ -46,7 +48,7 @@ pub fn of_stretch_sizes(p: usize, m: usize, r: usize, n: usize) -> u8
     }
 }
 
-// 2 Length. `room` is what lengths::room says of the outputs.
+// 2 Length. `room` is what lengths::room says of the outputs; the marker `repeats` is there for the contract, which speaks of the model.
 pub fn of_lengths(
     p: usize,
     m: usize,
@@ -54,6 +56,7 @@ pub fn of_lengths(
     n: usize,
     z: &[f64],
     zs: &[f64],
+    repeats: bool,
     h: &[f64],
     t: &[f64],
     rr: &[f64],
@@ -70,7 +73,7 @@ pub fn of_lengths(
     ensures { λ k. ⌜ k ≡ firstOf ((
       2,
       badLength
-          (modelOf p m r n (now (z .entry)) (now (zs .entry)) (now (h .entry)) (now (t .entry)) (now (rr .entry))
+          (modelOf p m r n (now (z .entry)) (now (zs .entry)) repeats (now (h .entry)) (now (t .entry)) (now (rr .entry))
           (now (q .entry)) (now («p_star» .entry)) (now (flags .entry)))
           (offsetsOf (now (c .entry)) (now (d .entry)) (now (a1 .entry))) (length (now (y .entry))) room,
     ) ∷ []) ⌝ }
@@ -94,6 +97,18 @@ pub fn of_lengths(
         y.len(),
     );
     if fit & room { 0 } else { 2 }
+}
+
+// 14 ListShort, of a run of so many periods.
+pub fn of_reach(p: usize, m: usize, zs: &[f64], repeats: bool, periods: usize) -> u8
+    requires { ⌜ (0 < p) × (p ≤ 8) × (0 < m) × (m ≤ 8) ⌝ }
+    ensures { λ k. ⌜ k ≡ firstOf ((14, listShort repeats (p * m) (length (now (zs .entry))) periods) ∷ []) ⌝ }
+{
+    if lengths::list_short(repeats, p * m, zs.len(), periods) {
+        14
+    } else {
+        0
+    }
 }
 
 // 3 NonFiniteSystem, 4 NotPsd, 5 QNotDiagonal.

@@ -39,7 +39,7 @@ smoothOutcomeWithRecords x o y b b′ sm sc have =
 unfoldable pub recordsRun : Model → Offsets → List Float → List Record
 recordsRun x o y = let cs = covOf x (map classOf y) .0 in recordsBy (join (decisionsOf cs)) (meanWritten (meanOf x o cs y) innovations)
 
--- the list afterwards, like every part: refusals 1 to 11 leave it, 12 sets n·p skipped records, a run lays its own; the rest of it stays
+-- the list afterwards, like every part: a refusal before the run leaves it, 12 sets n·p skipped records, a run lays its own; the rest of it stays
 unfoldable pub listAfter : Model → Offsets → List Float → Ending → List Record → List Record
 listAfter x o y f old = after f (recordsRun x o y) (replicate (kindsNeed x) skippedRecord) old
 

@@ -19,6 +19,7 @@ pub fn filter<'a, 'o>(
     n: usize,
     z: &'a [f64],
     zs: &'a [f64],
+    repeats: bool,
     h: &'a [f64],
     t: &'a [f64],
     rr: &'a [f64],
@@ -44,7 +45,7 @@ pub fn filter<'a, 'o>(
 ) -> Listed
     ensures { λ x. ⌜ FilteredRecords
         (given p m r n
-        (now (z .entry)) (now (zs .entry)) (now (h .entry)) (now (t .entry)) (now (rr .entry)) (now (q .entry))
+        (now (z .entry)) (now (zs .entry)) repeats (now (h .entry)) (now (t .entry)) (now (rr .entry)) (now (q .entry))
         (now (c .entry)) (now (d .entry)) (now (a1 .entry)) (now («p_star» .entry)) (now (flags .entry)) (now (y .entry)))
         (lent
         (now («pred_mean» .entry)) (now («pred_cov» .entry)) (now («pred_inf» .entry))
@@ -68,6 +69,7 @@ pub fn filter<'a, 'o>(
         n,
         z,
         zs,
+        repeats,
         h,
         t,
         rr,
@@ -102,6 +104,7 @@ pub fn smooth<'a, 'o>(
     n: usize,
     z: &'a [f64],
     zs: &'a [f64],
+    repeats: bool,
     h: &'a [f64],
     t: &'a [f64],
     rr: &'a [f64],
@@ -129,7 +132,7 @@ pub fn smooth<'a, 'o>(
 ) -> Listed
     ensures { λ x. ⌜ SmoothedRecords
         (given p m r n
-        (now (z .entry)) (now (zs .entry)) (now (h .entry)) (now (t .entry)) (now (rr .entry)) (now (q .entry))
+        (now (z .entry)) (now (zs .entry)) repeats (now (h .entry)) (now (t .entry)) (now (rr .entry)) (now (q .entry))
         (now (c .entry)) (now (d .entry)) (now (a1 .entry)) (now («p_star» .entry)) (now (flags .entry)) (now (y .entry)))
         (lentSmooth
         (now («pred_mean» .entry)) (now («pred_cov» .entry)) (now («pred_inf» .entry))
@@ -155,6 +158,7 @@ pub fn smooth<'a, 'o>(
         n,
         z,
         zs,
+        repeats,
         h,
         t,
         rr,

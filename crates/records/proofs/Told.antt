@@ -20,7 +20,7 @@ use Rattle.laws.specs.Lists.{length-join}
 use Rattle.laws.specs.ReadBack.{flat-of, each-many, kinds-join}
 use Rattle.laws.specs.Shapes.{run-whole, run-length}
 use Rattle.laws.specs.Backward.{each-vs}
-use Rattle.laws.specs.Numbered.{refusal-le}
+use Rattle.laws.specs.Numbered.{not-twelve}
 use Rattle.laws.specs.Accepted.{accepted, in-range}
 use Rattle.mean_back.specs.Looked.{mean-long, mean-sized}
 use Rattle.promise.specs.Lent.{covParts, meanParts}
@@ -80,11 +80,11 @@ module _ (x : Model) (o : Offsets) (y : List Float) (w : CovParts) (w′ : MeanP
   all-filled : (k : ℕ) → toTell r (x .n * x .p) ≡ k → k ≤ length old → toldBy (x .n * x .p) r b b′ old ≡ lay (recordsOf k (b .kinds) (b′ innovations) (b .part fStar) (b .part fInf)) old
   all-filled k e l = ap (λ (j : ℕ). filled j (b .kinds) (b′ innovations) (b .part fStar) (b .part fInf) old) e ∙ filled-all k (b .kinds) (b′ innovations) (b .part fStar) (b .part fInf) old l
 
-  when-turned : (k : ℕ) → suc k ≤ 11 → Had (turned (suc k)) → Told (turned (suc k))
+  when-turned : (k : ℕ) → (suc k ≡ 12 → ⊥) → Had (turned (suc k)) → Told (turned (suc k))
   unfolding covOutcome meanOutcome numberOf answerBy listAfter after
-  when-turned k l h =
+  when-turned k q h =
       let e : r ≡ Refused (suc k) = h .answer in
-      let z : toTell r (x .n * x .p) ≡ 0 = ap (λ (s : Outcome). toTell s (x .n * x .p)) e ∙ ap (λ (t : Bool). cond t (x .n * x .p) 0) (ne-eqb (suc k) 12 (λ q. omega arith)) in
+      let z : toTell r (x .n * x .p) ≡ 0 = ap (λ (s : Outcome). toTell s (x .n * x .p)) e ∙ ap (λ (t : Bool). cond t (x .n * x .p) 0) (ne-eqb (suc k) 12 q) in
       ap (λ (j : ℕ). filled j (b .kinds) (b′ innovations) (b .part fStar) (b .part fInf) old) z ∙ filled-none (b .kinds) (b′ innovations) (b .part fStar) (b .part fInf) old
 
   when-silent : x .n * x .p ≤ length old → Had silent → Told silent
@@ -119,7 +119,7 @@ module _ (x : Model) (o : Offsets) (y : List Float) (w : CovParts) (w′ : MeanP
             at : (k : ℕ) (q : Bool) → refusal x o (length (map classOf y)) (anyOf isInfinity (map classOf y)) room ≡ k → Had (endingOf k q) → Told (endingOf k q)
             at zero true e g = when-silent (has (accepted x o _ _ room e .roomy)) g
             at zero false e g = let a = accepted x o _ _ room e in when-answered (a .readings) (a .inputs .a1) (has (a .roomy)) g
-            at (suc k) q e g = when-turned k (subst (λ (j : ℕ). j ≤ 11) e (refusal-le x o _ _ room)) g
+            at (suc k) q e g = when-turned k (λ t. not-twelve x o _ _ room (e ∙ t)) g
 
     -- out of range nothing is told, so n·p fits where it is asked
     refused-one : outside (x .p) (x .m) (x .r) (x .n) ≡ true → r ≡ Refused 1

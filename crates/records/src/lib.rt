@@ -53,6 +53,7 @@ fn flat<'a, 'o, 'l>(
     n: usize,
     z: &'a [f64],
     zs: &'a [f64],
+    repeats: bool,
     h: &'a [f64],
     t: &'a [f64],
     rr: &'a [f64],
@@ -76,7 +77,7 @@ fn flat<'a, 'o, 'l>(
     m_inf: &'o mut [f64],
     have: usize,
 ) -> promise::Outcome
-    ensures { λ o. ⌜ Promise (outcomeWithRecords (modelOf p m r n (now (z .entry)) (now (zs .entry)) (now (h .entry)) (now (t .entry)) (now (rr .entry)) (now (q .entry)) (now («p_star» .entry)) (now (flags .entry)))
+    ensures { λ o. ⌜ Promise (outcomeWithRecords (modelOf p m r n (now (z .entry)) (now (zs .entry)) repeats (now (h .entry)) (now (t .entry)) (now (rr .entry)) (now (q .entry)) (now («p_star» .entry)) (now (flags .entry)))
         (offsetsOf (now (c .entry)) (now (d .entry)) (now (a1 .entry))) (now (y .entry))
         (covParts (now («pred_cov» .entry)) (now («pred_inf» .entry)) (now («filt_cov» .entry)) (now (kinds .entry)) (now («f_star» .entry)) (now («f_inf» .entry)) (now («m_star» .entry)) (now («m_inf» .entry)))
         (meanParts (now («pred_mean» .entry)) (now («filt_mean» .entry)) (now (v .entry))) have) o
@@ -93,6 +94,7 @@ fn flat<'a, 'o, 'l>(
         n,
         z,
         zs,
+        repeats,
         h,
         t,
         rr,
@@ -125,6 +127,7 @@ pub fn filter_records<'a, 'o>(
     n: usize,
     z: &'a [f64],
     zs: &'a [f64],
+    repeats: bool,
     h: &'a [f64],
     t: &'a [f64],
     rr: &'a [f64],
@@ -150,7 +153,7 @@ pub fn filter_records<'a, 'o>(
 ) -> promise::Outcome
     ensures { λ o. ⌜ FilteredRecords
         (given p m r n
-        (now (z .entry)) (now (zs .entry)) (now (h .entry)) (now (t .entry)) (now (rr .entry)) (now (q .entry))
+        (now (z .entry)) (now (zs .entry)) repeats (now (h .entry)) (now (t .entry)) (now (rr .entry)) (now (q .entry))
         (now (c .entry)) (now (d .entry)) (now (a1 .entry)) (now («p_star» .entry)) (now (flags .entry)) (now (y .entry)))
         (lent
         (now («pred_mean» .entry)) (now («pred_cov» .entry)) (now («pred_inf» .entry))
@@ -174,6 +177,7 @@ pub fn filter_records<'a, 'o>(
         n,
         z,
         zs,
+        repeats,
         h,
         t,
         rr,

@@ -13,6 +13,7 @@ fn flat_smooth<'a, 'o, 'l>(
     n: usize,
     z: &'a [f64],
     zs: &'a [f64],
+    repeats: bool,
     h: &'a [f64],
     t: &'a [f64],
     rr: &'a [f64],
@@ -38,7 +39,7 @@ fn flat_smooth<'a, 'o, 'l>(
     sm_cov: &'o mut [f64],
     have: usize,
 ) -> promise::Outcome
-    ensures { λ o. ⌜ PromiseSmooth (smoothOutcomeWithRecords (modelOf p m r n (now (z .entry)) (now (zs .entry)) (now (h .entry)) (now (t .entry)) (now (rr .entry)) (now (q .entry)) (now («p_star» .entry)) (now (flags .entry)))
+    ensures { λ o. ⌜ PromiseSmooth (smoothOutcomeWithRecords (modelOf p m r n (now (z .entry)) (now (zs .entry)) repeats (now (h .entry)) (now (t .entry)) (now (rr .entry)) (now (q .entry)) (now («p_star» .entry)) (now (flags .entry)))
         (offsetsOf (now (c .entry)) (now (d .entry)) (now (a1 .entry))) (now (y .entry))
         (covParts (now («pred_cov» .entry)) (now («pred_inf» .entry)) (now («filt_cov» .entry)) (now (kinds .entry)) (now («f_star» .entry)) (now («f_inf» .entry)) (now («m_star» .entry)) (now («m_inf» .entry)))
         (meanParts (now («pred_mean» .entry)) (now («filt_mean» .entry)) (now (v .entry))) (now («sm_mean» .entry)) (now («sm_cov» .entry)) have) o
@@ -55,6 +56,7 @@ fn flat_smooth<'a, 'o, 'l>(
         n,
         z,
         zs,
+        repeats,
         h,
         t,
         rr,
@@ -89,6 +91,7 @@ pub fn smooth_records<'a, 'o>(
     n: usize,
     z: &'a [f64],
     zs: &'a [f64],
+    repeats: bool,
     h: &'a [f64],
     t: &'a [f64],
     rr: &'a [f64],
@@ -116,7 +119,7 @@ pub fn smooth_records<'a, 'o>(
 ) -> promise::Outcome
     ensures { λ o. ⌜ SmoothedRecords
         (given p m r n
-        (now (z .entry)) (now (zs .entry)) (now (h .entry)) (now (t .entry)) (now (rr .entry)) (now (q .entry))
+        (now (z .entry)) (now (zs .entry)) repeats (now (h .entry)) (now (t .entry)) (now (rr .entry)) (now (q .entry))
         (now (c .entry)) (now (d .entry)) (now (a1 .entry)) (now («p_star» .entry)) (now (flags .entry)) (now (y .entry)))
         (lentSmooth
         (now («pred_mean» .entry)) (now («pred_cov» .entry)) (now («pred_inf» .entry))
@@ -142,6 +145,7 @@ pub fn smooth_records<'a, 'o>(
         n,
         z,
         zs,
+        repeats,
         h,
         t,
         rr,

@@ -11,6 +11,7 @@ use crate::words::PATTERN;
 use crate::words::PATTERN_BYTE;
 use crate::words::Span;
 use crate::words::lent;
+use crate::words::marked;
 use crate::words::size;
 use crate::words::stretch;
 use crate::words::wide;
@@ -45,24 +46,24 @@ fn flags<'a>(low: &'a [u8], case: &[u8]) -> &'a [u8] {
     &low[a..b]
 }
 
-// The answer against the case's: words 33 to 38.
+// The answer against the case's: words 34 to 39.
 fn answer(case: &[u8], o: Outcome, refusal: u64) -> Found {
     let f = crate::found::nothing();
     match o {
         Outcome::Refused(k) => compare(f, 0, 0, refusal, k as u64),
         Outcome::Answered(a) => {
             let f = compare(f, 0, 0, refusal, 0);
-            let f = compare(f, 1, 0, word(case, 33), bits::pattern(a.loglik));
-            let f = compare(f, 2, 0, word(case, 34), a.d_diffuse as u64);
-            let f = compare(f, 3, 0, word(case, 35), a.heard as u64);
-            let f = compare(f, 4, 0, word(case, 36), a.news as u64);
-            let f = compare(f, 5, 0, word(case, 37), a.cov_off as u64);
-            compare(f, 6, 0, word(case, 38), a.mean_off as u64)
+            let f = compare(f, 1, 0, word(case, 34), bits::pattern(a.loglik));
+            let f = compare(f, 2, 0, word(case, 35), a.d_diffuse as u64);
+            let f = compare(f, 3, 0, word(case, 36), a.heard as u64);
+            let f = compare(f, 4, 0, word(case, 37), a.news as u64);
+            let f = compare(f, 5, 0, word(case, 38), a.cov_off as u64);
+            compare(f, 6, 0, word(case, 39), a.mean_off as u64)
         }
     }
 }
 
-// A call that is refused 1 to 11 writes nothing.
+// A call that is refused writes nothing, but for refusal 12.
 fn writes(refusal: u64) -> bool {
     (refusal == 0) | (refusal == 12)
 }
@@ -221,7 +222,7 @@ fn patterned_records() -> [Record; 1024] {
     }; 1024]
 }
 
-// The first difference of the filter's call. Word 31 has its refusal.
+// The first difference of the filter's call. Word 32 has its refusal.
 pub fn filtered<'a>(case: &[u8], numbers: &'a [f64], low: &'a [u8]) -> Found {
     let mut pred_mean = patterned();
     let mut pred_cov = patterned();
@@ -252,6 +253,7 @@ pub fn filtered<'a>(case: &[u8], numbers: &'a [f64], low: &'a [u8]) -> Found {
         size(case, 5),
         input(numbers, case, 0),
         input(numbers, case, 1),
+        marked(case),
         input(numbers, case, 2),
         input(numbers, case, 3),
         input(numbers, case, 4),
@@ -277,7 +279,7 @@ pub fn filtered<'a>(case: &[u8], numbers: &'a [f64], low: &'a [u8]) -> Found {
     );
     let o = x.outcome;
     let list = x.records;
-    let refusal = word(case, 31);
+    let refusal = word(case, 32);
     let f = answer(case, o, refusal);
     let f = moments(
         f,
@@ -303,7 +305,7 @@ pub fn filtered<'a>(case: &[u8], numbers: &'a [f64], low: &'a [u8]) -> Found {
     list_output(f, list, case, refusal)
 }
 
-// The first difference of the smoother's call. Word 32 has its refusal.
+// The first difference of the smoother's call. Word 33 has its refusal.
 pub fn smoothed<'a>(case: &[u8], numbers: &'a [f64], low: &'a [u8]) -> Found {
     let mut pred_mean = patterned();
     let mut pred_cov = patterned();
@@ -338,6 +340,7 @@ pub fn smoothed<'a>(case: &[u8], numbers: &'a [f64], low: &'a [u8]) -> Found {
         size(case, 5),
         input(numbers, case, 0),
         input(numbers, case, 1),
+        marked(case),
         input(numbers, case, 2),
         input(numbers, case, 3),
         input(numbers, case, 4),
@@ -365,7 +368,7 @@ pub fn smoothed<'a>(case: &[u8], numbers: &'a [f64], low: &'a [u8]) -> Found {
     );
     let o = x.outcome;
     let list = x.records;
-    let refusal = word(case, 32);
+    let refusal = word(case, 33);
     let f = answer(case, o, refusal);
     let f = moments(
         f,

@@ -6,7 +6,7 @@ ghost use lib.ListN.{length};
 // The most words of a case, and its head.
 const WORDS: usize = 8192;
 
-const HEAD: usize = 52;
+const HEAD: usize = 53;
 
 // The most places of a part: of the listed designs, and of any other.
 const LISTED: usize = 4097;
@@ -50,12 +50,17 @@ pub fn size(case: &[u8], k: usize) -> usize {
     word(case, k) as usize
 }
 
+// Whether the last listed design repeats.
+pub fn marked(case: &[u8]) -> bool {
+    word(case, 6) != 0
+}
+
 // The places lent of output k.
 pub fn lent(case: &[u8], k: usize) -> usize
     requires { ⌜ k < 13 ⌝ }
     ensures { λ r. ⌜ r ≤ 1024 ⌝ }
 {
-    least(size(case, 18 + k), LENT)
+    least(size(case, 19 + k), LENT)
 }
 
 // The places of part j that the file has: the twelve inputs, then what is written of the thirteen outputs.
@@ -64,9 +69,9 @@ fn places(case: &[u8], j: usize) -> usize
     ensures { λ r. ⌜ r ≤ 4097 ⌝ }
 {
     if j < 12 {
-        return least(size(case, 6 + j), LISTED);
+        return least(size(case, 7 + j), LISTED);
     }
-    least(size(case, 27 + j), LISTED)
+    least(size(case, 28 + j), LISTED)
 }
 
 // Where part j begins.

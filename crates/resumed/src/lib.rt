@@ -48,6 +48,7 @@ pub fn estimate(
         n,
         &clock::design(),
         &[],
+        false,
         &clock::noise(s),
         &clock::transition(s),
         &clock::identity(),

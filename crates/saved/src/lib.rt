@@ -17,6 +17,7 @@ ghost use Rattle.definition.specs.Saved.{
   widths,
   wrongCount,
   numbersIn,
+  doneIn,
   otherNan,
   badSizes,
   badTallies,
@@ -185,7 +186,15 @@ pub fn load(saved: &[u8], p: usize, m: usize, r: usize, n: usize, state: &mut [f
     wrong_count(saved, m) | bad_tallies(saved, p, m) | floats
 }
 
-// How far the saved run had come.
+// How many periods the saved run had done.
+pub fn done(saved: &[u8], m: usize) -> usize
+    requires { ⌜ (m ≤ 8) × (length (now saved) ≡ whole m) ⌝ }
+    ensures { λ k. ⌜ k ≡ doneIn (numbersIn (widths m) (now (saved .entry))) ⌝ }
+{
+    eight(saved, 28) as usize
+}
+
+// How far it had come.
 pub fn load_tallies(saved: &[u8], m: usize) -> Tallies
     requires { ⌜ (m ≤ 8) × (length (now saved) ≡ whole m) ⌝ }
     ensures { λ t. ⌜ LoadedTallies (numbersIn (widths m) (now (saved .entry))) t ⌝ }
@@ -201,7 +210,7 @@ pub fn load_tallies(saved: &[u8], m: usize) -> Tallies
         mean_off: eight(saved, at + 44) as usize,
     };
     Tallies {
-        done: eight(saved, 28) as usize,
+        done: done(saved, m),
         live: eight(saved, at + 28) == 1,
         answer,
     }

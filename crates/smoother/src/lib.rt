@@ -10,6 +10,7 @@ pub fn smooth_univariate<'a>(
     n: usize,
     z: &'a [f64],
     zs: &'a [f64],
+    repeats: bool,
     h: &[f64],
     t: &[f64],
     rr: &[f64],
@@ -36,7 +37,7 @@ pub fn smooth_univariate<'a>(
 ) -> promise::Outcome
     ensures { λ o. ⌜ Smoothed
         (given p m r n
-        (now (z .entry)) (now (zs .entry)) (now (h .entry)) (now (t .entry)) (now (rr .entry)) (now (q .entry))
+        (now (z .entry)) (now (zs .entry)) repeats (now (h .entry)) (now (t .entry)) (now (rr .entry)) (now (q .entry))
         (now (c .entry)) (now (d .entry)) (now (a1 .entry)) (now («p_star» .entry)) (now (flags .entry)) (now (y .entry)))
         (lentSmooth
         (now («pred_mean» .entry)) (now («pred_cov» .entry)) (now («pred_inf» .entry))
@@ -79,6 +80,7 @@ pub fn smooth_univariate<'a>(
         n,
         z,
         zs,
+        repeats,
         h,
         t,
         rr,
@@ -103,6 +105,7 @@ pub fn smooth_univariate<'a>(
         n,
         z,
         zs,
+        repeats,
         h,
         t,
         rr,

@@ -11,7 +11,7 @@ use Rattle.definition.specs.Run.{anyOf, lay}
 use Rattle.definition.specs.Inputs.{Model, Offsets, classOf, isInfinity, noise}
 use Rattle.definition.specs.Outcome.{CovParts, MeanParts, endingOf, numberOf, roomy}
 use Rattle.definition.specs.Carried.{Carried, Past}
-use Rattle.definition.specs.Saved.{savedNeed, badSaved, savedOf}
+use Rattle.definition.specs.Saved.{savedNeed, badSaved, savedOf, widths, numbersIn, doneIn}
 use Rattle.definition.specs.Stretch.{From, pastIn, carriedIn, badFrom, stretchRefusal, roomyStretch, stretchOutcome}
 use Rattle.laws.specs.Accepted.{InRange, InputsFit, inputs-fit, lengths-pass, Roomy}
 use Rattle.laws.specs.AcceptedStretch.{passes, sizes-pass}
@@ -47,11 +47,11 @@ module _ (x : Model) (o : Offsets) (y : List Float) (begins : Bool) (saved : Lis
 
   -- what `refusal` says of the lengths and the bytes is the definition's number
   abbrev Checked : ℕ → Type 0
-  Checked k = k ≡ stretchRefusal x o (length y) (anyOf isInfinity (map classOf y)) (roomsOf x w w′ && (last || leb (savedNeed (x .m)) (length save))) (cond begins (not (eqb (length saved) 0)) (badSaved (x .p) (x .m) (x .r) (x .n) saved))
+  Checked k = k ≡ stretchRefusal x o (length y) (anyOf isInfinity (map classOf y)) (roomsOf x w w′ && (last || leb (savedNeed (x .m)) (length save))) (cond begins (not (eqb (length saved) 0)) (badSaved (x .p) (x .m) (x .r) (x .n) saved)) (cond begins 0 (doneIn (numbersIn (widths (x .m)) saved)))
 
   checked : {k : ℕ} → Checked k → k ≡ stands.number x o y from last w w′ save
   unfolding roomyStretch badFrom
-  checked e = e ∙ ap (λ (u : Bool). stretchRefusal x o (length y) (anyOf isInfinity (map classOf y)) (u && (last || leb (savedNeed (x .m)) (length save))) (badFrom x from)) (sym (rooms-are x w w′))
+  checked e = e ∙ ap (λ (d : ℕ). stretchRefusal x o (length y) (anyOf isInfinity (map classOf y)) (roomsOf x w w′ && (last || leb (savedNeed (x .m)) (length save))) (badFrom x from) d) (entered.done-is x begins saved) ∙ ap (λ (u : Bool). stretchRefusal x o (length y) (anyOf isInfinity (map classOf y)) (u && (last || leb (savedNeed (x .m)) (length save))) (badFrom x from) (pastIn x from .done)) (sym (rooms-are x w w′))
 
   pub refused : {k : ℕ} → 0 < k → Checked k → PromiseStretch (stretchOutcome x o from last y w w′ save) (Refused k) w w′ save
   refused {k} h e = stands.refused x o y from last w w′ save k h (checked e)
@@ -63,15 +63,15 @@ module _ (x : Model) (o : Offsets) (y : List Float) (begins : Bool) (saved : Lis
     zero-is = let e = checked check in omega arith
 
     pub sizes : InRange (x .p) (x .m) (x .r) (x .n)
-    sizes = sizes-pass (x .p) (x .m) (x .r) (x .n) (passes x o _ _ _ _ zero-is .sizes)
+    sizes = sizes-pass (x .p) (x .m) (x .r) (x .n) (passes x o _ _ _ _ _ zero-is .sizes)
 
     inputs : InputsFit x o × (length y ≡ x .n * x .p) × (roomyStretch x last w w′ save ≡ true)
     inputs =
-        let l = lengths-pass x o _ _ (passes x o _ _ _ _ zero-is .lengths) in
+        let l = lengths-pass x o _ _ (passes x o _ _ _ _ _ zero-is .lengths) in
         (inputs-fit x o (l .0), l .1, l .2)
 
     good : badFrom x from ≡ false
-    good = passes x o _ _ _ _ zero-is .saved
+    good = passes x o _ _ _ _ _ zero-is .saved
 
     room : Roomy x w w′ × (last ≡ false → savedNeed (x .m) ≤ length save)
     room = room-to-save x last w w′ save (inputs .2)

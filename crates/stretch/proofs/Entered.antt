@@ -13,7 +13,7 @@ use Rattle.definition.specs.Num.{0ᶠ}
 use Rattle.definition.specs.Cov.{Cov}
 use Rattle.definition.specs.Inputs.{Model, Offsets, startFrom, startInf, startRoot, startOf}
 use Rattle.definition.specs.Carried.{Past, begunPast, begunMean}
-use Rattle.definition.specs.Saved.{savedNeed, badSaved, loadedPast}
+use Rattle.definition.specs.Saved.{savedNeed, badSaved, widths, numbersIn, doneIn, loadedPast}
 use Rattle.definition.specs.Stretch.{From, pastIn, meanIn, meanToldIn, carriedIn, badFrom}
 use Rattle.laws.specs.Lists.{length-tab}
 use Rattle.laws.specs.Accepted.{InRange}
@@ -59,6 +59,12 @@ pub stands : (x : Model) (o : Offsets) (begins : Bool) (saved : List ℕ)
 unfolding pastIn meanIn meanToldIn begunPast begunMean startOf
 stands x o true saved = refl
 stands x o false saved = refl
+
+-- the periods done before
+pub done-is : (x : Model) (begins : Bool) (saved : List ℕ) → cond begins 0 (doneIn (numbersIn (widths (x .m)) saved)) ≡ pastIn x (record { begins = begins; saved = saved }) .done
+unfolding pastIn begunPast loadedPast
+done-is x true saved = refl
+done-is x false saved = refl
 
 -- past refusal 15: the bytes have their length, and the tallies are small
 pub long-enough : (x : Model) (begins : Bool) (saved : List ℕ) → badFrom x (record { begins = begins; saved = saved }) ≡ false → begins ≡ false → length saved ≡ savedNeed (x .m)

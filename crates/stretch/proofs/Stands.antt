@@ -45,6 +45,7 @@ withList x zs =
       n = x .n;
       zOnce = x .zOnce;
       zList = zs;
+      repeats = x .repeats;
       h = x .h;
       t = x .t;
       rr = x .rr;
@@ -191,14 +192,14 @@ module _ (x : Model) (o : Offsets) (y : List Float) where
 -- ---- the call
 
 module _ (x : Model) (o : Offsets) (y : List Float) (from : From) (last : Bool) (w : CovParts) (w′ : MeanParts) (save : List ℕ) where
-  -- the number of the first of refusals 1 to 11 and 15 that applies, 0 for none
+  -- the number of the first refusal before the run that applies, 0 for none
   abbrev pub number : ℕ
-  number = stretchRefusal x o (length y) (anyOf isInfinity (map classOf y)) (roomyStretch x last w w′ save) (badFrom x from)
+  number = stretchRefusal x o (length y) (anyOf isInfinity (map classOf y)) (roomyStretch x last w w′ save) (badFrom x from) (pastIn x from .done)
 
-  by-number : (k : ℕ) → k ≡ number → (c : Past)
+  by-number : (k : ℕ) → k ≡ number → (c : Past) → c .done ≡ pastIn x from .done
       → stretchEnding x o c (badFrom x from) last (map classOf y) (roomyStretch x last w w′ save) ≡ endingOf k (last && noInformation (pastOn x c (map classOf y) .counts))
   unfolding stretchEnding
-  by-number k e c = rw (length-map, e) refl
+  by-number k e c d = rw (length-map, d, e) refl
 
   -- the outcome, by where the run stands and how the call ends
   abbrev Of : Carried → Ending → StretchOutcome
@@ -215,7 +216,7 @@ module _ (x : Model) (o : Offsets) (y : List Float) (from : From) (last : Bool) 
   unfolding endingOf covStretch meanStretch saveStretch answerBy numberOf after
   refused zero h e = absurd (omega arith)
   refused (suc k) h e =
-      rw (by-ending (carriedIn x o from) (turned (suc k)) refl (by-number (suc k) e (pastIn x from)))
+      rw (by-ending (carriedIn x o from) (turned (suc k)) refl (by-number (suc k) e (pastIn x from) refl))
       (record { filter = record { answer = refl; kinds = refl; cov = λ q. refl; mean = λ q. refl }; save = refl })
 
   pub told : {k : ℕ} → k ≤ 0 → k ≡ number
@@ -231,5 +232,5 @@ module _ (x : Model) (o : Offsets) (y : List Float) (from : From) (last : Bool) 
       let zero-is : 0 ≡ number = omega arith in
       let c = carriedOf (x .m) s t in
       let f : stretchEnding x o (c .past) (badFrom x from) last (map classOf y) (roomyStretch x last w w′ save) ≡ endingOf 0 (e .silent) =
-      by-number 0 zero-is (c .past) ∙ ap (endingOf 0) (sym (silent-here x o y s t some positive designs ran)) in
+      by-number 0 zero-is (c .past) (ap (λ (c : Carried). c .past .done) stands) ∙ ap (endingOf 0) (sym (silent-here x o y s t some positive designs ran)) in
       rw (said, by-ending c (endingOf 0 (e .silent)) stands f) (ended x o y s t some positive designs ran fits save save′ kept)

@@ -8,7 +8,7 @@ ghost use lib.Dec.{eqb, leb};
 ghost use Rattle.definition.specs.Run.{anyOf, lay};
 ghost use Rattle.definition.specs.Inputs.{isInfinity, classOf};
 ghost use Rattle.definition.specs.Refusals.{firstOf};
-ghost use Rattle.definition.specs.Saved.{savedNeed, badSaved, savedOf};
+ghost use Rattle.definition.specs.Saved.{savedNeed, badSaved, savedOf, widths, numbersIn, doneIn};
 ghost use Rattle.definition.specs.Stretch.{stretchRefusal};
 ghost use Rattle.laws.specs.Accepted.{InRange};
 ghost use Rattle.laws.specs.SavedBack.{loaded};
@@ -53,8 +53,19 @@ fn room_to_save(last: bool, save: usize, m: usize) -> bool
     last | (120 + m * 8 + m * m * 32 <= save)
 }
 
-// Refusals 1 to 11 and 15, of the inputs and of the outputs' lengths; 0: none. What the tests have worked out is handed on: R Q R', and the
-// state of a run that goes on.
+// The periods done before this stretch.
+fn done_before(begins: bool, saved: &[u8], m: usize) -> usize
+    requires { ⌜ (m ≤ 8) × (begins ≡ false → length (now saved) ≡ savedNeed m) ⌝ }
+    ensures { λ k. ⌜ k ≡ cond begins 0 (doneIn (numbersIn (widths m) (now (saved .entry)))) ⌝ }
+{
+    if begins {
+        return 0;
+    }
+    saved::done(saved, m)
+}
+
+// Refusals 1 to 11, 15 and 14, of the inputs and of the outputs' lengths; 0: none. What the tests have worked out is handed on: R Q R', and
+// the state of a run that goes on.
 fn refusal(
     p: usize,
     m: usize,
@@ -62,6 +73,7 @@ fn refusal(
     n: usize,
     z: &[f64],
     zs: &[f64],
+    repeats: bool,
     h: &[f64],
     t: &[f64],
     rr: &[f64],
@@ -92,11 +104,12 @@ fn refusal(
 ) -> u8
     requires { ⌜ length (now state) ≡ 264 ⌝ }
     ensures { λ k. ⌜ Checks k (stretchRefusal
-        (modelOf p m r n (now (z .entry)) (now (zs .entry)) (now (h .entry)) (now (t .entry)) (now (rr .entry)) (now (q .entry)) (now («p_star» .entry)) (now (flags .entry)))
+        (modelOf p m r n (now (z .entry)) (now (zs .entry)) repeats (now (h .entry)) (now (t .entry)) (now (rr .entry)) (now (q .entry)) (now («p_star» .entry)) (now (flags .entry)))
         (offsetsOf (now (c .entry)) (now (d .entry)) (now (a1 .entry)))
         (length (now (y .entry))) (anyOf isInfinity (map classOf (now (y .entry))))
         (rooms p m n «pred_mean» «pred_cov» «pred_inf» «filt_mean» «filt_cov» kinds v «f_star» «f_inf» «m_star» «m_inf» && (last || leb (savedNeed m) save))
-        (cond begins (not (eqb (length (now (saved .entry))) 0)) (badSaved p m r n (now (saved .entry)))))
+        (cond begins (not (eqb (length (now (saved .entry))) 0)) (badSaved p m r n (now (saved .entry))))
+        (cond begins 0 (doneIn (numbersIn (widths m) (now (saved .entry))))))
         m r (now (rr .entry)) (now (q .entry)) (now (rqr .exit)) begins (now (saved .entry)) (now (state .exit)) ⌝ }
 {
     let sizes = model::refusals::of_stretch_sizes(p, m, r, n);
@@ -121,13 +134,14 @@ fn refusal(
         m_inf,
     );
     let room = parts & room_to_save(last, save, m);
-    let inputs = model::refusal_of_inputs(
+    let lengths = model::refusals::of_lengths(
         p,
         m,
         r,
         n,
         z,
         zs,
+        repeats,
         h,
         t,
         rr,
@@ -139,12 +153,39 @@ fn refusal(
         flags,
         y,
         room,
+    );
+    if lengths != 0 {
+        return lengths;
+    }
+    let entries = model::refusal_of_entries(
+        p,
+        m,
+        r,
+        n,
+        z,
+        zs,
+        repeats,
+        h,
+        t,
+        rr,
+        q,
+        c,
+        d,
+        a1,
+        p_star,
+        flags,
+        y,
         rqr,
     );
-    if inputs != 0 {
-        return inputs;
+    if entries != 0 {
+        return entries;
     }
-    of_saved(begins, saved, p, m, r, n, state)
+    let bytes = of_saved(begins, saved, p, m, r, n, state);
+    if bytes != 0 {
+        return bytes;
+    }
+    let done = done_before(begins, saved, m);
+    model::refusals::of_reach(p, m, zs, repeats, done + n)
 }
 
 // ---- where the run stands
@@ -226,6 +267,7 @@ pub fn stretch<'a>(
     n: usize,
     z: &'a [f64],
     zs: &'a [f64],
+    repeats: bool,
     h: &[f64],
     t: &[f64],
     rr: &[f64],
@@ -255,7 +297,7 @@ pub fn stretch<'a>(
     ensures { λ o. ⌜ Stretched
         (givenStretch
         (given p m r n
-        (now (z .entry)) (now (zs .entry)) (now (h .entry)) (now (t .entry)) (now (rr .entry)) (now (q .entry))
+        (now (z .entry)) (now (zs .entry)) repeats (now (h .entry)) (now (t .entry)) (now (rr .entry)) (now (q .entry))
         (now (c .entry)) (now (d .entry)) (now (a1 .entry)) (now («p_star» .entry)) (now (flags .entry)) (now (y .entry)))
         begins (now (saved .entry)) last)
         (lentStretch
@@ -283,6 +325,7 @@ pub fn stretch<'a>(
         n,
         z,
         zs,
+        repeats,
         h,
         t,
         rr,
@@ -324,6 +367,7 @@ pub fn stretch<'a>(
         n,
         z,
         left,
+        repeats,
         h,
         t,
         rr,

@@ -178,6 +178,7 @@ fn fault(k: u8) {
         5 => io::write_all(ERRORS, b"QNotDiagonal"),
         7 => io::write_all(ERRORS, b"StartShape"),
         8 => io::write_all(ERRORS, b"NonDiagonalH"),
+        14 => io::write_all(ERRORS, b"ListShort"),
         _ => io::write_all(ERRORS, b"MixedDriven"),
     }
     ;
@@ -189,7 +190,7 @@ fn fault(k: u8) {
 
 fn is_fault(k: u8) -> bool {
     match k {
-        2 | 4 | 5 | 7 | 8 | 10 => true,
+        2 | 4 | 5 | 7 | 8 | 10 | 14 => true,
         _ => false,
     }
 }

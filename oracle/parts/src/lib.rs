@@ -1,12 +1,14 @@
 //! The parts of a call: what is lent, what is answered, the sizes and
-//! lengths, refusals 1 to 10 of document 01, and a saved run's bytes.
+//! lengths, refusals 1 to 10 of document 01, 14 of document 02, and a saved
+//! run's bytes.
 
 mod refusals;
 mod saved;
 
 pub use refusals::{
-    bad_dimension, bad_length, bad_start_shape, first_refusal, infinite_reading, mixed_driven,
-    non_diagonal_h, non_finite_start, non_finite_system, not_psd, q_not_diagonal, stretch_refusal,
+    bad_dimension, bad_length, bad_start_shape, first_refusal, infinite_reading, list_short,
+    mixed_driven, non_diagonal_h, non_finite_start, non_finite_system, not_psd, q_not_diagonal,
+    stretch_refusal,
 };
 pub use saved::{decode, encode, saved_len, section_counts, Carried, SAVED_NAN};
 
@@ -26,6 +28,9 @@ pub struct Inputs<'a> {
     pub z: &'a [f64],
     /// The listed designs, or empty.
     pub zs: &'a [f64],
+    /// Whether the last listed design stands for all after it (document 02,
+    /// request d): any byte but 0. Void for a constant design.
+    pub repeats: u8,
     pub h: &'a [f64],
     pub t: &'a [f64],
     pub rr: &'a [f64],
@@ -89,7 +94,7 @@ pub struct Answer {
     pub mean_off: usize,
 }
 
-/// An answer, or the number of a refusal: 1 to 12, and 15 of a stretch.
+/// An answer, or the number of a refusal: 1 to 12, 14, and 15 of a stretch.
 pub type Outcome = Result<Answer, u32>;
 
 /// Count of a filter's output parts.

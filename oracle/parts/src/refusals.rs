@@ -1,6 +1,7 @@
-//! Refusals 1 to 10 of document 01, each as a test of its own, and the first
-//! that applies. Refusal 11 needs R·Q·R' and stands with the call; 12 is
-//! judged after the run.
+//! Refusals 1 to 10 of document 01 and 14 of document 02, each as a test of
+//! its own, and the first that applies. Refusal 11 needs R·Q·R' and stands
+//! with the call; 12 is judged after the run; 14 of a stretch, which counts
+//! from the run's first period, after the saved bytes.
 
 use crate::{needed, saved_len, Inputs, MAX_PERIODS, MAX_SIZE};
 
@@ -36,6 +37,12 @@ pub fn bad_length(i: &Inputs<'_>, lent: &[usize]) -> bool {
         && i.y.len() == n * p;
     let outputs_ok = lent.iter().zip(needed(p, m, n)).all(|(&l, k)| l >= k);
     !(z_ok && inputs_ok && outputs_ok)
+}
+
+/// 14: a list is given, unmarked, and it holds fewer designs than the run has
+/// periods. Sizes and lengths must be right.
+pub fn list_short(i: &Inputs<'_>, periods: usize) -> bool {
+    !i.zs.is_empty() && i.repeats == 0 && i.zs.len() / (i.p * i.m) < periods
 }
 
 fn some_non_finite(x: &[f64]) -> bool {
@@ -101,13 +108,16 @@ pub fn mixed_driven(i: &Inputs<'_>) -> bool {
     (0..m).any(|a| (0..m).any(|b| i.flags[a] == 0 && i.flags[b] != 0 && i.t[a * m + b] != 0.0))
 }
 
-/// The first of refusals 1 to 10 that applies.
+/// The first of refusals 1, 2, 14 and 3 to 10 that applies.
 pub fn first_refusal(i: &Inputs<'_>, lent: &[usize]) -> Option<u32> {
     if bad_dimension(i) {
         return Some(1);
     }
     if bad_length(i, lent) {
         return Some(2);
+    }
+    if list_short(i, i.n) {
+        return Some(14);
     }
     after_lengths(i)
 }

@@ -1,10 +1,11 @@
 //! The whole call of document 01: refusals in order, the run, the outputs
 //! row by row into their lent parts, the answer. And a stretch's, document
-//! 02's request e. The answer's two reports are request h's.
+//! 02's request e. The answer's two reports are request h's, refusal 14 is
+//! request d's.
 
 use parts::{
-    decode, encode, first_refusal, stretch_refusal, Answer, Carried, Inputs, Outcome, Outputs,
-    Smoothed, Stretch,
+    decode, encode, first_refusal, list_short, stretch_refusal, Answer, Carried, Inputs, Outcome,
+    Outputs, Smoothed, Stretch,
 };
 use tsecon_linalg::faer::Mat;
 
@@ -57,7 +58,8 @@ pub fn readings_of(i: &Inputs<'_>) -> Mat<f64> {
     from_rows(i.n, i.p, i.y)
 }
 
-/// Refusals 1 to 11 in order, the first ten judged already, then the model.
+/// Refusals 1 to 11 in order, with 14 where it is due, all but 11 judged
+/// already; then the model.
 fn checked(i: &Inputs<'_>, refusal: Option<u32>) -> Result<LinearGaussianSSM, u32> {
     if let Some(k) = refusal {
         return Err(k);
@@ -225,6 +227,10 @@ pub fn stretch_call(
     let (done, cov_told, mean_told) = from
         .as_ref()
         .map_or((0, 0, 0), |c| (c.done, c.cov_off, c.mean_off));
+    // The list counts from the run's first period.
+    if list_short(i, done + i.n) {
+        return Err(14);
+    }
     let from = from.as_ref().map(Between::loaded);
     match filter_stretch(&model, readings_of(i).as_ref(), done, from, last) {
         Ok((fo, left)) => {

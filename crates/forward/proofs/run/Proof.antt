@@ -28,13 +28,13 @@ covs-requires : tie.Need-covs-requires
 unfolding covParts
 covs-requires c κs =
     let a = c .before .before .before .before .before .before .before .before .before .before .before .before .before .before .before .before .before .before .before .before .before .before .before .before .before .before .before .before .before .before .before .before .before .before .before .before .before .before .before .before .before .before .before .before .before .before .before .before .before .before .before .before .before .before .before .before .before .before .before .args in
-    ran.cov-looks (c .before .before .before .before .before .before .before .before .before .before .before .before .before .before .before .before .before .before .before .before .before .before .before .before .before .before .before .before .before .before .before .before .before .before .before .before .before .before .before .before .before .before .before .before .before .before .before .before .before .before .before .before .before .before .before .before .before .before .before .pre) _ _ _ _ (ran.few-diffuse (modelOf (a .p) (a .m) (a .r) (a .n) (a .z .now) (a .zs .now) (a .h .now) (a .t .now) (a .rr .now) (a .q .now) (a .p-star .now) (a .flags .now)) (offsetsOf (a .c .now) (a .d .now) (a .a1 .now)) (a .y .now) (a .rqr .now) (a .state .now) _ (a .state .now) (a .live) (a .done) (a .before) _ (a .n) (a .n) (a .n) (a .n) (a .before) (a .before) (a .pred-mean .now) (a .pred-mean .now) (a .filt-mean .now) (a .filt-mean .now) (a .v .now) (a .v .now) _ _ _ _ _ _ _ _ _ _ _ _ _ _ _ _ (c .before .before .before .before .before .before .before .before .before .before .before .before .before .before .before .before .before .before .before .before .before .before .before .before .before .before .before .before .before .before .before .before .before .before .before .before .before .before .before .before .before .before .before .before .before .before .before .before .before .before .before .before .before .before .before .before .before .before .before .pre) (c .before .before .before .before .before .before .before .before .before .before .before .before .before .before .before .before .before .before .before .before .before .before .before .before .cov-pass .ensures)) (c .before .before .before .before .before .before .before .before .before .before .before .before .before .before .before .before .before .before .before .before .before .before .before .before .cov-pass .kept .1 .1 .1 .1 .1 .1 .1 .1 .0) (c .before .before .before .before .before .before .before .before .before .before .before .before .before .before .before .before .before .before .before .before .before .before .before .before .cov-pass .kept .1 .1 .1 .1 .1 .1 .1 .1 .1 .0) (c .before .before .before .before .before .before .before .before .before .before .before .before .before .before .before .before .before .before .before .before .before .before .before .before .cov-pass .kept .1 .1 .1 .1 .1 .1 .1 .1 .1 .1 .0)
+    ran.cov-looks (c .before .before .before .before .before .before .before .before .before .before .before .before .before .before .before .before .before .before .before .before .before .before .before .before .before .before .before .before .before .before .before .before .before .before .before .before .before .before .before .before .before .before .before .before .before .before .before .before .before .before .before .before .before .before .before .before .before .before .before .pre) _ _ _ _ (ran.few-diffuse (modelOf (a .p) (a .m) (a .r) (a .n) (a .z .now) (a .zs .now) (a .repeats) (a .h .now) (a .t .now) (a .rr .now) (a .q .now) (a .p-star .now) (a .flags .now)) (offsetsOf (a .c .now) (a .d .now) (a .a1 .now)) (a .y .now) (a .rqr .now) (a .state .now) _ (a .state .now) (a .live) (a .done) (a .before) _ (a .n) (a .n) (a .n) (a .n) (a .before) (a .before) (a .pred-mean .now) (a .pred-mean .now) (a .filt-mean .now) (a .filt-mean .now) (a .v .now) (a .v .now) _ _ _ _ _ _ _ _ _ _ _ _ _ _ _ _ (c .before .before .before .before .before .before .before .before .before .before .before .before .before .before .before .before .before .before .before .before .before .before .before .before .before .before .before .before .before .before .before .before .before .before .before .before .before .before .before .before .before .before .before .before .before .before .before .before .before .before .before .before .before .before .before .before .before .before .before .pre) (c .before .before .before .before .before .before .before .before .before .before .before .before .before .before .before .before .before .before .before .before .before .before .before .before .cov-pass .ensures)) (c .before .before .before .before .before .before .before .before .before .before .before .before .before .before .before .before .before .before .before .before .before .before .before .before .cov-pass .kept .1 .1 .1 .1 .1 .1 .1 .1 .0) (c .before .before .before .before .before .before .before .before .before .before .before .before .before .before .before .before .before .before .before .before .before .before .before .before .cov-pass .kept .1 .1 .1 .1 .1 .1 .1 .1 .1 .0) (c .before .before .before .before .before .before .before .before .before .before .before .before .before .before .before .before .before .before .before .before .before .before .before .before .cov-pass .kept .1 .1 .1 .1 .1 .1 .1 .1 .1 .1 .0)
 
 counted-requires : tie.Need-counted-requires
 unfolding covParts
 counted-requires c κs =
     let a = c .before .before .before .before .before .before .before .before .before .before .before .before .before .before .before .before .before .before .before .before .before .before .before .before .before .before .before .before .before .before .before .before .before .before .before .before .before .before .before .before .before .before .before .before .before .before .before .before .before .before .before .before .before .before .before .before .before .before .before .before .args in
-    ran.few-counts (modelOf (a .p) (a .m) (a .r) (a .n) (a .z .now) (a .zs .now) (a .h .now) (a .t .now) (a .rr .now) (a .q .now) (a .p-star .now) (a .flags .now)) (offsetsOf (a .c .now) (a .d .now) (a .a1 .now)) (a .y .now) (a .rqr .now) (a .state .now) _ (a .state .now) (a .live) (a .done) (a .before) _ _ _ (a .n) (a .n) (a .before) (a .before) (a .pred-mean .now) (a .pred-mean .now) (a .filt-mean .now) (a .filt-mean .now) (a .v .now) (a .v .now) _ _ _ _ _ _ _ _ _ _ _ _ _ _ _ _ (c .before .before .before .before .before .before .before .before .before .before .before .before .before .before .before .before .before .before .before .before .before .before .before .before .before .before .before .before .before .before .before .before .before .before .before .before .before .before .before .before .before .before .before .before .before .before .before .before .before .before .before .before .before .before .before .before .before .before .before .before .pre) (c .before .before .before .before .before .before .before .before .before .before .before .before .before .before .before .before .before .before .before .before .before .before .before .before .before .cov-pass .ensures) (c .before .before .before .before .before .before .heard .ensures) (c .before .before .before .before .news .ensures) (ran.records (c .before .before .before .before .before .before .before .before .before .before .before .before .before .before .before .before .before .before .before .before .before .before .before .before .before .before .before .before .before .before .before .before .before .before .before .before .before .before .before .before .before .before .before .before .before .before .before .before .before .before .before .before .before .before .before .before .before .before .before .before .pre) (c .before .before .before .before .before .before .before .before .before .before .before .before .before .before .before .before .before .before .before .before .before .before .before .before .before .cov-pass .kept .1 .1 .1 .1 .1 .1 .1 .1 .1 .1 .1 .0))
+    ran.few-counts (modelOf (a .p) (a .m) (a .r) (a .n) (a .z .now) (a .zs .now) (a .repeats) (a .h .now) (a .t .now) (a .rr .now) (a .q .now) (a .p-star .now) (a .flags .now)) (offsetsOf (a .c .now) (a .d .now) (a .a1 .now)) (a .y .now) (a .rqr .now) (a .state .now) _ (a .state .now) (a .live) (a .done) (a .before) _ _ _ (a .n) (a .n) (a .before) (a .before) (a .pred-mean .now) (a .pred-mean .now) (a .filt-mean .now) (a .filt-mean .now) (a .v .now) (a .v .now) _ _ _ _ _ _ _ _ _ _ _ _ _ _ _ _ (c .before .before .before .before .before .before .before .before .before .before .before .before .before .before .before .before .before .before .before .before .before .before .before .before .before .before .before .before .before .before .before .before .before .before .before .before .before .before .before .before .before .before .before .before .before .before .before .before .before .before .before .before .before .before .before .before .before .before .before .before .pre) (c .before .before .before .before .before .before .before .before .before .before .before .before .before .before .before .before .before .before .before .before .before .before .before .before .before .cov-pass .ensures) (c .before .before .before .before .before .before .heard .ensures) (c .before .before .before .before .news .ensures) (ran.records (c .before .before .before .before .before .before .before .before .before .before .before .before .before .before .before .before .before .before .before .before .before .before .before .before .before .before .before .before .before .before .before .before .before .before .before .before .before .before .before .before .before .before .before .before .before .before .before .before .before .before .before .before .before .before .before .before .before .before .before .before .pre) (c .before .before .before .before .before .before .before .before .before .before .before .before .before .before .before .before .before .before .before .before .before .before .before .before .before .cov-pass .kept .1 .1 .1 .1 .1 .1 .1 .1 .1 .1 .1 .0))
 
 mean-pass-requires : tie.Need-mean-pass-requires
 unfolding covParts meanParts
@@ -83,7 +83,7 @@ same-length-12 c = c .before .before .before .before .before .before .before .be
 returns : tie.Need-returns
 returns c =
     let a = c .before .before .before .before .before .before .before .before .before .before .before .before .before .before .before .before .before .before .before .before .before .before .before .before .before .before .before .before .before .before .before .before .before .before .before .before .before .before .before .before .before .before .before .before .before .before .before .before .before .before .before .before .before .before .before .before .before .before .before .before .before .before .before .before .before .before .before .before .before .before .before .before .before .before .before .before .before .before .before .before .before .before .before .args in
-    ran.ran (modelOf (a .p) (a .m) (a .r) (a .n) (a .z .now) (a .zs .now) (a .h .now) (a .t .now) (a .rr .now) (a .q .now) (a .p-star .now) (a .flags .now)) (offsetsOf (a .c .now) (a .d .now) (a .a1 .now)) (a .y .now) (a .rqr .now) (a .state .now) _ _ (a .live) (a .done) (a .before) _ _ _ _ _ _ _ _ _ _ _ _ _ _ _ _ _ _ _ _ _ _ _ _ _ _ _ _ _ _ (c .before .before .before .before .before .before .before .before .before .before .before .before .before .before .before .before .before .before .before .before .before .before .before .before .before .before .before .before .before .before .before .before .before .before .before .before .before .before .before .before .before .before .before .before .before .before .before .before .before .before .before .before .before .before .before .before .before .before .before .before .before .before .before .before .before .before .before .before .before .before .before .before .before .before .before .before .before .before .before .before .before .before .before .pre) (c .before .before .before .before .before .before .before .before .before .before .before .before .before .before .before .before .before .before .before .before .before .before .before .before .before .before .before .before .before .before .before .before .before .before .before .before .before .before .before .before .before .before .before .before .before .before .before .before .cov-pass .ensures) (c .before .before .before .before .before .before .before .before .before .before .before .before .before .before .before .before .before .before .before .before .before .before .before .before .before .before .before .before .before .heard .ensures) (c .before .before .before .before .before .before .before .before .before .before .before .before .before .before .before .before .before .before .before .before .before .before .before .before .before .before .before .news .ensures) (c .before .before .before .before .before .before .before .before .before .before .before .before .before .before .before .before .before .before .before .before .before .before .before .covs .ensures) (c .before .before .before .before .before .before .before .before .before .before .before .before .before .before .before .before .before .before .before .before .before .before .counted .ensures) (c .before .before .before .before .before .before .before .before .before .before .before .before .mean-pass .ensures) (c .before .means .ensures) (c .reported .ensures)
+    ran.ran (modelOf (a .p) (a .m) (a .r) (a .n) (a .z .now) (a .zs .now) (a .repeats) (a .h .now) (a .t .now) (a .rr .now) (a .q .now) (a .p-star .now) (a .flags .now)) (offsetsOf (a .c .now) (a .d .now) (a .a1 .now)) (a .y .now) (a .rqr .now) (a .state .now) _ _ (a .live) (a .done) (a .before) _ _ _ _ _ _ _ _ _ _ _ _ _ _ _ _ _ _ _ _ _ _ _ _ _ _ _ _ _ _ (c .before .before .before .before .before .before .before .before .before .before .before .before .before .before .before .before .before .before .before .before .before .before .before .before .before .before .before .before .before .before .before .before .before .before .before .before .before .before .before .before .before .before .before .before .before .before .before .before .before .before .before .before .before .before .before .before .before .before .before .before .before .before .before .before .before .before .before .before .before .before .before .before .before .before .before .before .before .before .before .before .before .before .before .pre) (c .before .before .before .before .before .before .before .before .before .before .before .before .before .before .before .before .before .before .before .before .before .before .before .before .before .before .before .before .before .before .before .before .before .before .before .before .before .before .before .before .before .before .before .before .before .before .before .before .cov-pass .ensures) (c .before .before .before .before .before .before .before .before .before .before .before .before .before .before .before .before .before .before .before .before .before .before .before .before .before .before .before .before .before .heard .ensures) (c .before .before .before .before .before .before .before .before .before .before .before .before .before .before .before .before .before .before .before .before .before .before .before .before .before .before .before .news .ensures) (c .before .before .before .before .before .before .before .before .before .before .before .before .before .before .before .before .before .before .before .before .before .before .before .covs .ensures) (c .before .before .before .before .before .before .before .before .before .before .before .before .before .before .before .before .before .before .before .before .before .before .counted .ensures) (c .before .before .before .before .before .before .before .before .before .before .before .before .mean-pass .ensures) (c .before .means .ensures) (c .reported .ensures)
 
 pub run-spec : {M : Type 1} → statement M
 run-spec = tie.close (tie.spec listed-requires cov-pass-requires heard-requires mul-news news-requires covs-requires counted-requires mean-pass-requires means-requires (λ c κs. tt) same-length same-length-2 same-length-3 same-length-4 same-length-5 same-length-6 same-length-7 same-length-8 same-length-9 same-length-10 same-length-11 same-length-12 returns)

@@ -25,8 +25,8 @@ use types.Part.{sub, look-in}
 use sound.WpLaws.{FmC, fmOf, WpFn-mono}
 use denote.RattleType.{Denots, flat as in-a-row}
 use denote.Laws.{Is, Are, Ises, Lawfuls, all-typed}
-use denote.Plain.{uint-vals, uint-tells, uint-lawful}
-use denote.Builtin.{u8, f64, usize}
+use denote.Plain.{uint-vals, uint-tells, uint-lawful, bool-vals, bool-tells, bool-lawful}
+use denote.Builtin.{u8, f64, usize, bool}
 use denote.Slice.{Room, slice-vals, mut-slice-tells, shr-slice-tells, mut-slice-lawful, shr-slice-lawful}
 use denote.Signature.{plain, shrSliceOf}
 use denote.Steps.{only, owned, heard}
@@ -71,7 +71,7 @@ use Rattle.records_smooth.proofs.smooth_records.Code as code
 -- what is had of each parameter at the end: nothing of the numbers and inputs; the four, still; of the other outputs and the list what says their last lists
 abbrev stayed : Stays (f.ended .signature .params) (f.ended .kept)
 stayed =
-    in-order (stay-dropped (plain (λ _. usize)) yes) (stay-dropped (shrSliceOf (0 ∷ []) tt (plain (λ _. f64))) yes) (stay-dropped (shrSliceOf (0 ∷ []) tt (plain (λ _. u8))) yes)
+    in-order (stay-dropped (plain (λ _. usize)) yes) (stay-dropped (shrSliceOf (0 ∷ []) tt (plain (λ _. f64))) yes) (stay-dropped (plain (λ _. bool)) yes) (stay-dropped (shrSliceOf (0 ∷ []) tt (plain (λ _. u8))) yes)
     (gave-slice (1 ∷ []) tt (plain (λ _. f64))) (stay-slice (2 ∷ []) tt (plain (λ _. u8))) (stay-slice (3 ∷ []) tt (plain (λ _. f64))) (stay-slice (4 ∷ []) tt (plain (λ _. f64))) (stay-slice (5 ∷ []) tt (plain (λ _. f64)))
     (times 4 (gave-slice (1 ∷ []) tt (plain (λ _. f64))) (gave-slice (6 ∷ []) tt (plain (λ _. T.the-row)), tt))
 
@@ -82,14 +82,14 @@ module _ {M : Type 1} (𝓤 : URA M) (H : Heap 𝓤) (A : Atoms 𝓤) (mem : Mem
 module _ {M : Type 1} (𝓤 : URA M) (H : Heap 𝓤) (A : Atoms 𝓤) (W : Given 𝓤 H A) (mem : Memory → SProp 𝓤) (run : Routine → Fun 𝓤)
     (κs : Lfts 7) (qs : Shares 7) (a : Denots (Params 4 κs)) (are : Are (Params 4 κs) (Ises (Params 4 κs)) a (both.vals 4 κs qs a)) where
   abbrev out-room : Room T.the-row (length (both.out 4 κs qs a .now))
-  out-room = are .1 .1 .1 .1 .1 .1 .1 .1 .1 .1 .1 .1 .1 .1 .1 .1 .1 .1 .1 .1 .1 .1 .1 .1 .1 .1 .1 .1 .1 .0 .0 .1
+  out-room = are .1 .1 .1 .1 .1 .1 .1 .1 .1 .1 .1 .1 .1 .1 .1 .1 .1 .1 .1 .1 .1 .1 .1 .1 .1 .1 .1 .1 .1 .1 .0 .0 .1
 
   abbrev Post : Val → SProp 𝓤
   Post = walkOf 𝓤 H A f.ended stayed (f.clauses 𝓤 H A mem run) .post ((κs, qs, tt, a, both.vals 4 κs qs a), tt)
 
   lawful : Lawfuls 𝓤 H A (Params 4 κs)
   lawful =
-      in-order (uint-lawful 𝓤 H A W w64) (shr-slice-lawful 𝓤 H A W (named 0) (κs .0) f64) (shr-slice-lawful 𝓤 H A W (named 0) (κs .0) u8)
+      in-order (uint-lawful 𝓤 H A W w64) (shr-slice-lawful 𝓤 H A W (named 0) (κs .0) f64) (bool-lawful 𝓤 H A W) (shr-slice-lawful 𝓤 H A W (named 0) (κs .0) u8)
       (mut-slice-lawful 𝓤 H A W (named 1) (κs .1 .0) f64) (mut-slice-lawful 𝓤 H A W (named 2) (κs .1 .1 .0) u8) (mut-slice-lawful 𝓤 H A W (named 3) (κs .1 .1 .1 .0) f64)
       (mut-slice-lawful 𝓤 H A W (named 4) (κs .1 .1 .1 .1 .0) f64) (mut-slice-lawful 𝓤 H A W (named 5) (κs .1 .1 .1 .1 .1 .0) f64)
       (times 4 (mut-slice-lawful 𝓤 H A W (named 1) (κs .1 .0) f64) (mut-slice-lawful 𝓤 H A W (named 6) (κs .1 .1 .1 .1 .1 .1 .0) T.the-row, tt))
@@ -145,29 +145,29 @@ module _ {M : Type 1} (𝓤 : URA M) (H : Heap 𝓤) (A : Atoms 𝓤) (W : Given
     walk =
         qed W (raw (⋆ 𝓤 H A (both.Entry 4 κs qs a are 𝓤 H A W)) ∷ []) ∵ enters ! C Λ code.function (in-a-row (Params 4 κs) (both.vals 4 κs qs a)) _ tt (all-typed 𝓤 H A (Params 4 κs) lawful a (both.vals 4 κs qs a) are) (λ bs.
         -- [the locals; the entry]
-        assigns ! (of-opd ! (load ! (from ! (fld ! refl (stop !))) (look-in ! 0 (sub ! 1 refl (local ! 30 tt refl))))) (from ! (stop !)) (sets ! 0 31 tt refl (tt, record { fits = out-room .0 })) $
+        assigns ! (of-opd ! (load ! (from ! (fld ! refl (stop !))) (look-in ! 0 (sub ! 1 refl (local ! 31 tt refl))))) (from ! (stop !)) (sets ! 0 32 tt refl (tt, record { fits = out-room .0 })) $
         reborrows ! tt refl refl refl tt tt $ reborrows ! tt refl refl refl tt tt $ reborrows ! tt refl refl refl tt tt $ reborrows ! tt refl refl refl tt tt $
         reborrows ! tt refl refl refl tt tt $ reborrows ! tt refl refl refl tt tt $ reborrows ! tt refl refl refl tt tt $ reborrows ! tt refl refl refl tt tt $
         reborrows ! tt refl refl refl tt tt $ reborrows ! tt refl refl refl tt tt $ reborrows ! tt refl refl refl tt tt $ reborrows ! tt refl refl refl tt tt $
         reborrows ! tt refl refl refl tt tt $
         move ! (1 ∷ []) $ use1 W (later (some (λ (e : Names). both.Handed 4 κs qs a are 𝓤 H A W e ⊛ raw (⋆ 𝓤 H A (both.Held 4 κs qs a are 𝓤 H A W e))))) (both.before-flat 4 κs qs a are 𝓤 H A W out-room) $ await ! tt $ pick ! (λ e. split ! $ use1 W (raw (Flat 𝓤 H A mem run .pre (to-flat e))) (asks-flat e) $
         -- [what the call asks; what is kept; the locals]
-        calls-at ! fm (Flat 𝓤 H A mem run) known-flat (to-flat e) (reads ! 2 (1 ∷ 2 ∷ 3 ∷ 4 ∷ 5 ∷ 6 ∷ 7 ∷ 8 ∷ 9 ∷ 10 ∷ 11 ∷ 12 ∷ 13 ∷ 14 ∷ 15 ∷ 16 ∷ 35 ∷ 37 ∷ 39 ∷ 41 ∷ 43 ∷ 45 ∷ 47 ∷ 49 ∷ 51 ∷ 53 ∷ 55 ∷ 57 ∷ 59 ∷ 31 ∷ []) refl tt refl) (λ w.
+        calls-at ! fm (Flat 𝓤 H A mem run) known-flat (to-flat e) (reads ! 2 (1 ∷ 2 ∷ 3 ∷ 4 ∷ 5 ∷ 6 ∷ 7 ∷ 8 ∷ 9 ∷ 10 ∷ 11 ∷ 12 ∷ 13 ∷ 14 ∷ 15 ∷ 16 ∷ 17 ∷ 36 ∷ 38 ∷ 40 ∷ 42 ∷ 44 ∷ 46 ∷ 48 ∷ 50 ∷ 52 ∷ 54 ∷ 56 ∷ 58 ∷ 60 ∷ 32 ∷ []) refl tt refl) (λ w.
         use2 W (later (some (λ (o : Outcome). some (λ (z : Left 4). given (Flatly w o z) (both.Ready 4 κs qs a are 𝓤 H A W z ⊛ both.Rest 4 κs qs a are 𝓤 H A W z))))) (after-flat e w) $ await ! tt $ pick ! (λ o. pick ! (λ z. learn ! (λ so. split ! $
         -- [the four and the list; the rest; the locals]
-        land ! (from ! (stop !)) (sets ! 2 32 tt refl (EL.lawful O.the-type O′.the-laws 𝓤 H A W tt .typed o (w ∷ []) (so .1 .0) .0)) $
+        land ! (from ! (stop !)) (sets ! 2 33 tt refl (EL.lawful O.the-type O′.the-laws 𝓤 H A W tt .typed o (w ∷ []) (so .1 .0) .0)) $
         use0 W (raw (Tell 𝓤 H A mem run .pre (four.to-tell 𝓤 H A W mem run o w (so .1 .0) (a .0) (a .1 .1 .1 .0) (are .0 .1) (are .1 .1 .1 .0 .1)))) (four.asks-tell 𝓤 H A W mem run o w (so .1 .0) (a .0) (a .1 .1 .1 .0) (are .0 .1) (are .1 .1 .1 .0 .1)) $
-        calls-at ! fm (Tell 𝓤 H A mem run) known-tell (four.to-tell 𝓤 H A W mem run o w (so .1 .0) (a .0) (a .1 .1 .1 .0) (are .0 .1) (are .1 .1 .1 .0 .1)) (reads ! 3 (32 ∷ 1 ∷ 4 ∷ []) refl tt refl) (λ u.
+        calls-at ! fm (Tell 𝓤 H A mem run) known-tell (four.to-tell 𝓤 H A W mem run o w (so .1 .0) (a .0) (a .1 .1 .1 .0) (are .0 .1) (are .1 .1 .1 .0 .1)) (reads ! 3 (33 ∷ 1 ∷ 4 ∷ []) refl tt refl) (λ u.
         use1 W (later (some (λ (j : ℕ). given (four.Counted 𝓤 H A W mem run o w (so .1 .0) (a .0) (a .1 .1 .1 .0) (are .0 .1) (are .1 .1 .1 .0 .1) u j) (‵ ftrue)))) (four.after-tell 𝓤 H A W mem run o w (so .1 .0) (a .0) (a .1 .1 .1 .0) (are .0 .1) (are .1 .1 .1 .0 .1) u) $ await ! tt $ pick ! (λ j. learn ! (λ js. drop ! $
-        land ! (from ! (stop !)) (sets ! 2 33 tt refl (uint-lawful 𝓤 H A W w64 .typed j _ (js .1) .0)) $ move ! (2 ∷ []) $
+        land ! (from ! (stop !)) (sets ! 2 34 tt refl (uint-lawful 𝓤 H A W w64 .typed j _ (js .1) .0)) $ move ! (2 ∷ []) $
         reborrows ! tt refl refl refl tt tt $ reborrows ! tt refl refl refl tt tt $ reborrows ! tt refl refl refl tt tt $ reborrows ! tt refl refl refl tt tt $ reborrows ! tt refl refl refl tt tt $
         move ! (1 ∷ []) $ use1 W (later (some (λ (e : Names). raw (Fill 𝓤 H A mem run .pre (four.to-fill 𝓤 H A W (both.kinds 4 κs qs a are) (both.v 4 κs qs a are) (both.fs 4 κs qs a are) (both.fi 4 κs qs a are) (both.zk 4 κs qs a are 𝓤 H A W z) (both.zv 4 κs qs a are 𝓤 H A W z) (both.zs 4 κs qs a are 𝓤 H A W z) (both.zi 4 κs qs a are 𝓤 H A W z) (so .1 .1 .kinds) (so .1 .1 .v) (so .1 .1 .fs) (so .1 .1 .fi) mem run (κs .1 .1 .1 .1 .1 .1 .0) (qs .1 .1 .1 .1 .1 .1 .0) (both.out 4 κs qs a) j u (js .1) e)) ⊛ four.Shared 𝓤 H A W (both.kinds 4 κs qs a are) (both.v 4 κs qs a are) (both.fs 4 κs qs a are) (both.fi 4 κs qs a are) (both.zk 4 κs qs a are 𝓤 H A W z) (both.zv 4 κs qs a are 𝓤 H A W z) (both.zs 4 κs qs a are 𝓤 H A W z) (both.zi 4 κs qs a are 𝓤 H A W z) (so .1 .1 .kinds) (so .1 .1 .v) (so .1 .1 .fs) (so .1 .1 .fi) mem run (κs .1 .1 .1 .1 .1 .1 .0) (qs .1 .1 .1 .1 .1 .1 .0) (both.out 4 κs qs a) j u (js .1) e))) (four.before-fill 𝓤 H A W (both.kinds 4 κs qs a are) (both.v 4 κs qs a are) (both.fs 4 κs qs a are) (both.fi 4 κs qs a are) (both.zk 4 κs qs a are 𝓤 H A W z) (both.zv 4 κs qs a are 𝓤 H A W z) (both.zs 4 κs qs a are 𝓤 H A W z) (both.zi 4 κs qs a are 𝓤 H A W z) (so .1 .1 .kinds) (so .1 .1 .v) (so .1 .1 .fs) (so .1 .1 .fi) mem run (κs .1 .1 .1 .1 .1 .1 .0) (qs .1 .1 .1 .1 .1 .1 .0) (both.out 4 κs qs a) j u (js .1)) $ await ! tt $ pick ! (λ e′. split ! $
         -- [what the call asks; what is kept of the four; the locals; the rest]
-        calls-at ! fm (Fill 𝓤 H A mem run) known-fill (four.to-fill 𝓤 H A W (both.kinds 4 κs qs a are) (both.v 4 κs qs a are) (both.fs 4 κs qs a are) (both.fi 4 κs qs a are) (both.zk 4 κs qs a are 𝓤 H A W z) (both.zv 4 κs qs a are 𝓤 H A W z) (both.zs 4 κs qs a are 𝓤 H A W z) (both.zi 4 κs qs a are 𝓤 H A W z) (so .1 .1 .kinds) (so .1 .1 .v) (so .1 .1 .fs) (so .1 .1 .fi) mem run (κs .1 .1 .1 .1 .1 .1 .0) (qs .1 .1 .1 .1 .1 .1 .0) (both.out 4 κs qs a) j u (js .1) e′) (reads ! 2 (62 ∷ 64 ∷ 66 ∷ 68 ∷ 33 ∷ 70 ∷ []) refl tt refl) (λ u′.
+        calls-at ! fm (Fill 𝓤 H A mem run) known-fill (four.to-fill 𝓤 H A W (both.kinds 4 κs qs a are) (both.v 4 κs qs a are) (both.fs 4 κs qs a are) (both.fi 4 κs qs a are) (both.zk 4 κs qs a are 𝓤 H A W z) (both.zv 4 κs qs a are 𝓤 H A W z) (both.zs 4 κs qs a are 𝓤 H A W z) (both.zi 4 κs qs a are 𝓤 H A W z) (so .1 .1 .kinds) (so .1 .1 .v) (so .1 .1 .fs) (so .1 .1 .fi) mem run (κs .1 .1 .1 .1 .1 .1 .0) (qs .1 .1 .1 .1 .1 .1 .0) (both.out 4 κs qs a) j u (js .1) e′) (reads ! 2 (63 ∷ 65 ∷ 67 ∷ 69 ∷ 34 ∷ 71 ∷ []) refl tt refl) (λ u′.
         use2 W (later (some (λ (zo : List Record). given (four.Filled 𝓤 H A W (both.kinds 4 κs qs a are) (both.v 4 κs qs a are) (both.fs 4 κs qs a are) (both.fi 4 κs qs a are) (both.zk 4 κs qs a are 𝓤 H A W z) (both.zv 4 κs qs a are 𝓤 H A W z) (both.zs 4 κs qs a are 𝓤 H A W z) (both.zi 4 κs qs a are 𝓤 H A W z) (so .1 .1 .kinds) (so .1 .1 .v) (so .1 .1 .fs) (so .1 .1 .fi) mem run (κs .1 .1 .1 .1 .1 .1 .0) (qs .1 .1 .1 .1 .1 .1 .0) (both.out 4 κs qs a) j u (js .1) u′ zo) (four.Done 𝓤 H A W (both.kinds 4 κs qs a are) (both.v 4 κs qs a are) (both.fs 4 κs qs a are) (both.fi 4 κs qs a are) (both.zk 4 κs qs a are 𝓤 H A W z) (both.zv 4 κs qs a are 𝓤 H A W z) (both.zs 4 κs qs a are 𝓤 H A W z) (both.zi 4 κs qs a are 𝓤 H A W z) (so .1 .1 .kinds) (so .1 .1 .v) (so .1 .1 .fs) (so .1 .1 .fi) mem run (κs .1 .1 .1 .1 .1 .1 .0) (qs .1 .1 .1 .1 .1 .1 .0) (both.out 4 κs qs a) j u (js .1) zo)))) (four.after-fill 𝓤 H A W (both.kinds 4 κs qs a are) (both.v 4 κs qs a are) (both.fs 4 κs qs a are) (both.fi 4 κs qs a are) (both.zk 4 κs qs a are 𝓤 H A W z) (both.zv 4 κs qs a are 𝓤 H A W z) (both.zs 4 κs qs a are 𝓤 H A W z) (both.zi 4 κs qs a are 𝓤 H A W z) (so .1 .1 .kinds) (so .1 .1 .v) (so .1 .1 .fs) (so .1 .1 .fi) mem run (κs .1 .1 .1 .1 .1 .1 .0) (qs .1 .1 .1 .1 .1 .1 .0) (both.out 4 κs qs a) j u (js .1) e′ u′) $ await ! tt $ pick ! (λ zo. learn ! (λ fo.
         -- [the four and the list; the locals; the rest]
-        land ! (from ! (stop !)) (sets ! 1 60 tt refl (subst (λ (v : Val). Holds (hasTy tyUnit v) × WT v) (sym (ap only (fo .0))) (tt, tt))) $
-        assigns ! (of-opd ! (load ! (from ! (stop !)) (look-in ! 1 (local ! 32 tt refl)))) (from ! (stop !)) (sets ! 1 0 tt refl (EL.lawful O.the-type O′.the-laws 𝓤 H A W tt .typed o (w ∷ []) (so .1 .0) .0)) $ move ! (1 ∷ []) $ leaves ! tt refl $
+        land ! (from ! (stop !)) (sets ! 1 61 tt refl (subst (λ (v : Val). Holds (hasTy tyUnit v) × WT v) (sym (ap only (fo .0))) (tt, tt))) $
+        assigns ! (of-opd ! (load ! (from ! (stop !)) (look-in ! 1 (local ! 33 tt refl)))) (from ! (stop !)) (sets ! 1 0 tt refl (EL.lawful O.the-type O′.the-laws 𝓤 H A W tt .typed o (w ∷ []) (so .1 .0) .0)) $ move ! (1 ∷ []) $ leaves ! tt refl $
         by ! (exits z zo o w (so .1 .0) (so .1 .1) (fo .2) (listed-smooth-so _ _ _ _ _ _ _ _ _ _ _ _ _ _ _ _ _ _ _ _ _ _ _ _ (so .0) (js .0) (fo .1))))))))))))))))
 
 module _ {M : Type 1} (𝓤 : URA M) (H : Heap 𝓤) (A : Atoms 𝓤) (W : Given 𝓤 H A) (mem : Memory → SProp 𝓤) (run : Routine → Fun 𝓤) where
@@ -175,9 +175,9 @@ module _ {M : Type 1} (𝓤 : URA M) (H : Heap 𝓤) (A : Atoms 𝓤) (W : Given
       → Walks 𝓤 H A f.ended stayed (WpFn 𝓤 H C Λ code.function) (f.clauses 𝓤 H A mem run)
   walks C Λ fm known-flat known-tell known-fill =
       walked 𝓤 H A f.ended stayed (f.clauses 𝓤 H A mem run) (WpFn 𝓤 H C Λ code.function)
-      (λ κs. in-order (uint-vals w64) slice-vals slice-vals slice-vals slice-vals slice-vals slice-vals slice-vals (times 4 slice-vals (slice-vals, tt)))
+      (λ κs. in-order (uint-vals w64) slice-vals bool-vals slice-vals slice-vals slice-vals slice-vals slice-vals slice-vals (times 4 slice-vals (slice-vals, tt)))
       (λ κs.
-      in-order (uint-tells w64) (shr-slice-tells (named 0) (κs .0) f64) (shr-slice-tells (named 0) (κs .0) u8) (mut-slice-tells (named 1) (κs .1 .0) f64)
+      in-order (uint-tells w64) (shr-slice-tells (named 0) (κs .0) f64) bool-tells (shr-slice-tells (named 0) (κs .0) u8) (mut-slice-tells (named 1) (κs .1 .0) f64)
       (mut-slice-tells (named 2) (κs .1 .1 .0) u8) (mut-slice-tells (named 3) (κs .1 .1 .1 .0) f64) (mut-slice-tells (named 4) (κs .1 .1 .1 .1 .0) f64) (mut-slice-tells (named 5) (κs .1 .1 .1 .1 .1 .0) f64)
       (times 4 (mut-slice-tells (named 1) (κs .1 .0) f64) (mut-slice-tells (named 6) (κs .1 .1 .1 .1 .1 .1 .0) T.the-row, tt)))
       (λ κs qs bounds a g are. via 𝓤 _ (fst∗ 𝓤 _ (emp 𝓤)) (walk 𝓤 H A W mem run κs qs a are C Λ fm known-flat known-tell known-fill))
@@ -187,7 +187,7 @@ meets : {M : Type 1} (𝓤 : URA M) (H : Heap 𝓤) (A : Atoms 𝓤) (W : Given 
     → Meets 𝓤 H A f.signature (WpFn 𝓤 H (𝓣 .C) (𝓣 .Λ) code.function) (f.spec 𝓤 H A mem run)
 meets 𝓤 H A W mem run 𝓣 known-flat known-tell known-fill =
     walk-meets 𝓤 H A f.ended stayed W
-    (in-order (goes-dropped 𝓤 H A W 7 (plain (λ _. usize)) yes (λ κs x f. refl)) (goes-dropped 𝓤 H A W 7 (shrSliceOf (0 ∷ []) tt (plain (λ _. f64))) yes (λ κs x f. refl))
+    (in-order (goes-dropped 𝓤 H A W 7 (plain (λ _. usize)) yes (λ κs x f. refl)) (goes-dropped 𝓤 H A W 7 (shrSliceOf (0 ∷ []) tt (plain (λ _. f64))) yes (λ κs x f. refl)) (goes-dropped 𝓤 H A W 7 (plain (λ _. bool)) yes (λ κs x f. refl))
     (goes-dropped 𝓤 H A W 7 (shrSliceOf (0 ∷ []) tt (plain (λ _. u8))) yes (λ κs x f. refl)) (goes-gave-slice 𝓤 H A W 7 1 tt (plain (λ _. f64)))
     (goes-slice 𝓤 H A W 7 2 tt (plain (λ _. u8))) (goes-slice 𝓤 H A W 7 3 tt (plain (λ _. f64))) (goes-slice 𝓤 H A W 7 4 tt (plain (λ _. f64))) (goes-slice 𝓤 H A W 7 5 tt (plain (λ _. f64)))
     (times 4 (goes-gave-slice 𝓤 H A W 7 1 tt (plain (λ _. f64))) (goes-gave-slice 𝓤 H A W 7 6 tt (plain (λ _. T.the-row)), tt)))

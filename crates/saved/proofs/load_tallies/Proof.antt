@@ -1,6 +1,6 @@
 -- Made from Proof.tpl by tools/expand: edit that.
 -- Each tally by its place.
-use mathlib.Core.Path.{refl, sym, ap, _∙_}
+use mathlib.Core.Path.{sym, ap, _∙_}
 use Prim.Native.Nat.{ℕ, _+_}
 use native.Mathlib.Omega.{arith}
 use lib.Dec.{eqb}
@@ -12,13 +12,12 @@ use Rattle.saved.proofs.load_tallies.Tie as tie
 
 returns : tie.Need-returns
 returns c =
-    let m = c .before .before .before .before .before .before .before .before .before .before .before .before .args .m in
     let bs = c .before .before .before .before .before .before .before .before .before .before .before .before .args .saved .now in
     let s = c .before .before .before .before .before .before .before .before .before .before .places-of .ensures in
     let at = c .before .before .before .before .before .before .before .before .before .before .places-of .result .tallies in
     record {
-      done = c .before .eight7 .ensures ∙ sym (rows.size-there m bs 3 28 (omega arith) refl);
-      live = ap (λ (k : ℕ). eqb k 1) (c .eight8 .ensures ∙ sym (rows.tally-there s bs 3 (at + 28) (omega arith) (omega arith)));
+      done = c .before .done .ensures;
+      live = ap (λ (k : ℕ). eqb k 1) (c .eight7 .ensures ∙ sym (rows.tally-there s bs 3 (at + 28) (omega arith) (omega arith)));
       loglik = c .before .before .before .before .before .before .before .double .ensures ∙ ap float (c .before .before .before .before .before .before .before .before .eight .ensures ∙ sym (rows.loglik-there s bs));
       diffuse = c .before .before .before .before .before .before .eight2 .ensures ∙ sym (rows.tally-there s bs 0 (at + 4) (omega arith) (omega arith));
       heard = c .before .before .before .before .before .eight3 .ensures ∙ sym (rows.tally-there s bs 1 (at + 12) (omega arith) (omega arith));
