@@ -44,11 +44,13 @@ module _ {x : Model} {o : Offsets} {y : List Float} {w : CovParts} {w′ : MeanP
   fit h = record { accepted = accepted x o (length y) (anyOf isInfinity (kinds y)) (roomy x w w′) (sym (ends.none h (e .number))) }
 
   -- lent no state, and R Q R' as the checks have left it
-  pub fit-begun : {rqr : List Float} {size : ℕ} → k ≤ 0 → size ≡ 0 → (k ≡ 0 → mat (x .m) rqr ≡ noise x) → FitOn x o (length y) rqr w w′ size 0 ends.nothing
-  fit-begun h z q =
-      let f = fit h in
-      fit-on f (q (omega arith)) (record { m8 = f .accepted .sizes .m8; whole = λ some. absurd (some z) }) (record { diffuse = omega arith; heard = omega arith; news = omega arith })
+  pub fit-begun : {rqr : List Float} → k ≤ 0 → (k ≡ 0 → mat (x .m) rqr ≡ noise x) → FitOn x o (length y) rqr w w′ 0 0 ends.nothing
+  fit-begun h q = ends.begun (fit h) (q (omega arith))
 
-  pub told : {s s′ : List Float} {live : Bool} {g : Judged} {b : CovParts} {b′ : MeanParts} {r : Outcome} → k ≤ 0 → length s ≡ 0 → Went x o y s live 0 ends.nothing true g s′ w b w′ b′ → r ≡ answerBy (numberOf (endingOf 0 (g .silent))) (g .answer) → Promise (outcome x o y w w′) r b b′
-  told {g = g} none z v q =
-      rw (q, by-fate x o y w w′ (endingOf 0 (g .silent)) (ends.judged-so x o y w w′ z v (roomy x w w′) (ends.none none (e .number)))) (ends.ended x o y w w′ z v)
+  pub told : {b : CovParts} {b′ : MeanParts} {r : Outcome} → k ≤ 0 → ends.Run x o y w w′ r b b′ → Promise (outcome x o y w w′) r b b′
+  told none ran = rw (by-fate x o y w w′ _ (ends.by-number x o y (roomy x w w′) 0 (ends.none none (e .number)))) ran
+
+-- the run itself
+pub run-told : {x : Model} {o : Offsets} {y s s′ : List Float} {w b : CovParts} {w′ b′ : MeanParts} {live : Bool} {g : Judged} {r : Outcome} → length s ≡ 0
+    → Went x o y s live 0 ends.nothing true g s′ w b w′ b′ → r ≡ answerBy (numberOf (endingOf 0 (g .silent))) (g .answer) → ends.Run x o y w w′ r b b′
+run-told {x} {o} {y} {w = w} {w′ = w′} z v q = rw q (ends.ended x o y w w′ z v)

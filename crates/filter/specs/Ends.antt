@@ -1,5 +1,5 @@
 -- A call's three ends, over the filter's parts: turned away before anything is written, silent, answered. The smoother's call ends the same ways.
-use mathlib.Core.Path.{_≡_, refl, sym, ap, _∙_}
+use mathlib.Core.Path.{_≡_, refl, ap, subst, _∙_}
 use Prim.Native.Nat.{ℕ, suc, _≤_}
 use native.Mathlib.Nat.{zero-add}
 use native.Mathlib.Omega.{arith}
@@ -11,15 +11,17 @@ use borrow.Author.Tests.{eq-eqb}
 use Rattle.definition.specs.Num.{0ᶠ}
 use Rattle.definition.specs.Run.{anyOf}
 use Rattle.definition.specs.Cov.{Cov, CovPeriod}
-use Rattle.definition.specs.Inputs.{Model, Offsets, Class, classOf, isInfinity, startOf}
+use Rattle.definition.specs.Inputs.{Model, Offsets, Class, classOf, isInfinity, noise, startOf}
 use Rattle.definition.specs.Refusals.{refusal}
 use Rattle.definition.specs.Reports.{covReport, meanReport, toldBefore}
 use Rattle.definition.specs.Outcome.{CovParts, MeanParts, Counts, CovOutcome, MeanOutcome, Ending, turned, endingOf, ending, numberOf, after, countsIn, loglikIn, reportIn, covOf, meanOf, countsOf, noInformation, covOutcome, meanOutcome, roomy}
 use Rattle.carried.specs.State.{covFrom, meanFrom}
-use Rattle.forward.specs.View.{onward, covOn, meanOn}
+use Rattle.dense.specs.Views.{mat}
+use Rattle.forward.specs.View.{Fit, FitOn, fit-on, onward, covOn, meanOn}
 use Rattle.judged.specs.declared.Judged.{Judged}
 use Rattle.judged.specs.Went.{Went, isSilent, tallyOf}
 use Rattle.promise.specs.declared.Answer.{Answer}
+use Rattle.promise.specs.declared.Outcome.{Outcome}
 use Rattle.promise.specs.declared.Outcome.the-variants.{Refused, Answered}
 use Rattle.promise.specs.Calls.{answerIn, answerBy, Promise}
 
@@ -30,6 +32,10 @@ none h e = omega arith
 abbrev pub nothing : Answer
 nothing = record { loglik = 0ᶠ; «d_diffuse» = 0; heard = 0; news = 0; «cov_off» = 0; «mean_off» = 0 }
 
+-- a call past its checks may run: it is lent no state, and R Q R' as the checks have left it
+pub begun : {x : Model} {o : Offsets} {y : ℕ} {rqr : List Float} {w : CovParts} {w′ : MeanParts} → Fit x o y w w′ → mat (x .m) rqr ≡ noise x → FitOn x o y rqr w w′ 0 0 nothing
+begun f e = fit-on f e (record { m8 = f .accepted .sizes .m8; whole = λ some. absurd (some refl) }) (record { diffuse = omega arith; heard = omega arith; news = omega arith })
+
 from-nothing : (k : Counts) (t : ℕ) (l : Float) (u : ℕ) → onward nothing k t l u ≡ answerIn k t l u
 unfolding toldBefore
 from-nothing k t l u = rw (zero-add, zero-add, zero-add) refl
@@ -38,7 +44,7 @@ module _ (x : Model) (o : Offsets) (y : List Float) where
   abbrev kinds : List Class
   kinds = map classOf y
 
-  -- refusals 1 to 11; `room`: every output is as long as needed
+  -- the refusals before the run; `room`: every output is as long as needed
   abbrev pub number : Bool → ℕ
   number room = refusal x o (length y) (anyOf isInfinity kinds) room
 
@@ -76,9 +82,9 @@ module _ (x : Model) (o : Offsets) (y : List Float) where
           ≡ answerIn (countsOf (covOf x kinds .0) kinds) (covReport 0 (covOf x kinds .0)) (meanOf x o (covOf x kinds .0) y .1 .loglik) (meanReport 0 (meanOf x o (covOf x kinds .0) y .0))
       answer-same = rw (mean-same, cov-same) at (r .answer) ∙ from-nothing _ _ _ _
 
-      pub judged-so : (room : Bool) → 0 ≡ number room → ending x o kinds room ≡ endingOf 0 (e .silent)
+      silent-so : e .silent ≡ noInformation (countsOf (covOf x kinds .0) kinds)
       unfolding isSilent
-      judged-so room q = by-number room 0 q ∙ ap (endingOf 0) (sym (r .silent ∙ ap (λ (a : Answer). noInformation (tallyOf a)) answer-same))
+      silent-so = r .silent ∙ ap (λ (a : Answer). noInformation (tallyOf a)) answer-same
 
       by : (t : Bool) → e .silent ≡ t → Promise (End (endingOf 0 t)) (answerBy (numberOf (endingOf 0 t)) (e .answer)) b b′
       unfolding covOutcome meanOutcome answerBy numberOf endingOf after countsIn loglikIn reportIn
@@ -97,9 +103,13 @@ module _ (x : Model) (o : Offsets) (y : List Float) where
             mean = λ q. rw (h, mean-same) at (r .mean q);
           }
 
-      pub ended : Promise (End (endingOf 0 (e .silent))) (answerBy (numberOf (endingOf 0 (e .silent))) (e .answer)) b b′
-      ended = by (e .silent) refl
+      pub ended : Promise (End (endingOf 0 (noInformation (countsOf (covOf x kinds .0) kinds)))) (answerBy (numberOf (endingOf 0 (e .silent))) (e .answer)) b b′
+      ended = subst (λ (t : Bool). Promise (End (endingOf 0 t)) (answerBy (numberOf (endingOf 0 (e .silent))) (e .answer)) b b′) silent-so (by (e .silent) refl)
 
--- k is the number of the first of refusals 1 to 11 that the inputs and the lent outputs earn, 0 if none
+-- what the run of a call past its checks leaves: r its answer, b and b′ the parts afterwards
+abbrev pub Run : Model → Offsets → List Float → CovParts → MeanParts → Outcome → CovParts → MeanParts → Type 0
+Run x o y w w′ r b b′ = Promise (End x o y w w′ (endingOf 0 (noInformation (countsOf (covOf x (map classOf y) .0) (map classOf y))))) r b b′
+
+-- k is the number of the first refusal before the run that the inputs and the lent outputs earn, 0 if none
 pub record Checked (x : Model) (o : Offsets) (y : List Float) (w : CovParts) (w′ : MeanParts) (k : ℕ) : Type 0 where
   pub number : k ≡ number x o y (roomy x w w′)

@@ -10,7 +10,7 @@ use Rattle.definition.specs.Run.{anyOf}
 use Rattle.definition.specs.Inputs.{Model, Offsets, Class, classOf, isInfinity}
 use Rattle.definition.specs.Refusals.{outside}
 use Rattle.definition.specs.Parts.{predCov, predInf, fStar, fInf, mStar, mInf, predMean, innovations}
-use Rattle.definition.specs.Outcome.{CovParts, MeanParts, SmoothedCov, SmoothedMean, Ending, turned, silent, answered, endingOf, ending, numberOf, after, roomy, roomySmoothed, smoothedCovNeed, smoothedMeanNeed, covOf, countsOf, noInformation, covOutcome, meanOutcome, outcome, outcomeAt, smoothedCov, smoothedMean, smoothOutcome, smoothOutcomeAt}
+use Rattle.definition.specs.Outcome.{CovParts, MeanParts, SmoothedCov, SmoothedMean, Ending, turned, silent, answered, endingOf, ending, numberOf, after, roomySmoothed, smoothedCovNeed, smoothedMeanNeed, covOf, countsOf, noInformation, covOutcome, meanOutcome, smoothedCov, smoothedMean, smoothOutcome, smoothOutcomeAt}
 use Rattle.laws.specs.Accepted.{accepted}
 use Rattle.laws.specs.Flat.{flatIn}
 use Rattle.model.specs.Lengths.{Room, roomsSmoothed, by-room-smoothed}
@@ -21,12 +21,12 @@ use Rattle.promise.specs.declared.Outcome.{Outcome}
 use Rattle.promise.specs.declared.Outcome.the-variants.{Refused, Answered}
 use Rattle.promise.specs.Calls.{answerBy, Promise, PromiseSmooth}
 use Rattle.filter.specs.Ends as ends
-use Rattle.smoother.proofs.Looked.{Past, fit, smoothed}
+use Rattle.smoother.proofs.Looked.{Past, smoothed}
 
 abbrev kinds : List Float → List Class
 kinds y = map classOf y
 
--- k is the number of the first of refusals 1 to 11 that the inputs and the lent outputs earn, the smoothed parts among them, 0 if none
+-- k is the number of the first refusal before the run that the inputs and the lent outputs earn, the smoothed parts among them, 0 if none
 pub record CheckedSmooth (x : Model) (o : Offsets) (y : List Float) (w : CovParts) (w′ : MeanParts) (sm sc : List Float) (k : ℕ) : Type 0 where
   pub number : k ≡ ends.number x o y (roomySmoothed x w w′ sm sc)
 
@@ -42,7 +42,7 @@ by-fate : (x : Model) (o : Offsets) (y : List Float) (w : CovParts) (w′ : Mean
 unfolding smoothOutcome smoothOutcomeAt End
 by-fate x o y w w′ sm sc f e = ap (λ (g : Ending). End x o y w w′ sm sc g) e
 
--- refusal 12, where refusals 1 to 11 are past
+-- refusal 12, where those before the run are past
 abbrev quiet : Model → List Float → Bool
 quiet x y = noInformation (countsOf (covOf x (kinds y) .0) (kinds y))
 
@@ -78,17 +78,13 @@ module _ {x : Model} {o : Offsets} {y : List Float} {w : CovParts} {w′ : MeanP
   pub past : k ≤ 0 → Past x o (length y) w w′ sm sc
   past h = record { accepted = accepted x o (length y) (anyOf isInfinity (kinds y)) (roomySmoothed x w w′ sm sc) (sym (ends.none h (e .number))) }
 
-  -- past the checks the filter's call has the ending of this one; r, b and b′ are what it left
-  module _ (none : k ≤ 0) {r : Outcome} {b : CovParts} {b′ : MeanParts} (u : Promise (outcome x o y w w′) r b b′) where
+  -- past the checks: r, b and b′ are what the filter's run left
+  module _ (none : k ≤ 0) {r : Outcome} {b : CovParts} {b′ : MeanParts} (u : ends.Run x o y w w′ r b b′) where
     fated : ending x o (kinds y) (roomySmoothed x w w′ sm sc) ≡ endingOf 0 (quiet x y)
     fated = ends.by-number x o y (roomySmoothed x w w′ sm sc) 0 (ends.none none (e .number))
 
-    same : ending x o (kinds y) (roomy x w w′) ≡ ending x o (kinds y) (roomySmoothed x w w′ sm sc)
-    same = ap (ending x o (kinds y)) (fit (past none) .accepted .roomy ∙ sym (past none .accepted .roomy))
-
-    ended : {r′ : Outcome} → r ≡ r′ → Promise (ends.End x o y w w′ (endingOf 0 (quiet x y))) r′ b b′
-    unfolding outcome outcomeAt
-    ended {r′} g = subst (λ (f : Ending). Promise (ends.End x o y w w′ f) r′ b b′) (same ∙ fated) (subst (λ (q : Outcome). Promise (outcome x o y w w′) q b b′) g u)
+    ended : {r′ : Outcome} → r ≡ r′ → ends.Run x o y w w′ r′ b b′
+    ended g = subst (λ (q : Outcome). ends.Run x o y w w′ q b b′) g u
 
     module _ {sm′ sc′ : List Float} where
       pub silenced : {i : ℕ} → r ≡ Refused i → SmoothedBlank (x .m) (x .n) sm sm′ sc sc′ → PromiseSmooth (smoothOutcome x o y w w′ sm sc) (Refused i) b b′ sm′ sc′

@@ -1,4 +1,4 @@
-// smoother.rs: the smoother's call: its checks, the filter's call (crates/filter), then both passes back (crates/backward).
+// smoother.rs: the smoother's call: its checks, the filter's run (crates/filter), then both passes back (crates/backward).
 ghost use Rattle.promise.specs.Lent.{given, lentSmooth};
 ghost use Rattle.promise.specs.Calls.{Smoothed};
 
@@ -97,8 +97,8 @@ pub fn smooth_univariate<'a>(
     if 0 < k {
         return promise::Outcome::Refused(k);
     }
-    // its own checks refuse nothing that has come past these: what it refuses here is refusal 12
-    let o = filter::filter_univariate(
+    // what it refuses here is refusal 12
+    let o = filter::run(
         p,
         m,
         r,
@@ -110,6 +110,7 @@ pub fn smooth_univariate<'a>(
         t,
         rr,
         q,
+        &rqr,
         c,
         d,
         a1,
