@@ -12,7 +12,7 @@ use Rattle.definition.specs.Outcome.{CovParts, MeanParts, Ending, turned, endin
 use Rattle.laws.specs.Accepted.{accepted}
 use Rattle.dense.specs.Views.{mat}
 use Rattle.model.specs.Lengths.{Room, by-room}
-use Rattle.forward.specs.View.{Fit, FitOn, fit-on}
+use Rattle.forward.specs.View.{Fit, FitOn}
 use Rattle.judged.specs.declared.Judged.{Judged}
 use Rattle.judged.specs.Went.{Went}
 use Rattle.promise.specs.declared.Outcome.{Outcome}

@@ -1,6 +1,6 @@
 -- A stretch that is not turned away: what is known of it (`Passed`), that the state which it ends with can be saved (`ended`), and what it saves
 -- (`saved-is`). With no periods it saves what it loaded (`again`).
-use mathlib.Core.Path.{_≡_, refl, ap, ap₂, _∙_, subst}
+use mathlib.Core.Path.{_≡_, refl, ap, ap₂, _∙_}
 use mathlib.Core.Logic.{_⊎_, inl, ⊎-elim}
 use Prim.Native.Nat.{ℕ, zero, suc, _+_, _*_, _≤_}
 use native.Mathlib.Nat.{add-zero}
@@ -9,7 +9,7 @@ use mathlib.Core.Bool.{Bool, true, false, not, _&&_, _||_, cond}
 use mathlib.Core.List.{List, [], _∷_, _++_, map}
 use lib.ListN.{length, take}
 use lib.Seq.{take-at}
-use lib.Dec.{T, ltb, eqb}
+use lib.Dec.{ltb, eqb}
 use lib.Ieee.{Float}
 use borrow.Author.Tests.{ltb-false, le-ltb}
 use Rattle.definition.specs.Run.{scan, pairs, chunks, count, join, anyOf}

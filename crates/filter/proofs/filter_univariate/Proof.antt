@@ -1,7 +1,5 @@
 -- Made from Proof.tpl by tools/expand: edit that.
 -- Checked, then run.
-use mathlib.Core.Path.{refl}
-use borrow.Author.Needs.{needs}
 use Rattle.definition.specs.Inputs.{noise}
 use Rattle.promise.specs.Lent.{modelOf, offsetsOf, covParts, meanParts}
 use Rattle.filter.proofs.Judged as judged

@@ -2,7 +2,6 @@
 use mathlib.Core.Path.{refl, sym, _∙_}
 use native.Mathlib.Nat.{mul-pos}
 use native.Mathlib.Omega.{arith}
-use borrow.Author.Needs.{needs}
 use Rattle.definition.specs.Refusals.{firstOf}
 use Rattle.dense.proofs.Laws.{area}
 use Rattle.model.proofs.refusals.of_reach.Statement.{statement}
