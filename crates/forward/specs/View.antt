@@ -19,7 +19,7 @@ use Rattle.dense.specs.Views.{mat}
 use Rattle.promise.specs.declared.Answer.{Answer}
 use Rattle.forward.specs.declared.End.{End}
 
--- ---- what a call past refusals 1 to 11 has
+-- ---- what a call past the refusals before the run has
 
 pub record Fit (x : Model) (o : Offsets) (y : ℕ) (w : CovParts) (w′ : MeanParts) : Type 0 where
   pub accepted : Accepted x o y (roomy x w w′)

@@ -12,7 +12,7 @@ pub struct Answer {
     pub mean_off: usize,
 }
 
-// Refused with its number, 1 to 12 or 15, or answered.
+// Refused with its number, 1 to 12, 14 or 15, or answered.
 pub enum Outcome {
     Refused(u8),
     Answered(Answer),

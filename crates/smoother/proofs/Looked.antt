@@ -26,7 +26,7 @@ use Rattle.mean_back.specs.Call as mean-call
 use Rattle.mean_back.specs.Looked as mean-looked
 use Rattle.backward.specs.View.{ReadyBack, Back}
 
--- ---- past refusals 1 to 11
+-- ---- past the refusals before the run
 
 -- w and w′ are the filter's parts as they were lent, sm and sc the smoothed ones
 pub record Past (x : Model) (o : Offsets) (y : ℕ) (w : CovParts) (w′ : MeanParts) (sm sc : List Float) : Type 0 where

@@ -53,7 +53,7 @@ pub fn smooth_univariate<'a>(
         (now («m_star» .exit)) (now («m_inf» .exit))
         (now («sm_mean» .exit)) (now («sm_cov» .exit))) ⌝ }
 {
-    // refusals 1 to 11: the two smoothed parts count for refusal 2 too
+    // the refusals before the run: the two smoothed parts count for refusal 2 too
     let room = model::lengths::room(
         p,
         m,

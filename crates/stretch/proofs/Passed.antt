@@ -1,4 +1,4 @@
--- Past refusals 1 to 11 and 15 the run over the later part of the list may begin, from a state that fits.
+-- Past the refusals before the run, the run over the later part of the list may begin, from a state that fits.
 use mathlib.Core.Path.{_≡_}
 use Prim.Native.Nat.{ℕ, _*_, _≤_, _<_}
 use native.Mathlib.Nat.{mul-pos}
