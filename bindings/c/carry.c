@@ -46,7 +46,7 @@ static size_t d_diffuse, heard, news, cov_off, mean_off;
 static uint32_t run_days(const double *y, size_t n, uint8_t begins, const uint8_t *saved, size_t saved_len, uint8_t last, uint8_t *save)
 {
     return goxundar_stretch(
-        P, M, R, n, design, P * M, NULL, 0, 0, noise, P * P, transition, M * M, loading, M * R, disturbances, R * R,
+        P, M, R, n, design, P * M, NULL, 0, 0, noise, P * P, transition, M * M, NULL, 0, loading, M * R, disturbances, R * R,
         zeros, M, zeros, P, zeros, M, zeros, M * M, unknown, M, y, n * P, begins, saved, saved_len, last,
         pred_mean, GOXUNDAR_PRED_MEAN_LEN(M, n), pred_cov, GOXUNDAR_PRED_COV_LEN(M, n), pred_inf, GOXUNDAR_PRED_COV_LEN(M, n),
         filt_mean, GOXUNDAR_MEAN_LEN(M, n), filt_cov, GOXUNDAR_COV_LEN(M, n), kinds, GOXUNDAR_RECORD_LEN(P, n),

@@ -92,7 +92,10 @@ int main(void)
         P, M, R, N,
         design, P * M, /* the same design in all periods, */
         NULL, 0, 0,    /* so no list of them, and none to repeat */
-        noise, P * P, transition, M * M, loading, M * R, disturbances, R * R,
+        noise, P * P,
+        transition, M * M, /* the same in all periods too, */
+        NULL, 0,           /* so no list of them either */
+        loading, M * R, disturbances, R * R,
         zeros, M, zeros, P, /* nothing is added to states and readings */
         zeros, M, start_cov, M * M, unknown, M,
         readings, N * P,

@@ -11,10 +11,10 @@
  *
  * THE MODEL
  *
- *     reading[t] = d + Z[t] * state[t] + noise,          the noise of element i has variance H[i][i]
- *     state[t+1] = c + T * state[t] + R * disturbance,   disturbance k has variance Q[k][k]
+ *     reading[t] = d + Z[t] * state[t] + noise,             the noise of element i has variance H[i][i]
+ *     state[t+1] = c + T[t] * state[t] + R * disturbance,   disturbance k has variance Q[k][k]
  *
- * The design Z is the same in all periods, or there is a list of designs, one for each.
+ * The design Z is the same in all periods, or there is a list of designs, one for each. So it is with the transition T.
  *
  * Readings are in the units that you choose, states too. The library only sees numbers. A variance is in the square of its unit.
  *
@@ -38,7 +38,9 @@
  *     zs       k * p * m   k designs one after the other, k from 1 to 4096; else empty. Period t takes the t-th. Exactly one of z and zs is empty
  *     repeats  a byte      0: zs has a design for every period. Any other: once zs has run out its last design is used again. See A LIST OF DESIGNS
  *     h        p * p       H, the readings' noise: diagonal, its entries 0 or more. 0 is a reading without noise
- *     t        m * m       T, how the states move from one period to the next
+ *     t        m * m       T, how the states move from one period to the next, if it is the same in all periods; else empty
+ *     ts       k * m * m   k transitions one after the other, k from 1 to 4096; else empty. The t-th leads from period t to the next. Exactly one of
+ *                          t and ts is empty. See A LIST OF TRANSITIONS
  *     rr       m * r       R, which disturbance moves which state
  *     q        r * r       Q, the disturbances' variances: diagonal, its entries 0 or more
  *     c        m           added to the states in each step; zeros if there is nothing to add
@@ -56,6 +58,18 @@
  *     goxundar_filter(1, 1, 1, 14, NULL, 0, zs, 12, 1, ...)   answered: the twelfth design is that of the last three periods
  *
  * A list with more designs than periods is fine, with either. With z, the constant design, repeats has no effect: hand over 0.
+ *
+ * A LIST OF TRANSITIONS
+ *
+ * A heated cabinet changes a crystal's rate law with the season. Then T is a list, ts: matrix t leads from period t to period t + 1. The smoother's
+ * step back from t to t - 1 takes matrix t - 1, the one that led into t. The last period's matrix leads to place n of the predicted parts. So there
+ * is one for each period, and fewer are refused with 2. repeats is for designs alone, and does not change that:
+ *
+ *     goxundar_filter(1, 1, 1, 14, z, 1, NULL, 0, 0, h, 1, NULL, 0, ts, 12, ...)   twelve transitions for fourteen periods: refused
+ *     goxundar_filter(1, 1, 1, 14, z, 1, NULL, 0, 0, h, 1, NULL, 0, ts, 14, ...)   answered
+ *
+ * A longer list is fine; refusal 3 looks at all of it. Refusal 10 looks at the first matrix alone: a later one may lead from a flagged state into an
+ * unflagged one. One matrix, listed once for each period, gives what it gives as t, bit for bit, refusals too.
  *
  * OUTPUT PARTS. The count is at least what stands here. What is lent beyond that stays as it was.
  *
@@ -125,8 +139,9 @@
  *
  *  - The saved bytes hold the run, and of the model its sizes p, m and r alone. Hand every stretch the same model; nothing can tell if you do.
  *    a1, p_star and flags are checked in every stretch, and used in the first.
- *  - A list zs is handed over whole each time, with the same repeats, which is not saved: its designs count from the run's first period. Where
- *    repeats is 0 there are at least as many of them as periods done plus n, else refusal 14. All stretches together have 4096 periods at most.
+ *  - A list, zs or ts, is handed over whole each time: its matrices count from the run's first period. There are at least as many of them as periods
+ *    done plus n, else refusal 2 for ts, 14 for zs; zs may have fewer where repeats is not 0. repeats is not saved: hand over the same each time. All
+ *    stretches together have 4096 periods at most.
  *  - The six places of the answer are since the run began, in every stretch. cov_off and mean_off count from the run's first period, and what an
  *    earlier stretch has told stays. Of place n the next stretch tells: it is its first period.
  *  - Place n of the predicted parts is written as by the filter. pred_inf there has not been tested yet, so the next stretch's place 0, which has,
@@ -150,13 +165,14 @@
  * AN OLDER HEADER DOES NOT LINK
  *
  * When the parameters of the calls change, so does the interface's number, GOXUNDAR_INTERFACE. The library's symbols end in it: goxundar_filter is
- * goxundar_filter_3 there. Write the plain names: macros of this header put the number behind them, also where you take an address. An object that
+ * goxundar_filter_4 there. Write the plain names: macros of this header put the number behind them, also where you take an address. An object that
  * was compiled against another interface asks for symbols that are not there, and the linker says so. Without the number it would link, and hand over
  * other parameters: the library would take counts for pointers, and write there. Compile it again with this header.
  *
  *     1   its symbols had no number, and its answers four places
  *     2   cov_off and mean_off, last in every call
  *     3   repeats, right after zs, in every call
+ *     4   ts, right after t, in every call
  *
  * From another language, or by dlsym, ask for the name with the number.
  */
@@ -171,12 +187,12 @@ extern "C" {
 #endif
 
 /* The interface's number, and the calls' symbols, which end in it: an object of another interface must not link. */
-#define GOXUNDAR_INTERFACE 3
-#define goxundar_filter goxundar_filter_3
-#define goxundar_smooth goxundar_smooth_3
-#define goxundar_stretch goxundar_stretch_3
+#define GOXUNDAR_INTERFACE 4
+#define goxundar_filter goxundar_filter_4
+#define goxundar_smooth goxundar_smooth_4
+#define goxundar_stretch goxundar_stretch_4
 
-/* The largest p, m and r; the largest n, and count of listed designs. */
+/* The largest p, m and r; the largest n, and count of listed designs or transitions. */
 #define GOXUNDAR_MAX_SIZE 8
 #define GOXUNDAR_MAX_PERIODS 4096
 
@@ -191,15 +207,16 @@ extern "C" {
 /* The length of a saved run, exactly: 160 bytes for one state, 2232 for eight. */
 #define GOXUNDAR_SAVED_LEN(m) (120 + 8 * (size_t)(m) + 32 * (size_t)(m) * (size_t)(m))
 
-/* What a call returns: 0, or the first refusal that applies, in this order. 15 is given by goxundar_stretch alone. There 14 comes right after it,
- * since it goes by the periods done: 1, 2, 3 to 11, 15, 14, 12.
+/* What a call returns: 0, or the first refusal that applies, in this order. 15 is given by goxundar_stretch alone. There a list's reach is judged
+ * right after it, since it goes by the periods done, first that of ts: 1, 2, 3 to 11, 15, 2 for a short ts, 14, 12.
  * 1 to 11, 14 and 15 write nothing. 12 sets the needed count of every output to 0 (+0.0, and kind 0), and leaves what is beyond it. */
 enum goxundar_refusal {
     GOXUNDAR_ANSWERED = 0,
     GOXUNDAR_DIMENSION = 1,         /* p, m or r is not 1 to 8, or n is not 1 to 4096 (goxundar_stretch: 0 to 4096) */
-    GOXUNDAR_LENGTH = 2,            /* an input has not its exact count, an output is too short, or not exactly one of z and zs is given */
+    GOXUNDAR_LENGTH = 2,            /* an input has not its exact count, an output is too short, or not exactly one of z and zs, or of t and ts, is
+                                       given. Or ts is given, and there are fewer transitions than n (goxundar_stretch: than periods done plus n) */
     GOXUNDAR_LIST_SHORT = 14,       /* zs is given, repeats is 0, and there are fewer designs than n (goxundar_stretch: than periods done plus n) */
-    GOXUNDAR_NON_FINITE_SYSTEM = 3, /* z, zs (each listed design, used or not), h, t, rr or q has a NaN or an infinity */
+    GOXUNDAR_NON_FINITE_SYSTEM = 3, /* z, zs, h, t, ts, rr or q has a NaN or an infinity; of a list each matrix counts, used or not */
     GOXUNDAR_NOT_PSD = 4,           /* a diagonal entry of h or q is below 0: a variance can't be */
     GOXUNDAR_Q_NOT_DIAGONAL = 5,    /* an entry of q off its diagonal is not 0 */
     GOXUNDAR_NON_FINITE_START = 6,  /* c, d, a1 or p_star has a NaN or an infinity */
@@ -207,7 +224,8 @@ enum goxundar_refusal {
                                        entry in its row or column of p_star, that is not 0 */
     GOXUNDAR_NON_DIAGONAL_H = 8,    /* an entry of h off its diagonal is not 0 */
     GOXUNDAR_INFINITE_READING = 9,  /* a reading is infinite (a NaN is a gap, and fine) */
-    GOXUNDAR_MIXED_DRIVEN = 10,     /* t leads from a flagged state into an unflagged one: its entry (unflagged, flagged) is not 0 */
+    GOXUNDAR_MIXED_DRIVEN = 10,     /* t, or the first matrix of ts, leads from a flagged state into an unflagged one: its entry (unflagged, flagged)
+                                       is not 0 */
     GOXUNDAR_NON_FINITE_NOISE = 11, /* R * Q * R', symmetrised, has an entry that is not finite: it overflows */
     GOXUNDAR_BAD_SAVED = 15,        /* the run goes on, and saved is not a saved run: its length or a section's count is wrong; it has another p, m or
                                        r than the call; its periods done and n are above 4096 together; its diffuse periods, cov_off or mean_off are
@@ -230,6 +248,7 @@ uint32_t goxundar_filter(
     const double *zs, size_t zs_len, uint8_t repeats,
     const double *h, size_t h_len,
     const double *t, size_t t_len,
+    const double *ts, size_t ts_len,
     const double *rr, size_t rr_len,
     const double *q, size_t q_len,
     const double *c, size_t c_len,
@@ -258,6 +277,7 @@ uint32_t goxundar_smooth(
     const double *zs, size_t zs_len, uint8_t repeats,
     const double *h, size_t h_len,
     const double *t, size_t t_len,
+    const double *ts, size_t ts_len,
     const double *rr, size_t rr_len,
     const double *q, size_t q_len,
     const double *c, size_t c_len,
@@ -288,6 +308,7 @@ uint32_t goxundar_stretch(
     const double *zs, size_t zs_len, uint8_t repeats,
     const double *h, size_t h_len,
     const double *t, size_t t_len,
+    const double *ts, size_t ts_len,
     const double *rr, size_t rr_len,
     const double *q, size_t q_len,
     const double *c, size_t c_len,

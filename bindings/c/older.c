@@ -1,6 +1,6 @@
 /* older.c: a program as it was compiled against the header of an older interface; INTERFACE says which. It declares the calls as that header did, by
  * their symbols. It must compile, and must not link: bindings/c/run sees to both, of every number below today's. If it did link, the library would
- * take each parameter behind zs for another, and write to wherever the stack happens to point.
+ * take each parameter behind zs or t for another, and write to wherever the stack happens to point.
  */
 #include <stddef.h>
 #include <stdint.h>
@@ -10,14 +10,22 @@
 #define OUT double *, size_t
 #define BYTES_IN const uint8_t *, size_t
 #define BYTES_OUT uint8_t *, size_t
-#define GIVEN SIZES, IN, IN, IN, IN, IN, IN, IN, IN, IN, IN, BYTES_IN, IN
+#define BEHIND_ZS IN, IN, IN, IN, IN, IN, IN, IN, BYTES_IN, IN
 #define LENT OUT, OUT, OUT, OUT, OUT, BYTES_OUT, OUT, OUT, OUT, OUT, OUT
+#define FOUR_PLACES double *, size_t *, size_t *, size_t *
+#define SIX_PLACES FOUR_PLACES, size_t *, size_t *
 #if INTERFACE == 1 /* no number, and four places for the answer */
 #define SYMBOL(name) name
-#define PLACES double *, size_t *, size_t *, size_t *
+#define GIVEN SIZES, IN, IN, BEHIND_ZS
+#define PLACES FOUR_PLACES
 #elif INTERFACE == 2 /* no repeats */
 #define SYMBOL(name) name##_2
-#define PLACES double *, size_t *, size_t *, size_t *, size_t *, size_t *
+#define GIVEN SIZES, IN, IN, BEHIND_ZS
+#define PLACES SIX_PLACES
+#elif INTERFACE == 3 /* no ts */
+#define SYMBOL(name) name##_3
+#define GIVEN SIZES, IN, IN, uint8_t, BEHIND_ZS
+#define PLACES SIX_PLACES
 #else
 #error "say here what this interface declared"
 #endif

@@ -1,10 +1,11 @@
 /* test.c: the calls through goxundar.h, against document 01: its bench figures, each part in its place, the refusals, lengths, empty parts; lists of
- * designs; numbers that ran off; and runs in stretches, against the uncut ones and against document 02's bytes.
+ * designs and of transitions; numbers that ran off; and runs in stretches, against the uncut ones and against document 02's bytes.
  *
  * Every expected value is 01's or 02's, or follows from one of their rules as a comment says. None was taken from the program. Doubles are compared
  * by their bits, all NaNs as one. Each call is made three times, by goxundar_filter, by goxundar_smooth and by goxundar_stretch over the whole run:
- * the others answer and write all that the filter does. What lies beyond the needed count of an output must stay as it was, in every call; and every
- * answer's reports are held against the numbers that the call has written. It is C99, and C++ too.
+ * the others answer and write all that the filter does. Each call with a constant transition is made once more with a list of copies of it, one for
+ * each period, and must end the same. What lies beyond the needed count of an output must stay as it was, in every call; and every answer's reports
+ * are held against the numbers that the call has written. It is C99, and C++ too.
  */
 #include <math.h>
 #include <stdio.h>
@@ -41,18 +42,19 @@ static void count(size_t got, size_t want, const char *what)
 
 /* ---- a call's inputs */
 
-enum { Z, ZS, H, T, RR, Q, C, D, A1, P_STAR, FLAGS, Y, INPUTS };
+enum { Z, ZS, H, T, TS, RR, Q, C, D, A1, P_STAR, FLAGS, Y, INPUTS };
 
 struct call {
     size_t p, m, r, n;
     double z[16], zs[64], h[16], t[64], rr[16], q[16], c[8], d[8], a1[8], p_star[64];
+    const double *ts; /* lent: such a list can be long */
     uint8_t flags[8];
     double y[4097];
     size_t len[INPUTS]; /* the counts that are passed */
     uint8_t repeats;
 };
 
-/* The counts that the sizes ask for, with a constant design. */
+/* The counts that the sizes ask for, with a constant design and transition. */
 static void exact(struct call *k)
 {
     size_t p = k->p, m = k->m, r = k->r;
@@ -60,6 +62,7 @@ static void exact(struct call *k)
     k->len[ZS] = 0;
     k->len[H] = p * p;
     k->len[T] = m * m;
+    k->len[TS] = 0;
     k->len[RR] = m * r;
     k->len[Q] = r * r;
     k->len[C] = m;
@@ -75,6 +78,14 @@ static void listed(struct call *k, size_t designs)
 {
     k->len[Z] = 0;
     k->len[ZS] = designs * k->p * k->m;
+}
+
+/* That many transitions, and no constant one. */
+static void transitions(struct call *k, const double *ts, size_t matrices)
+{
+    k->ts = ts;
+    k->len[T] = 0;
+    k->len[TS] = matrices * k->m * k->m;
 }
 
 /* 01's model unless said: m = p = r = 1, Z = T = R = 1, H = 1, Q = 2, flagged, a1 = P* = 0. */
@@ -179,6 +190,14 @@ static void lend(const struct call *k)
 
 /* ---- where a stretch goes on from, and what it saves */
 
+static uint64_t number_in(const uint8_t *at)
+{
+    uint64_t number = 0;
+    int i;
+    for (i = 0; i < 8; i++) number = number << 8 | at[i];
+    return number;
+}
+
 static uint8_t save[GOXUNDAR_SAVED_LEN(8) + BEYOND];
 
 static struct stretch {
@@ -238,7 +257,7 @@ static int parts_of(int which)
 #define OUT double *, size_t
 #define BYTES_IN const uint8_t *, size_t
 #define BYTES_OUT uint8_t *, size_t
-#define GIVEN SIZES, IN, IN, uint8_t, IN, IN, IN, IN, IN, IN, IN, IN, BYTES_IN, IN
+#define GIVEN SIZES, IN, IN, uint8_t, IN, IN, IN, IN, IN, IN, IN, IN, IN, BYTES_IN, IN
 #define LENT OUT, OUT, OUT, OUT, OUT, BYTES_OUT, OUT, OUT, OUT, OUT, OUT
 #define PLACES double *, size_t *, size_t *, size_t *, size_t *, size_t *
 
@@ -254,24 +273,27 @@ static uint32_t call(int which, const struct call *k)
     mark_all();
     if (which == FILTER)
         return by_address.filter(
-            k->p, k->m, k->r, k->n, k->z, k->len[Z], k->zs, k->len[ZS], k->repeats, k->h, k->len[H], k->t, k->len[T], k->rr, k->len[RR],
-            k->q, k->len[Q], k->c, k->len[C], k->d, k->len[D], k->a1, k->len[A1], k->p_star, k->len[P_STAR], k->flags, k->len[FLAGS], k->y, k->len[Y],
+            k->p, k->m, k->r, k->n, k->z, k->len[Z], k->zs, k->len[ZS], k->repeats, k->h, k->len[H], k->t, k->len[T], k->ts, k->len[TS],
+            k->rr, k->len[RR], k->q, k->len[Q], k->c, k->len[C], k->d, k->len[D], k->a1, k->len[A1], k->p_star, k->len[P_STAR],
+            k->flags, k->len[FLAGS], k->y, k->len[Y],
             pred_mean, part[PRED_MEAN].lent, pred_cov, part[PRED_COV].lent, pred_inf, part[PRED_INF].lent,
             filt_mean, part[FILT_MEAN].lent, filt_cov, part[FILT_COV].lent, kinds, part[KINDS].lent,
             v, part[V].lent, f_star, part[F_STAR].lent, f_inf, part[F_INF].lent, m_star, part[M_STAR].lent, m_inf, part[M_INF].lent,
             &answer.loglik, &answer.d_diffuse, &answer.heard, &answer.news, &answer.cov_off, &answer.mean_off);
     if (which == STRETCH)
         return by_address.stretch(
-            k->p, k->m, k->r, k->n, k->z, k->len[Z], k->zs, k->len[ZS], k->repeats, k->h, k->len[H], k->t, k->len[T], k->rr, k->len[RR],
-            k->q, k->len[Q], k->c, k->len[C], k->d, k->len[D], k->a1, k->len[A1], k->p_star, k->len[P_STAR], k->flags, k->len[FLAGS], k->y, k->len[Y],
+            k->p, k->m, k->r, k->n, k->z, k->len[Z], k->zs, k->len[ZS], k->repeats, k->h, k->len[H], k->t, k->len[T], k->ts, k->len[TS],
+            k->rr, k->len[RR], k->q, k->len[Q], k->c, k->len[C], k->d, k->len[D], k->a1, k->len[A1], k->p_star, k->len[P_STAR],
+            k->flags, k->len[FLAGS], k->y, k->len[Y],
             stretch.begins, stretch.saved, stretch.saved_len, stretch.last,
             pred_mean, part[PRED_MEAN].lent, pred_cov, part[PRED_COV].lent, pred_inf, part[PRED_INF].lent,
             filt_mean, part[FILT_MEAN].lent, filt_cov, part[FILT_COV].lent, kinds, part[KINDS].lent,
             v, part[V].lent, f_star, part[F_STAR].lent, f_inf, part[F_INF].lent, m_star, part[M_STAR].lent, m_inf, part[M_INF].lent,
             save, stretch.save_lent, &answer.loglik, &answer.d_diffuse, &answer.heard, &answer.news, &answer.cov_off, &answer.mean_off);
     return by_address.smooth(
-        k->p, k->m, k->r, k->n, k->z, k->len[Z], k->zs, k->len[ZS], k->repeats, k->h, k->len[H], k->t, k->len[T], k->rr, k->len[RR],
-        k->q, k->len[Q], k->c, k->len[C], k->d, k->len[D], k->a1, k->len[A1], k->p_star, k->len[P_STAR], k->flags, k->len[FLAGS], k->y, k->len[Y],
+        k->p, k->m, k->r, k->n, k->z, k->len[Z], k->zs, k->len[ZS], k->repeats, k->h, k->len[H], k->t, k->len[T], k->ts, k->len[TS],
+        k->rr, k->len[RR], k->q, k->len[Q], k->c, k->len[C], k->d, k->len[D], k->a1, k->len[A1], k->p_star, k->len[P_STAR],
+        k->flags, k->len[FLAGS], k->y, k->len[Y],
         pred_mean, part[PRED_MEAN].lent, pred_cov, part[PRED_COV].lent, pred_inf, part[PRED_INF].lent,
         filt_mean, part[FILT_MEAN].lent, filt_cov, part[FILT_COV].lent, kinds, part[KINDS].lent,
         v, part[V].lent, f_star, part[F_STAR].lent, f_inf, part[F_INF].lent, m_star, part[M_STAR].lent, m_inf, part[M_INF].lent,
@@ -299,14 +321,6 @@ static void kept(int which, const struct call *k, uint32_t refusal)
         check(marked(&answer.cov_off, 0, sizeof answer.cov_off), "a refusal leaves cov_off");
         check(marked(&answer.mean_off, 0, sizeof answer.mean_off), "a refusal leaves mean_off");
     }
-}
-
-static uint64_t number_in(const uint8_t *at)
-{
-    uint64_t number = 0;
-    int i;
-    for (i = 0; i < 8; i++) number = number << 8 | at[i];
-    return number;
 }
 
 /* Whether period t of an output, which has that many numbers a period, has one that is not finite. */
@@ -340,13 +354,67 @@ static void reports(int which, const struct call *k)
     }
 }
 
-/* A call with the usual lending, that must end so. */
+/* The constant transition as a list: a copy of it for each period of the run, the ones before a stretch too. 0 where there is none to copy. */
+static int copied(struct call *to, int which, const struct call *k)
+{
+    static double copies[GOXUNDAR_MAX_PERIODS * 64];
+    size_t one = k->m * k->m, periods = k->n, i;
+    if (k->m < 1 || k->m > GOXUNDAR_MAX_SIZE || k->len[T] != one || k->len[TS] != 0) return 0;
+    if (which == STRETCH && !stretch.begins && stretch.saved_len >= 36) periods += (size_t)number_in(stretch.saved + 28);
+    if (periods < 1) periods = 1; /* no list is empty */
+    if (periods > GOXUNDAR_MAX_PERIODS) periods = GOXUNDAR_MAX_PERIODS;
+    for (i = 0; i < periods; i++) memcpy(copies + i * one, k->t, one * sizeof *copies);
+    *to = *k;
+    transitions(to, copies, periods);
+    return 1;
+}
+
+static uint64_t bits_of(double x)
+{
+    uint64_t bits;
+    memcpy(&bits, &x, sizeof bits);
+    return bits;
+}
+
+static uint64_t mixed(uint64_t sum, uint64_t bits)
+{
+    return ((sum >> 29 | sum << 35) ^ bits) * 0x9E3779B97F4A7C15u;
+}
+
+static uint64_t mixed_double(uint64_t sum, double x)
+{
+    return mixed(sum, bits_of(x == x ? x : NAN));
+}
+
+/* A number for all that the outputs and the answer hold now, as lent. Where a bit is another, so is the number, but by a freak. All NaNs are one. */
+static uint64_t left_now(void)
+{
+    uint64_t sum = mixed_double(0, answer.loglik);
+    size_t j;
+    int i;
+    for (i = 0; i < OUTPUTS; i++)
+        for (j = 0; j < part[i].lent; j++)
+            sum = part[i].size == 1 ? mixed(sum, ((uint8_t *)part[i].at)[j]) : mixed_double(sum, ((double *)part[i].at)[j]);
+    for (j = 0; j < sizeof save; j++) sum = mixed(sum, save[j]);
+    sum = mixed(mixed(mixed(sum, answer.d_diffuse), answer.heard), answer.news);
+    return mixed(mixed(sum, answer.cov_off), answer.mean_off);
+}
+
+/* A call with the usual lending, that must end so. With copies for a constant transition it ends so too, and leaves the same. */
 static void ends(int which, const struct call *k, uint32_t want)
 {
+    static struct call copies;
     uint32_t refusal;
+    uint64_t by_copies = 0;
+    int has_copies = copied(&copies, which, k);
     lend(k);
+    if (has_copies) {
+        count(call(which, &copies), want, "the refusal, with copies of the transition");
+        by_copies = left_now();
+    }
     refusal = call(which, k);
     count(refusal, want, "the refusal");
+    if (has_copies) check(left_now() == by_copies, "what is left, with copies of the transition");
     kept(which, k, refusal);
     if (refusal == GOXUNDAR_ANSWERED) reports(which, k);
 }
@@ -615,28 +683,48 @@ static void places(int which)
 
 /* ---- the refusals, by 01's table */
 
-/* One call breaks every rule. They are mended one by one, in the table's order, so the refusals come in that order too. 14 comes right after 2, in a
- * stretch after 11. */
-static void order(int which)
+/* A call whose lists have one matrix for two periods: the transitions' reach is judged first, and no marker is for it. Both are mended. */
+static void reaches(int which, struct call *k)
 {
+    if (k->len[TS] > 0) {
+        ends(which, k, GOXUNDAR_LENGTH);
+        k->repeats = 1;
+        ends(which, k, GOXUNDAR_LENGTH);
+        k->repeats = 0;
+        transitions(k, k->ts, 2);
+    }
+    ends(which, k, GOXUNDAR_LIST_SHORT);
+    k->repeats = 1;
+}
+
+/* One call breaks every rule. They are mended one by one, in the table's order, so the refusals come in that order too. A list's reach, 2 of the
+ * transitions and 14 of the designs, comes right after 2, in a stretch after 11. */
+static void order(int which, int list)
+{
+    static double ts[8];
     static struct call k;
-    figure = "the order of the refusals";
+    double *t = list ? ts : k.t;
+    int i;
+    figure = list ? "the order of the refusals, with listed transitions" : "the order of the refusals";
     memset(&k, 0, sizeof k);
     k.p = k.m = k.r = 2;
     k.n = 4097; /* 1 */
     exact(&k);
+    for (i = 0; i < 8; i++) ts[i] = 0;
+    if (list) transitions(&k, ts, 1); /* 2: for two periods */
+    ts[6] = ts[7] = 1; /* the second leads into the unflagged state, and may */
     k.len[Y] = 8;      /* 2 */
     listed(&k, 1);     /* 14: for two periods */
     k.z[0] = NAN;      /* not lent, so nothing */
     k.zs[3] = NAN;     /* 3 */
-    k.t[3] = NAN;      /* 3 */
+    t[3] = NAN;        /* 3 */
     k.h[3] = -1;       /* 4 */
     k.q[1] = 1;        /* 5 */
     k.d[1] = INFINITY; /* 6 */
     k.flags[0] = 2;    /* 7 */
     k.h[2] = 1;        /* 8 */
     k.y[1] = INFINITY; /* 9 */
-    k.t[2] = 1;        /* 10: state 0 is flagged, state 1 is not */
+    t[2] = 1;          /* 10: state 0 is flagged, state 1 is not */
     k.rr[3] = 1e200;   /* 11: with Q = 1, its square overflows */
     k.q[3] = 1;
     /* 12: Z and H are 0, so no reading tells anything */
@@ -644,14 +732,11 @@ static void order(int which)
     k.n = 2;
     ends(which, &k, GOXUNDAR_LENGTH);
     k.len[Y] = 4;
-    if (which != STRETCH) {
-        ends(which, &k, GOXUNDAR_LIST_SHORT);
-        k.repeats = 1;
-    }
+    if (which != STRETCH) reaches(which, &k);
     ends(which, &k, GOXUNDAR_NON_FINITE_SYSTEM);
     k.zs[3] = 0;
     ends(which, &k, GOXUNDAR_NON_FINITE_SYSTEM);
-    k.t[3] = 1;
+    t[3] = 1;
     ends(which, &k, GOXUNDAR_NOT_PSD);
     k.h[3] = 0;
     ends(which, &k, GOXUNDAR_Q_NOT_DIAGONAL);
@@ -665,13 +750,10 @@ static void order(int which)
     ends(which, &k, GOXUNDAR_INFINITE_READING);
     k.y[1] = 0;
     ends(which, &k, GOXUNDAR_MIXED_DRIVEN);
-    k.t[2] = 0;
+    t[2] = 0;
     ends(which, &k, GOXUNDAR_NON_FINITE_NOISE);
     k.rr[3] = 1;
-    if (which == STRETCH) {
-        ends(which, &k, GOXUNDAR_LIST_SHORT);
-        k.repeats = 1;
-    }
+    if (which == STRETCH) reaches(which, &k);
     ends(which, &k, GOXUNDAR_NO_INFORMATION);
     k.zs[0] = 1; /* input 0 now reads state 0, of which nothing is known; in period 1 it is 0, as T says */
     ends(which, &k, GOXUNDAR_ANSWERED);
@@ -740,6 +822,7 @@ static void lengths(int which)
     int i;
     figure = "an input's length";
     two_inputs(&k, 2, 7);
+    k.ts = k.t; /* a number to lend, where there is one too many */
     for (i = 0; i < INPUTS; i++) {
         size_t right = k.len[i];
         k.len[i] = right + 1;
@@ -896,35 +979,199 @@ static void short_lists(int which)
     }
 }
 
+/* ---- lists of transitions */
+
+/* The season changes after period 0: T is 2, then 1. With H = 6 the first reading leaves a variance of 6, and the step makes 4 * 6 + 2 of it. Of the
+ * second v = 36 - 4, F* = 26 + 6, so the gain is 26 / 32. Back by the T of period 0, which led into period 1: r = 2 * 32 / 32, N = 4 / 32, and the
+ * first smoothed mean is 2 + 6 * 2. By the T of period 1 it would be 8. A third matrix leads from a period that there is not. */
+static void season(int which)
+{
+    static const double ts[] = {2, 1, 7};
+    static struct call k;
+    size_t given;
+    figure = "a change of season";
+    for (given = 2; given <= 3; given++) {
+        two_readings(&k, 2, 36);
+        k.h[0] = 6;
+        transitions(&k, ts, given);
+        ends(which, &k, GOXUNDAR_ANSWERED);
+        record(0, GOXUNDAR_DIFFUSE, 2, 6, 1);
+        record(1, GOXUNDAR_USUAL, 32, 32, 0);
+        same(pred_mean[1], 4, "predicted mean, place 1");
+        same(pred_cov[1], 26, "predicted covariance, place 1");
+        same(pred_mean[2], 30, "predicted mean, place 2");
+        same(pred_cov[2], 6.875, "predicted covariance, place 2");
+        same(answer.loglik, -(0.5 * ln_2pi()) - 0.5 * ((ln_2pi() + ln(32)) + 32.0 * 32 / 32), "log-likelihood");
+        if (which != SMOOTH) continue;
+        same(sm_mean[0], 14, "first smoothed mean");
+        same(sm_mean[1], 30, "second smoothed mean");
+        same(sm_cov[0], 1.5, "first smoothed covariance");
+        same(sm_cov[1], 4.875, "second smoothed covariance");
+    }
+}
+
+/* A known level that nothing disturbs, T = 2, 3, 5, and one reading, of the last period: in period t its mean is the product of the T before t, its
+ * covariance the square of that. Of the reading v = 70 - 6, F* = 36 + 28. Each step is exact, and in hindsight the level still moves by 2 and 3. */
+static void three_steps(int which)
+{
+    static const double ts[] = {2, 3, 5}, y[] = {NAN, NAN, 70};
+    static const double want_pred_mean[] = {1, 2, 6, 210}, want_pred_cov[] = {1, 4, 36, 393.75};
+    static const double want_mean[] = {1, 2, 42}, want_cov[] = {1, 4, 15.75}, want_sm_mean[] = {7, 14, 42}, want_sm_cov[] = {0.4375, 1.75, 15.75};
+    static struct call k;
+    figure = "three transitions";
+    plain(&k);
+    k.n = 3;
+    exact(&k);
+    transitions(&k, ts, 3);
+    k.h[0] = 28;
+    k.q[0] = 0;
+    k.flags[0] = 0;
+    k.a1[0] = k.p_star[0] = 1;
+    fill(k.y, y, 3);
+    ends(which, &k, GOXUNDAR_ANSWERED);
+    record(2, GOXUNDAR_USUAL, 64, 64, 0);
+    all_same(pred_mean, want_pred_mean, 4, "pred_mean");
+    all_same(pred_cov, want_pred_cov, 4, "pred_cov");
+    all_same(filt_mean, want_mean, 3, "filt_mean");
+    all_same(filt_cov, want_cov, 3, "filt_cov");
+    if (which != SMOOTH) return;
+    all_same(sm_mean, want_sm_mean, 3, "sm_mean");
+    all_same(sm_cov, want_sm_cov, 3, "sm_cov");
+}
+
+/* Exactly one of t and ts; 1 to 4096 matrices, whole ones; all of them finite, used or not. */
+static void transition_lengths(int which)
+{
+    static double ts[4097];
+    static struct call k;
+    size_t i;
+    figure = "the count of listed transitions";
+    for (i = 0; i < 4097; i++) ts[i] = 1;
+    one_reading(&k, 2);
+    transitions(&k, ts, 0);
+    ends(which, &k, GOXUNDAR_LENGTH); /* neither */
+    transitions(&k, ts, 1);
+    k.len[T] = 1;
+    ends(which, &k, GOXUNDAR_LENGTH); /* both */
+    transitions(&k, ts, 4097);
+    ends(which, &k, GOXUNDAR_LENGTH);
+    transitions(&k, ts, 4096);
+    ends(which, &k, GOXUNDAR_ANSWERED); /* figure A */
+    record(0, GOXUNDAR_DIFFUSE, 2, 1, 1);
+    same(pred_cov[1], 3, "next predicted covariance");
+    sized(&k, 2, 2);
+    transitions(&k, ts, 2);
+    for (i = 0; i <= 9; i++) { /* two periods of two states: eight numbers */
+        k.len[TS] = i;
+        ends(which, &k, i == 8 ? GOXUNDAR_ANSWERED : GOXUNDAR_LENGTH);
+    }
+    figure = "a listed transition that is not finite";
+    for (i = 0; i < 3; i++) {
+        static const double bad[] = {NAN, INFINITY, -INFINITY};
+        one_reading(&k, 2);
+        ts[4095] = bad[i];
+        transitions(&k, ts, 4096);
+        ends(which, &k, GOXUNDAR_NON_FINITE_SYSTEM);
+        transitions(&k, ts, 4095);
+        ends(which, &k, GOXUNDAR_ANSWERED);
+    }
+}
+
+/* Fourteen periods, one to sixteen transitions, no two of them the same. A list that is too short is refused, marked or not, and before a list of
+ * designs that is too short as well. A longer one gives what the first fourteen give. */
+static void short_transitions(int which)
+{
+    static double ts[64];
+    static struct call k;
+    size_t given, designs, i;
+    for (i = 0; i < 64; i++) ts[i] = i % 4 == 2 ? 0 : 1 + (double)(i * i % 37) / 64;
+    fourteen(&k);
+    fill(k.z, k.zs, 4);
+    transitions(&k, ts, 14);
+    figure = "transitions that reach";
+    ends(which, &k, GOXUNDAR_ANSWERED);
+    keep(&by_hand, which);
+    for (given = 1; given <= 16; given++) {
+        figure = given < 14 ? "transitions that run out" : "transitions that reach";
+        transitions(&k, ts, given);
+        for (k.repeats = 0; k.repeats < 2; k.repeats++) {
+            ends(which, &k, given < 14 ? GOXUNDAR_LENGTH : GOXUNDAR_ANSWERED);
+            if (given < 14) continue;
+            as_kept(&by_hand, 0, 14);
+            answer_is(&by_hand.answer);
+        }
+    }
+    figure = "both lists";
+    for (designs = 13; designs <= 14; designs++)
+        for (given = 13; given <= 14; given++) {
+            fourteen(&k);
+            listed(&k, designs);
+            transitions(&k, ts, given);
+            ends(which, &k, given < 14 ? GOXUNDAR_LENGTH : designs < 14 ? GOXUNDAR_LIST_SHORT : GOXUNDAR_ANSWERED);
+        }
+}
+
+/* State 0 is flagged, state 1 is not. The first transition may not lead from one into the other. The second may, and then both are unknown. */
+static const double stay_then_lead[] = {1, 0, 0, 1, 1, 0, 1, 1, 1, 0, 0, 1};
+
+static void led_later(struct call *k, const double *ts)
+{
+    memset(k, 0, sizeof *k);
+    k->p = k->r = 1;
+    k->m = k->n = 2;
+    exact(k);
+    k->z[0] = k->flags[0] = 1;
+    k->y[0] = k->y[1] = NAN;
+    transitions(k, ts, 2);
+}
+
+static void mixed_later(int which)
+{
+    static const double start[] = {1, 0, 0, 0}, led[] = {1, 1, 1, 1};
+    static struct call k;
+    figure = "a later transition that leads from a flagged state";
+    led_later(&k, stay_then_lead);
+    ends(which, &k, GOXUNDAR_ANSWERED);
+    all_same(pred_inf, start, 4, "diffuse covariance, place 0");
+    all_same(pred_inf + 4, start, 4, "diffuse covariance, place 1");
+    all_same(pred_inf + 8, led, 4, "diffuse covariance, place 2");
+    led_later(&k, stay_then_lead + 4); /* the second is the first now */
+    ends(which, &k, GOXUNDAR_MIXED_DRIVEN);
+}
+
 /* ---- empty parts may be null */
 
 static uint32_t all_null(int which, size_t size)
 {
     if (which == FILTER)
         return goxundar_filter(
-            size, size, size, size, NULL, 0, NULL, 0, 0, NULL, 0, NULL, 0, NULL, 0, NULL, 0, NULL, 0, NULL, 0, NULL, 0, NULL, 0, NULL, 0, NULL, 0,
+            size, size, size, size, NULL, 0, NULL, 0, 0, NULL, 0, NULL, 0, NULL, 0,
+            NULL, 0, NULL, 0, NULL, 0, NULL, 0, NULL, 0, NULL, 0, NULL, 0, NULL, 0,
             NULL, 0, NULL, 0, NULL, 0, NULL, 0, NULL, 0, NULL, 0, NULL, 0, NULL, 0, NULL, 0, NULL, 0, NULL, 0,
             &answer.loglik, &answer.d_diffuse, &answer.heard, &answer.news, &answer.cov_off, &answer.mean_off);
     if (which == STRETCH)
         return goxundar_stretch(
-            size, size, size, size, NULL, 0, NULL, 0, 0, NULL, 0, NULL, 0, NULL, 0, NULL, 0, NULL, 0, NULL, 0, NULL, 0, NULL, 0, NULL, 0, NULL, 0,
+            size, size, size, size, NULL, 0, NULL, 0, 0, NULL, 0, NULL, 0, NULL, 0,
+            NULL, 0, NULL, 0, NULL, 0, NULL, 0, NULL, 0, NULL, 0, NULL, 0, NULL, 0,
             1, NULL, 0, 1, NULL, 0, NULL, 0, NULL, 0, NULL, 0, NULL, 0, NULL, 0, NULL, 0, NULL, 0, NULL, 0, NULL, 0, NULL, 0, NULL, 0,
             &answer.loglik, &answer.d_diffuse, &answer.heard, &answer.news, &answer.cov_off, &answer.mean_off);
     return goxundar_smooth(
-        size, size, size, size, NULL, 0, NULL, 0, 0, NULL, 0, NULL, 0, NULL, 0, NULL, 0, NULL, 0, NULL, 0, NULL, 0, NULL, 0, NULL, 0, NULL, 0,
+        size, size, size, size, NULL, 0, NULL, 0, 0, NULL, 0, NULL, 0, NULL, 0,
+        NULL, 0, NULL, 0, NULL, 0, NULL, 0, NULL, 0, NULL, 0, NULL, 0, NULL, 0,
         NULL, 0, NULL, 0, NULL, 0, NULL, 0, NULL, 0, NULL, 0, NULL, 0, NULL, 0, NULL, 0, NULL, 0, NULL, 0, NULL, 0, NULL, 0,
         &answer.loglik, &answer.d_diffuse, &answer.heard, &answer.news, &answer.cov_off, &answer.mean_off);
 }
 
-/* Figure A, with a null for the part that is empty: the list of designs, or the constant one. */
-static void null_design(int list)
+/* Figure A, with a null for the parts that are empty: of the designs and of the transitions, the list or the constant one. */
+static void null_lists(int designs, int moves)
 {
     static const double one = 1, zero = 0, two = 2;
     static const uint8_t flag = 1;
     uint32_t refusal;
     mark_all();
     refusal = goxundar_filter(
-        1, 1, 1, 1, list ? NULL : &one, list ? 0 : 1, list ? &one : NULL, list ? 1 : 0, 0, &one, 1, &one, 1, &one, 1, &two, 1,
+        1, 1, 1, 1, designs ? NULL : &one, designs ? 0 : 1, designs ? &one : NULL, designs ? 1 : 0, 0, &one, 1,
+        moves ? NULL : &one, moves ? 0 : 1, moves ? &one : NULL, moves ? 1 : 0, &one, 1, &two, 1,
         &zero, 1, &zero, 1, &zero, 1, &zero, 1, &flag, 1, &two, 1, /* the inputs share their numbers */
         pred_mean, 2, pred_cov, 2, pred_inf, 2, filt_mean, 1, filt_cov, 1, kinds, 1, v, 1, f_star, 1, f_inf, 1, m_star, 1, m_inf, 1,
         &answer.loglik, &answer.d_diffuse, &answer.heard, &answer.news, &answer.cov_off, &answer.mean_off);
@@ -936,6 +1183,7 @@ static void null_design(int list)
 
 static void nulls(int which)
 {
+    int lists;
     figure = "null for every part";
     mark_all();
     count(all_null(which, 0), GOXUNDAR_DIMENSION, "sizes 0");
@@ -947,8 +1195,7 @@ static void nulls(int which)
     count(all_null(which, 1), GOXUNDAR_LENGTH, "sizes 1");
     kept(which, NULL, GOXUNDAR_LENGTH);
     figure = "null for an empty part";
-    null_design(0);
-    null_design(1);
+    for (lists = 0; lists < 4; lists++) null_lists(lists & 1, lists >> 1);
 }
 
 /* ---- numbers that ran off */
@@ -1153,11 +1400,12 @@ static void cut_everywhere(const struct call *k)
 }
 
 /* README.md's level; bindings/c/example.c's crystal, with a second design from period 1 on, marked and then written out: both inputs read twice the
- * offset; and levels that run off. */
+ * offset; the same with a list of transitions, in which the rate moves the offset by more in each period; and levels that run off. */
 static void cuts(void)
 {
     static const double z[] = {1, 0, 1, 1, 0, 1, 2, 0, 1, 2, 0, 1}, t[] = {1, 1, 0, 0, 1, 0, 0, 0, 0}, q[] = {0.04, 0.01, 25};
     static const double y[] = {NAN, NAN, 212, NAN, NAN, NAN, 236.5, 236.5, NAN, 251, NAN, NAN, NAN, NAN, 288.5, 288.5, NAN, NAN, 313, NAN};
+    static double ts[90];
     static struct call k;
     size_t i;
     figure = "the level in stretches";
@@ -1189,6 +1437,13 @@ static void cuts(void)
     write_out(&k);
     k.repeats = 0;
     cut_everywhere(&k);
+    figure = "the crystal in stretches, with listed transitions";
+    for (i = 0; i < 10; i++) {
+        fill(ts + i * 9, t, 9);
+        ts[i * 9 + 1] = 1 + (double)i / 8;
+    }
+    transitions(&k, ts, 10);
+    cut_everywhere(&k);
     figure = "a level that runs off, in stretches";
     growing(&k, ldexp(1, 256), 6);
     cut_everywhere(&k);
@@ -1207,13 +1462,6 @@ static void put(uint8_t *to, uint64_t number)
 {
     int i;
     for (i = 7; i >= 0; i--, number >>= 8) to[i] = (uint8_t)(number & 255);
-}
-
-static uint64_t bits_of(double x)
-{
-    uint64_t bits;
-    memcpy(&bits, &x, sizeof bits);
-    return bits;
 }
 
 /* Figure B's level after its first period, by document 02's rules. Mean and covariance are A's next predicted ones. The period's reading has taken
@@ -1472,6 +1720,59 @@ static void listed_from_the_first(void)
     whole();
 }
 
+/* So does the list of transitions: the change of season, in stretches of a period. A third one has a transition of its own, and no marker stands for
+ * it. Refusal 10 looks at the list's first matrix, which may be long done. */
+static void season_from_the_first(void)
+{
+    static const double ts[] = {2, 1, 7};
+    static struct call k;
+    static uint8_t saved[GOXUNDAR_SAVED_LEN(2)];
+    figure = "a change of season in stretches";
+    one_reading(&k, 2);
+    k.h[0] = 6;
+    transitions(&k, ts, 2);
+    begins(&k);
+    ends(STRETCH, &k, GOXUNDAR_ANSWERED);
+    same(pred_mean[1], 4, "predicted mean, place 1");
+    same(pred_cov[1], 26, "predicted covariance, place 1");
+    memcpy(saved, save, ONE_STATE);
+    k.y[0] = 36;
+    goes_on(&k, saved);
+    ends(STRETCH, &k, GOXUNDAR_ANSWERED);
+    same(filt_mean[0], 30, "second filtered mean");
+    same(filt_cov[0], 4.875, "second filtered covariance");
+    same(pred_mean[1], 30, "predicted mean, place 2");
+    same(pred_cov[1], 6.875, "predicted covariance, place 2");
+    memcpy(saved, save, ONE_STATE);
+    k.n = k.len[Y] = 0; /* no period more: the list reaches the two that are done */
+    ends(STRETCH, &k, GOXUNDAR_ANSWERED);
+    check(memcmp(save, saved, ONE_STATE) == 0, "loading then saving gives the same bytes");
+    k.n = k.len[Y] = 1;
+    k.y[0] = NAN;
+    for (k.repeats = 0; k.repeats < 2; k.repeats++) ends(STRETCH, &k, GOXUNDAR_LENGTH);
+    transitions(&k, ts, 3);
+    ends(STRETCH, &k, GOXUNDAR_ANSWERED);
+    same(pred_mean[1], 7 * 30, "predicted mean, place 3");
+    memcpy(saved, save, ONE_STATE);
+    k.n = k.len[Y] = 0; /* no period more, but three are done */
+    ends(STRETCH, &k, GOXUNDAR_ANSWERED);
+    transitions(&k, ts, 2);
+    ends(STRETCH, &k, GOXUNDAR_LENGTH);
+
+    figure = "a later transition that leads from a flagged state, in stretches";
+    led_later(&k, stay_then_lead);
+    k.n = k.len[Y] = 1;
+    begins(&k);
+    ends(STRETCH, &k, GOXUNDAR_ANSWERED);
+    memcpy(saved, save, sizeof saved);
+    goes_on(&k, saved);
+    ends(STRETCH, &k, GOXUNDAR_ANSWERED);
+    same(pred_inf[7], 1, "diffuse covariance of the unflagged state, place 2");
+    transitions(&k, stay_then_lead + 4, 2); /* this stretch would take the second, which stays */
+    ends(STRETCH, &k, GOXUNDAR_MIXED_DRIVEN);
+    whole();
+}
+
 static void room_to_save(void)
 {
     static struct call k;
@@ -1690,9 +1991,11 @@ static void judged_last(void)
     whole();
 }
 
-/* 15 stands after 11, then come 14 and 12; a save that is too short is 2. One call breaks all of these, and they are mended one by one. */
+/* 15 stands after 11; then come 2 of a list of transitions that is too short, 14 and 12. A save that is too short is 2 at its ordinary place. One
+ * call breaks all of these, and they are mended one by one. */
 static void late_order(void)
 {
+    static const double ts[] = {1, 1};
     static struct call k;
     static uint8_t saved[ONE_STATE];
     figure = "the order of the late refusals";
@@ -1701,13 +2004,14 @@ static void late_order(void)
     k.h[0] = 0;
     k.zs[0] = 1;
     listed(&k, 1);
+    transitions(&k, ts, 1);
     begins(&k);
     ends(STRETCH, &k, GOXUNDAR_ANSWERED);
     memcpy(saved, save, ONE_STATE);
     k.n = 4097;      /* 1 */
     k.rr[0] = 1e200; /* 11: its square overflows */
     k.y[0] = NAN;
-    goes_on(&k, saved);                /* 14: for the run's second period there is no design */
+    goes_on(&k, saved);                /* 2 and 14: for the run's second period there is no transition, and no design */
     saved[0] = 1;                      /* 15 */
     stretch.save_lent = ONE_STATE - 1; /* 2 */
     ends(STRETCH, &k, GOXUNDAR_DIMENSION);
@@ -1718,8 +2022,7 @@ static void late_order(void)
     k.rr[0] = 1;
     ends(STRETCH, &k, GOXUNDAR_BAD_SAVED);
     saved[0] = 0;
-    ends(STRETCH, &k, GOXUNDAR_LIST_SHORT);
-    k.repeats = 1;
+    reaches(STRETCH, &k);
     ends(STRETCH, &k, GOXUNDAR_NO_INFORMATION);
     stretch.last = 0;
     stretch.save_lent = ONE_STATE;
@@ -1738,7 +2041,7 @@ static void null_saved(void)
         uint32_t refusal;
         mark_all();
         refusal = goxundar_stretch(
-            1, 1, 1, 1, &one, 1, NULL, 0, 0, &one, 1, &one, 1, &one, 1, &two, 1, &zero, 1, &zero, 1, &zero, 1, &zero, 1, &flag, 1, &two, 1,
+            1, 1, 1, 1, &one, 1, NULL, 0, 0, &one, 1, &one, 1, NULL, 0, &one, 1, &two, 1, &zero, 1, &zero, 1, &zero, 1, &zero, 1, &flag, 1, &two, 1,
             (uint8_t)!goes, NULL, 0, 1,
             pred_mean, 2, pred_cov, 2, pred_inf, 2, filt_mean, 1, filt_cov, 1, kinds, 1, v, 1, f_star, 1, f_inf, 1, m_star, 1, m_inf, 1,
             NULL, 0, &answer.loglik, &answer.d_diffuse, &answer.heard, &answer.news, &answer.cov_off, &answer.mean_off);
@@ -1761,11 +2064,17 @@ int main(void)
         dust(which);
         sizes(which);
         places(which);
-        order(which);
+        order(which, 0);
+        order(which, 1);
         dimensions(which);
         lengths(which);
         designs(which);
         short_lists(which);
+        season(which);
+        three_steps(which);
+        transition_lengths(which);
+        short_transitions(which);
+        mixed_later(which);
         nulls(which);
         ran_off(which);
         left_out(which);
@@ -1777,6 +2086,7 @@ int main(void)
     saved_before();
     untested_place();
     listed_from_the_first();
+    season_from_the_first();
     room_to_save();
     markers();
     start_not_used();

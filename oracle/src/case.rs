@@ -1,11 +1,13 @@
 //! A case: what a caller hands in and lends. Running one gives what both
 //! calls must answer and write.
 
-use parts::{needed, Answer, Inputs, Outcome, Outputs, Smoothed, FILTER_PARTS, SMOOTH_PARTS};
+use parts::{bad_length, needed, transitions_short};
+use parts::{Answer, Inputs, Outcome, Outputs, Smoothed};
+use parts::{FILTER_PARTS, MAX_PERIODS, MAX_SIZE, SMOOTH_PARTS};
 use tsecon_ssm_probed::probe;
 
 use crate::marks;
-use crate::refuse::ORDER;
+use crate::refuse::{number, ORDER, T_REACH};
 
 /// Every number of a lent output part, before a call.
 pub const PATTERN: u64 = 0xA5A5_A5A5_A5A5_A5A5;
@@ -17,9 +19,12 @@ pub const NAN: u64 = 0x7FF8_0000_0000_0000;
 /// Count of an answer's numbers.
 pub const ANSWER: usize = 6;
 
-/// Names of the twelve inputs, in order.
-pub const INPUT_NAMES: [&str; 12] = [
-    "z", "zs", "h", "t", "rr", "q", "c", "d", "a1", "p_star", "flags", "y",
+/// Count of the inputs.
+pub const INPUTS: usize = 13;
+
+/// Their names, in order.
+pub const INPUT_NAMES: [&str; INPUTS] = [
+    "z", "zs", "h", "t", "ts", "rr", "q", "c", "d", "a1", "p_star", "flags", "y",
 ];
 /// Names of the thirteen outputs, in order.
 pub const OUTPUT_NAMES: [&str; SMOOTH_PARTS] = [
@@ -51,6 +56,7 @@ pub struct Case {
     pub repeats: u8,
     pub h: Vec<f64>,
     pub t: Vec<f64>,
+    pub ts: Vec<f64>,
     pub rr: Vec<f64>,
     pub q: Vec<f64>,
     pub c: Vec<f64>,
@@ -148,6 +154,7 @@ impl Case {
             repeats: self.repeats,
             h: &self.h,
             t: &self.t,
+            ts: &self.ts,
             rr: &self.rr,
             q: &self.q,
             c: &self.c,
@@ -160,13 +167,14 @@ impl Case {
     }
 
     /// The inputs as words, in order.
-    pub fn input_words(&self) -> [Vec<u64>; 12] {
+    pub fn input_words(&self) -> [Vec<u64>; INPUTS] {
         let f = |x: &[f64]| x.iter().map(|v| v.to_bits()).collect();
         [
             f(&self.z),
             f(&self.zs),
             f(&self.h),
             f(&self.t),
+            f(&self.ts),
             f(&self.rr),
             f(&self.q),
             f(&self.c),
@@ -186,6 +194,35 @@ impl Case {
     /// How many designs are listed. Sizes must be in their ranges.
     pub fn listed(&self) -> usize {
         self.zs.len() / (self.p * self.m)
+    }
+
+    /// The constant T as a list, so many times over.
+    pub fn list_t(&mut self, count: usize) {
+        self.ts = std::mem::take(&mut self.t).repeat(count);
+    }
+
+    /// How many transitions are listed. Sizes must be in their ranges.
+    pub fn listed_t(&self) -> usize {
+        self.ts.len() / (self.m * self.m)
+    }
+
+    /// Whether the sizes are in their ranges.
+    pub fn sized(&self) -> bool {
+        let sizes = [self.p, self.m, self.r];
+        let small = sizes.iter().all(|k| (1..=MAX_SIZE).contains(k));
+        small && (1..=MAX_PERIODS).contains(&self.n)
+    }
+
+    /// The case with its last listed transition again, up to n: what no
+    /// stretch within the list's reach can tell from it.
+    pub fn reaching(&self) -> Case {
+        let mut whole = self.clone();
+        if self.sized() && self.listed_t() > 0 {
+            let (count, size) = (self.listed_t(), self.m * self.m);
+            let last = &self.ts[(count - 1) * size..count * size];
+            (count..self.n).for_each(|_| whole.ts.extend(last));
+        }
+        whole
     }
 
     /// Lends exactly what is needed. Sizes must be in their ranges.
@@ -316,10 +353,14 @@ pub fn run(case: &Case) -> Expected {
 /// The marks that show in the inputs, the outputs and the answer.
 fn mark(case: &Case, e: &mut Expected) {
     let mut set = |k: usize, b: bool| e.hits[k] = u64::from(b);
-    for k in ORDER {
+    let i = case.inputs();
+    // Of the two tests that give 2, the one that is judged first has to pass.
+    let by_reach = || !bad_length(&i, &case.lent[..FILTER_PARTS]) && transitions_short(&i, i.n);
+    for test in ORDER {
+        let given = matches!(e.filter, Err(k) if k as usize == number(test));
         set(
-            marks::refusal(k),
-            matches!(e.filter, Err(x) if x as usize == k),
+            marks::refusal(test),
+            given && (test != T_REACH || by_reach()),
         );
     }
     set(marks::SMOOTH_ONLY, e.filter.is_ok() && e.smooth.is_err());
@@ -353,6 +394,12 @@ fn mark(case: &Case, e: &mut Expected) {
     set(marks::LIST_LONG, listed > case.n);
     set(marks::LIST_EXACT, listed == case.n);
     set(marks::MARKED_IN_VAIN, case.repeats != 0 && !short);
+    let listed = case.listed_t();
+    set(marks::T_LONG, listed > case.n);
+    set(marks::T_EXACT, listed == case.n);
+    let steps = || case.ts.chunks(case.m * case.m).take(case.n);
+    let varies = steps().zip(steps().skip(1)).any(|(a, b)| a != b);
+    set(marks::T_VARIES, varies && e.smooth.is_ok());
     let need = needed(case.p, case.m, case.n);
     set(
         marks::TAIL,

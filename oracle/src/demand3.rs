@@ -6,6 +6,7 @@ use parts::{Answer, Outcome};
 
 use crate::case::{run, same_answer, writes, Case, Expected};
 use crate::gen::Cases;
+use crate::marks;
 use crate::rng::Rng;
 
 /// Parts that neither the values of finite readings nor the offsets must
@@ -21,7 +22,7 @@ pub struct Looked {
     pub second: u64,
     /// Calls with other offsets, whose means moved.
     pub offsets: u64,
-    /// Calls with other offsets that are refused 14.
+    /// Calls with other offsets that are refused for a list's reach: 2 or 14.
     pub short: u64,
 }
 
@@ -128,12 +129,16 @@ pub fn try_case(rng: &mut Rng, case: &Case, looked: &mut Looked) -> Result<(), S
         looked.first += 1;
     }
     // The offsets may bring about refusals 2, 6 and 7: of a call past 1 to
-    // 11 they are changed so that they do not. 14 is judged before 6 and 7.
-    if writes(&e.filter) || matches!(e.filter, Err(14)) {
+    // 11 they are changed so that they do not. A list's reach is judged
+    // before 6 and 7.
+    let short = [marks::T_SHORT, marks::REFUSAL_14]
+        .iter()
+        .any(|&k| e.hits[k] > 0);
+    if writes(&e.filter) || short {
         let found = run(&other_offsets(rng, case));
         blind(&e, &found, "request k")?;
         looked.offsets += u64::from(found.written[0] != e.written[0]);
-        looked.short += u64::from(e.filter.is_err_and(|k| k == 14));
+        looked.short += u64::from(short);
     }
     if !matches!(e.filter, Ok(a) if a.news > 0) {
         return Ok(());
@@ -160,7 +165,7 @@ pub fn command(cases: Cases, seed: u64, count: u64) -> Result<(), String> {
         try_case(&mut rng, &case, &mut looked).map_err(|e| format!("case {k}: {e}\n{case:?}"))?;
     }
     println!(
-        "demand 3: {count} cases, {} calls with other readings, {} skipped readings, {} calls with other offsets, {} refused 14: nothing found",
+        "demand 3: {count} cases, {} calls with other readings, {} skipped readings, {} calls with other offsets, {} refused for a list's reach: nothing found",
         looked.first, looked.second, looked.offsets, looked.short
     );
     Ok(())

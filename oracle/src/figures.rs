@@ -1,13 +1,14 @@
 //! Document 01's bench figures as cases, starred and not, each with what 01
-//! says of it. The fixed list ends with them. K, the logarithm of 1, is no
-//! call; m = 8 with n = 4096 is too long for a case file.
+//! says of it; and the one of document 02's request g. The fixed list ends
+//! with them. K, the logarithm of 1, is no call; m = 8 with n = 4096 is too
+//! long for a case file.
 
 use crate::case::{Case, Expected, OUTPUT_NAMES};
 use crate::rng::pow2;
 
 const GAP: f64 = f64::NAN;
 
-/// One thing that 01 says of a figure.
+/// One thing that is said of a figure.
 pub enum Said {
     /// Of both calls.
     Refusal(u32),
@@ -115,7 +116,18 @@ fn too_long() -> Case {
     case
 }
 
-/// The figures, in 01's order.
+/// H = 6, y = [2, 36], and T is 2 out of the first period, 1 out of the
+/// second. The step back into the first takes the 2: by the 1 its smoothed
+/// mean would be 8.
+pub fn led_into() -> Case {
+    let mut case = level(&[2.0, 36.0]);
+    case.h = vec![6.0];
+    case.t = vec![];
+    case.ts = vec![2.0, 1.0];
+    case
+}
+
+/// The figures: 01's in its order, then request g's.
 pub fn all() -> Vec<Figure> {
     let of = |name, case, says| Figure { name, case, says };
     let dusty = |name, power, kind| {
@@ -192,10 +204,24 @@ pub fn all() -> Vec<Figure> {
         dusty("H = 2^-40", -40, 1),
         dusty("H = 2^-50", -50, 0),
         of("n = 4097", too_long(), vec![Refusal(1)]),
+        of(
+            "T = 2, then 1",
+            led_into(),
+            vec![
+                At("pred_mean", 1, 4.0),
+                At("pred_cov", 1, 26.0),
+                At("pred_mean", 2, 30.0),
+                At("pred_cov", 2, 6.875),
+                At("sm_mean", 0, 14.0),
+                At("sm_cov", 0, 1.5),
+                At("sm_mean", 1, 30.0),
+                At("sm_cov", 1, 4.875),
+            ],
+        ),
     ]
 }
 
-/// Holds an outcome to what 01 says of the figure, bit for bit.
+/// Holds an outcome to what is said of the figure, bit for bit.
 pub fn hold(figure: &Figure, e: &Expected) {
     let name = figure.name;
     let written = |part: &str, at: usize| {

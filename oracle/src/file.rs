@@ -2,17 +2,17 @@
 
 use parts::SMOOTH_PARTS;
 
-use crate::case::{answer_words, Case, Expected, ANSWER};
+use crate::case::{answer_words, Case, Expected, ANSWER, INPUTS, INPUT_NAMES};
 
-/// First word of a file: "GOXCASE3".
-pub const MAGIC: u64 = 0x474F_5843_4153_4533;
+/// First word of a file: "GOXCASE4".
+pub const MAGIC: u64 = 0x474F_5843_4153_4534;
 /// Words of the file's header.
 pub const HEADER_WORDS: usize = 5;
 /// Where the marker stands in a case, and where the lengths of the inputs do.
 pub const REPEATS_AT: usize = 6;
 pub const INPUTS_AT: usize = 7;
 /// Where the lengths lent stand.
-pub const LENT_AT: usize = INPUTS_AT + 12;
+pub const LENT_AT: usize = INPUTS_AT + INPUTS;
 /// Where the two refusals stand.
 pub const REFUSALS_AT: usize = LENT_AT + SMOOTH_PARTS;
 /// Where the answer stands in a case.
@@ -23,7 +23,7 @@ pub const COUNTS_AT: usize = ANSWER_AT + ANSWER;
 pub const HEAD_WORDS: usize = COUNTS_AT + SMOOTH_PARTS;
 /// No case has more words.
 pub const MAX_CASE_WORDS: usize = 8_192;
-/// The listed designs have no more places.
+/// Neither list, of designs or of transitions, has more places.
 pub const MAX_LIST: usize = 4_097;
 /// No other part, input or output, has more places.
 pub const MAX_PART: usize = 1_024;
@@ -55,20 +55,20 @@ impl Writer {
     /// One case as bytes.
     pub fn case(&mut self, case: &Case, e: &Expected) -> &[u8] {
         let words = words(case, e);
-        let inputs = case.input_words();
-        let others = (0..12).filter(|&k| k != 1).map(|k| inputs[k].len());
-        let part = others.chain(case.lent).max().unwrap();
+        let listed = |name: &str| matches!(name, "zs" | "ts");
+        let (mut part, mut list) = (0, 0);
+        for (name, input) in INPUT_NAMES.into_iter().zip(case.input_words()) {
+            let most = if listed(name) { &mut list } else { &mut part };
+            *most = input.len().max(*most);
+        }
+        part = case.lent.into_iter().fold(part, usize::max);
         assert!(
             words.len() <= MAX_CASE_WORDS,
             "case of {} words",
             words.len()
         );
         assert!(part <= MAX_PART, "part of {part} places");
-        assert!(
-            inputs[1].len() <= MAX_LIST,
-            "list of {} places",
-            inputs[1].len()
-        );
+        assert!(list <= MAX_LIST, "list of {list} places");
         self.largest_case = self.largest_case.max(words.len());
         self.largest_part = self.largest_part.max(part);
         self.total += 8 * words.len();

@@ -27,8 +27,9 @@ pub enum Scene {
     Pointed(usize),
     /// Inflated until the reports are as wished.
     RanOff(Wish),
+    /// Refused by a test, see `refuse::ORDER`.
     Refused(usize),
-    /// Two refusals, the one that is judged first before the other.
+    /// By two of them, the one that is judged first before the other.
     Pair(usize, usize),
 }
 
@@ -109,25 +110,54 @@ fn for_branch(mk: &mut Maker<'_>, b: Branch) -> Case {
     }
 }
 
-/// One case of a scene.
+/// The case with T as a list, every second time: of other matrices from the
+/// second on where it is still as it must be, else of copies.
+fn listed(mk: &mut Maker<'_>, mut case: Case, still: impl Fn(&Case) -> bool) -> Case {
+    mk.maybe_list_t(&mut case);
+    if case.ts.is_empty() {
+        return case;
+    }
+    let mut varied = case.clone();
+    mk.vary_t(&mut varied, Flavour::Short);
+    if still(&varied) {
+        varied
+    } else {
+        case
+    }
+}
+
+/// One case of a scene. T is a list in every second one.
 pub fn make(rng: &mut Rng, room: Room, scene: Scene) -> Case {
     let mut mk = Maker { rng, room };
     match scene {
         Scene::General(f) => mk.general(f),
         Scene::Branch(b) => {
+            let taken = |case: &Case| case::probe_hits(case)[b as usize] > 0;
             let mut case = for_branch(&mut mk, b);
             for _ in 0..TRIES {
-                if case::probe_hits(&case)[b as usize] > 0 {
+                if taken(&case) {
                     break;
                 }
                 case = for_branch(&mut mk, b);
             }
-            case
+            listed(&mut mk, case, taken)
         }
-        Scene::LongDiffuse => mk.long_diffuse(),
-        Scene::PlaceN => mk.shrinks(),
+        Scene::LongDiffuse => {
+            let case = mk.long_diffuse();
+            listed(&mut mk, case, |_| true)
+        }
+        Scene::PlaceN => {
+            let case = mk.shrinks();
+            listed(&mut mk, case, |_| false)
+        }
         Scene::SmootherAlone => mk.smoother_alone(),
-        Scene::Pointed(k) => mk.pointed(k),
+        Scene::Pointed(k) => {
+            let case = mk.pointed(k);
+            match pointed::LISTS_OF_T.contains(&k) {
+                true => case,
+                false => listed(&mut mk, case, |_| false),
+            }
+        }
         Scene::RanOff(w) => mk.wished(w),
         Scene::Refused(k) => mk.refused(k),
         Scene::Pair(a, b) => mk.refused_twice(a, b),
@@ -193,8 +223,7 @@ impl Iterator for Cases {
 /// What a scene promises of the outcome, checked on every case.
 pub fn check_scene(scene: Scene, e: &case::Expected) {
     let want = match scene {
-        Scene::Refused(k) => k,
-        Scene::Pair(a, _) => a,
+        Scene::Refused(k) | Scene::Pair(k, _) => refuse::number(k),
         Scene::RanOff(_) => {
             let told = matches!(e.filter, Ok(a) if a.cov_off > 0 || a.mean_off > 0);
             return assert!(told, "{scene:?}");

@@ -1,6 +1,6 @@
 //! The fixed list of cases: taken from the cases of seed 1, each because it
 //! adds to a mark, a pair of refusals or a kind of scene that is still short;
-//! then document 01's bench figures.
+//! then the bench figures.
 
 use std::io;
 

@@ -1,5 +1,6 @@
-//! Makers of cases that refusals 1 to 11 and 14 let through: general ones, and
-//! one maker for each branch that chance alone would hardly take.
+//! Makers of cases that refusals 1 to 11 and 14 let through, but for lists of T
+//! that fall short: general ones, and one maker for each branch that chance
+//! alone would hardly take.
 
 use parts::{list_short, needed, Inputs};
 
@@ -209,6 +210,32 @@ impl Maker<'_> {
         }
     }
 
+    /// Every second time turns the constant T into a list: n copies of it, or
+    /// more matrices, of which no period takes those past n.
+    pub fn maybe_list_t(&mut self, case: &mut Case) {
+        if self.rng.chance(1, 2) {
+            return;
+        }
+        let taken = case.n * case.t.len();
+        let count = case.n + self.rng.pick(&[0, 0, 1, 2]);
+        case.list_t(count.max(1));
+        for x in &mut case.ts[taken..] {
+            *x = self.near(Flavour::Short);
+        }
+    }
+
+    /// Other matrices in a list of T, from the second on. There a flagged
+    /// state may drive one that is not: refusal 10 looks at the first alone.
+    pub fn vary_t(&mut self, case: &mut Case, flavour: Flavour) {
+        let unflagged = vec![0; case.m];
+        for one in case.ts.chunks_mut(case.m * case.m).skip(1) {
+            if self.rng.chance(2, 3) {
+                let flags = self.rng.pick(&[&unflagged, &case.flags]);
+                one.copy_from_slice(&self.transition(flags, flavour));
+            }
+        }
+    }
+
     /// A start covariance on the unflagged states, mirrored, diagonal not
     /// below 0; not always semidefinite.
     fn start_cov(&mut self, flags: &[u8], flavour: Flavour) -> Vec<f64> {
@@ -334,7 +361,8 @@ impl Maker<'_> {
         h
     }
 
-    /// Anything that refusals 1 to 10 let through; 11 and 12 may catch it.
+    /// Anything that refusals 1 to 10 let through; 11 and 12 may catch it, and
+    /// now and then a list of T that falls short.
     pub fn general(&mut self, flavour: Flavour) -> Case {
         let (p, m, r) = (self.size(), self.size(), self.size().min(3));
         let n = self.periods(m);
@@ -345,6 +373,13 @@ impl Maker<'_> {
         self.maybe_list(&mut case, flavour, true);
         case.h = self.noise(p, flavour);
         case.t = self.transition(&case.flags.clone(), flavour);
+        self.maybe_list_t(&mut case);
+        if self.rng.chance(3, 4) {
+            self.vary_t(&mut case, flavour);
+        }
+        if !case.ts.is_empty() && n > 1 && self.rng.chance(1, 12) {
+            case.ts.truncate(self.rng.within(1, n - 1) * m * m);
+        }
         let calm = match flavour {
             Flavour::Wild if self.rng.chance(3, 4) => Flavour::Plain,
             Flavour::Huge if self.rng.chance(1, 2) => Flavour::Plain,
@@ -717,6 +752,7 @@ fn case_floats(case: &mut Case) -> impl Iterator<Item = &mut f64> {
         &mut case.zs,
         &mut case.h,
         &mut case.t,
+        &mut case.ts,
         &mut case.rr,
         &mut case.q,
         &mut case.c,

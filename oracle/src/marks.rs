@@ -3,7 +3,7 @@
 
 use tsecon_ssm_probed::probe::{Branch, BRANCHES};
 
-use crate::refuse::pairs;
+use crate::refuse::{pairs, T_REACH};
 
 /// Names of the marks, in the order of their bits.
 pub const NAMES: [&str; COUNT] = [
@@ -60,10 +60,14 @@ pub const NAMES: [&str; COUNT] = [
     "refusal 14",
     "marked, and nothing repeats",
     "listed Z, of n designs",
+    "listed T, of n matrices",
+    "listed T, longer than n",
+    "refusal 2 by T's reach",
+    "listed T that varies, smoothed",
 ];
 
 /// Count of marks.
-pub const COUNT: usize = BRANCHES + 33;
+pub const COUNT: usize = BRANCHES + 37;
 
 pub const D_DIFFUSE: usize = BRANCHES;
 pub const INFINITY: usize = BRANCHES + 1;
@@ -88,13 +92,17 @@ pub const MEAN_OFF: usize = BRANCHES + 29;
 pub const REFUSAL_14: usize = BRANCHES + 30;
 pub const MARKED_IN_VAIN: usize = BRANCHES + 31;
 pub const LIST_EXACT: usize = BRANCHES + 32;
+pub const T_EXACT: usize = BRANCHES + 33;
+pub const T_LONG: usize = BRANCHES + 34;
+pub const T_SHORT: usize = BRANCHES + 35;
+pub const T_VARIES: usize = BRANCHES + 36;
 
-/// The mark of a refusal.
-pub fn refusal(k: usize) -> usize {
-    if k == 14 {
-        REFUSAL_14
-    } else {
-        REFUSAL + k
+/// The mark of a test that refuses.
+pub fn refusal(test: usize) -> usize {
+    match test {
+        T_REACH => T_SHORT,
+        14 => REFUSAL_14,
+        k => REFUSAL + k,
     }
 }
 

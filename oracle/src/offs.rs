@@ -318,7 +318,8 @@ impl Maker<'_> {
 
     /// Any case with some of its inputs made huge.
     fn inflated(&mut self) -> Case {
-        let mut case = match self.rng.below(9) {
+        let kind = self.rng.below(9);
+        let mut case = match kind {
             0 => self.long_diffuse(),
             1 => self.diffuse_again(),
             2 => self.collinear(),
@@ -327,10 +328,20 @@ impl Maker<'_> {
             5 | 6 => self.general(Flavour::Short),
             _ => self.general(Flavour::Plain),
         };
+        // General cases have lists of their own.
+        if kind < 3 {
+            self.maybe_list_t(&mut case);
+            self.vary_t(&mut case, Flavour::Short);
+        }
         for _ in 0..self.rng.within(1, 3) {
             let by = self.rng.power(10, 1023);
             match self.rng.below(8) {
-                0 | 1 => inflate(&mut case.t, by),
+                0 | 1 if case.ts.is_empty() => inflate(&mut case.t, by),
+                0 => inflate(&mut case.ts, by),
+                1 => {
+                    let (at, size) = (self.rng.below(case.listed_t()), case.m * case.m);
+                    inflate(&mut case.ts[at * size..(at + 1) * size], by);
+                }
                 2 => inflate(&mut case.p_star, by),
                 3 => inflate(&mut case.q, by),
                 4 => inflate(&mut case.a1, by),

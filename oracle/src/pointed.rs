@@ -2,6 +2,7 @@
 //! another answer on them. Chance alone hardly ever finds these.
 
 use crate::case::Case;
+use crate::figures;
 use crate::makers::{fixed, Flavour, Maker};
 use crate::offs;
 use crate::rng::pow2;
@@ -13,8 +14,17 @@ pub const KINDS: usize = OFFS + offs::WAYS;
 pub const NUMBERS: usize = 24;
 pub const OTHER_BYTE: usize = 25;
 pub const CONSTANT: usize = 26;
+/// Kinds that have a list of T.
+pub const LISTS_OF_T: std::ops::Range<usize> = 28..OFFS;
+/// Of these: its step back, its steps forward, a short one in a marked call
+/// that has as many numbers as there are periods, and what refusal 10 does
+/// not see of it.
+pub const BACK: usize = 28;
+pub const FORWARD: usize = 29;
+pub const T_NUMBERS: usize = 32;
+pub const LATER_DRIVEN: usize = 37;
 /// From this kind on: numbers that run off, or only seem to (`offs`).
-pub const OFFS: usize = 28;
+pub const OFFS: usize = 41;
 
 /// The slip that each kind is pointed at.
 pub const SLIPS: [&str; KINDS] = [
@@ -46,6 +56,19 @@ pub const SLIPS: [&str; KINDS] = [
     "a marker of another byte than 1 not seen",
     "a marked constant design refused",
     "4097 designs let through by the marker",
+    "the T of t in the step from t to t - 1",
+    "the T of another period than t in the step from t to t + 1",
+    "a list of n transitions refused",
+    "a list of n - 1 transitions let through",
+    "a list's numbers counted for its transitions",
+    "a list of n - 1 transitions let through by the marker",
+    "4096 transitions refused",
+    "4097 transitions let through",
+    "the first T not seen by refusal 10",
+    "refusal 10 by a T after the first",
+    "a listed T past n not checked",
+    "no T let through, or two",
+    "a T of a wrong length let through, listed or not",
     "an overflow by R·Q·R' alone not told",
     "a covariance at place n told",
     "a P∞ at place n told",
@@ -103,12 +126,76 @@ impl Maker<'_> {
                 let repeats = self.rng.marker();
                 self.long_list(1, repeats)
             }
+            BACK if self.small() || self.rng.chance(1, 2) => figures::led_into(),
+            BACK | 30 => {
+                let m = self.rng.within(1, 2);
+                self.exact_transitions(m)
+            }
+            FORWARD => self.exact_transitions(2),
+            31 => self.short_transitions(),
+            T_NUMBERS => {
+                // A matrix has four numbers.
+                let mut case = self.exact_transitions(2);
+                case.ts.truncate(4 * self.rng.within(1, case.n - 1));
+                case.repeats = self.rng.marker();
+                case
+            }
+            33 => {
+                let mut case = self.short_transitions();
+                case.repeats = self.rng.marker();
+                case
+            }
+            34 => self.long_list_t(0),
+            35 => self.long_list_t(1),
+            36 => self.driven_by(0),
+            LATER_DRIVEN => {
+                let at = self.rng.within(1, 2);
+                self.driven_by(at)
+            }
+            38 => {
+                let mut case = self.exact_transitions(2);
+                let numbers = 4 * self.rng.within(1, 2);
+                case.ts.resize(4 * case.n + numbers, 1.0);
+                let last = case.ts.len() - self.rng.within(1, numbers);
+                case.ts[last] = self.rng.gap();
+                case
+            }
+            39 => {
+                let mut case = self.exact_transitions(2);
+                match self.rng.chance(1, 2) {
+                    true => case.ts.clear(),
+                    false => case.t = case.ts[..4].to_vec(),
+                }
+                case
+            }
+            40 => {
+                let mut case = self.exact_transitions(2);
+                let one = self.rng.pick(&[-1, 1]);
+                if self.rng.chance(1, 2) {
+                    case.t = case.ts[..4].to_vec();
+                    case.ts.clear();
+                }
+                let part = if case.ts.is_empty() {
+                    &mut case.t
+                } else {
+                    &mut case.ts
+                };
+                part.resize(part.len().wrapping_add_signed(one), 1.0);
+                case
+            }
             _ => self.runs_off(kind - OFFS),
         }
     }
 
     pub(crate) fn short_readings(&mut self, case: &mut Case) {
         self.readings(case, Flavour::Short, 0);
+    }
+
+    /// Readings of which none is 0, so that every step shows in the means.
+    fn some_readings(&mut self, case: &mut Case) {
+        for y in &mut case.y {
+            *y = self.rng.within(1, 12) as f64 * 0.5;
+        }
     }
 
     /// f is 2·c, the root's F is 0, and one state more is diffuse.
@@ -339,6 +426,49 @@ impl Maker<'_> {
         case.z = case.zs[..case.m].to_vec();
         case.zs.clear();
         case.repeats = self.rng.marker();
+        case
+    }
+
+    /// A case of one element and m states, with a list of as many transitions
+    /// as it has periods, no two alike.
+    fn exact_transitions(&mut self, m: usize) -> Case {
+        let n = self.rng.within(2, if self.small() { 3 } else { 4 });
+        let mut case = self.bare(1, m, n);
+        case.list_t(n);
+        for (k, one) in case.ts.chunks_mut(m * m).enumerate() {
+            one.iter_mut().for_each(|x| *x += (k + 1) as f64 * 0.25);
+        }
+        // With a period left after the diffuse ones.
+        if n > m && self.rng.chance(1, 2) {
+            case.flags = vec![1; m];
+        } else {
+            case.p_star[0] = 1.0;
+        }
+        case.h = vec![1.0];
+        case.q = vec![0.5];
+        self.some_readings(&mut case);
+        case
+    }
+
+    /// The same, with a transition less.
+    fn short_transitions(&mut self) -> Case {
+        let m = self.rng.within(1, 2);
+        let mut case = self.exact_transitions(m);
+        case.ts.truncate((case.n - 1) * m * m);
+        case
+    }
+
+    /// The second state is flagged, and in this transition alone, of three,
+    /// it drives the first. The third may be past n.
+    fn driven_by(&mut self, at: usize) -> Case {
+        let n = self.rng.within(2, 3);
+        let mut case = self.bare(1, 2, n);
+        case.list_t(3);
+        case.ts[4 * at + 1] = self.rng.pick(&[0.5, -1.0, 2.0]);
+        case.p_star[0] = 1.0;
+        case.flags[1] = 1;
+        case.h = vec![1.0];
+        self.some_readings(&mut case);
         case
     }
 

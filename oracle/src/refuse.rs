@@ -1,5 +1,5 @@
-//! Cases that are refused: each refusal alone, and each two together.
-//! Refusal 14 is right after 2.
+//! Cases that are refused: each refusal alone, and each two together. T's
+//! reach is a test of its own right after 2, and 14 is right after that.
 
 use parts::{Inputs, MAX_PERIODS};
 use tsecon_linalg::faer::Mat;
@@ -8,9 +8,21 @@ use crate::case::Case;
 use crate::makers::Maker;
 use crate::rng::Rng;
 
-/// The refusals of the filter's call and the smoother's, in the order in which
-/// they are judged.
-pub const ORDER: [usize; 13] = [1, 2, 14, 3, 4, 5, 6, 7, 8, 9, 10, 11, 12];
+/// T's reach among the tests: it has no number of its own, since it is given
+/// as 2.
+pub const T_REACH: usize = 0;
+
+/// The tests of the filter's call and the smoother's, by their refusals, in
+/// the order in which they are judged.
+pub const ORDER: [usize; 14] = [1, 2, T_REACH, 14, 3, 4, 5, 6, 7, 8, 9, 10, 11, 12];
+
+/// The refusal that a test gives.
+pub fn number(test: usize) -> usize {
+    match test {
+        T_REACH => 2,
+        k => k,
+    }
+}
 
 /// Each two of them, the first one first.
 pub fn pairs() -> impl Iterator<Item = (usize, usize)> {
@@ -26,10 +38,11 @@ pub fn non_finite_noise(i: &Inputs<'_>) -> bool {
     tsecon_linalg::symmetrize(prod.as_ref()).is_err()
 }
 
-/// Whether refusal k, 3 to 11 or 14, would be given if no other were. Sizes
-/// and lengths must be right.
+/// Whether test k, 3 to 11, 14 or T's reach, would refuse if no other did.
+/// Sizes and lengths must be right.
 pub fn holds(k: usize, i: &Inputs<'_>) -> bool {
     match k {
+        T_REACH => parts::transitions_short(i, i.n),
         3 => parts::non_finite_system(i),
         4 => parts::not_psd(i),
         5 => parts::q_not_diagonal(i),
@@ -62,15 +75,28 @@ fn some_non_zero(rng: &mut Rng) -> f64 {
     }
 }
 
+/// What is given once of a matrix of `size` numbers, or as a list, breaks the
+/// rule: neither is given, or both, or one of a wrong length.
+fn break_rule(rng: &mut Rng, once: &mut Vec<f64>, list: &mut Vec<f64>, size: usize) {
+    let (once_len, list_len) = match rng.below(4) {
+        0 => (0, 0),
+        1 => (size, size),
+        2 if size > 1 => (0, size + rng.within(1, size - 1)),
+        _ => (rng.pick(&[size - 1, size + 1, 2 * size]), 0),
+    };
+    *once = vec![1.0; once_len];
+    *list = vec![1.0; list_len];
+}
+
 impl Maker<'_> {
     /// A base that can carry these refusals: room for an entry off the
     /// diagonal, one state flagged and one not, a run that would find no news
-    /// if 12 is among them, and a list that falls short if 14 is. Small only
-    /// if the room is small.
+    /// if 12 is among them, and a list that falls short if 14 or T's reach
+    /// is. Small only if the room is small.
     fn base(&mut self, refusals: &[usize]) -> Case {
         let small = self.small();
         let wants = |of: &[usize]| !small || of.iter().any(|k| refusals.contains(k));
-        let (silent, short) = (refusals.contains(&12), refusals.contains(&14));
+        let [silent, short, short_t] = [12, 14, T_REACH].map(|k| refusals.contains(&k));
         let p = if wants(&[8]) { 2 } else { 1 };
         let r = if wants(&[5]) { 2 } else { 1 };
         let m = match wants(&[7, 10, 11]) {
@@ -78,7 +104,7 @@ impl Maker<'_> {
             true => self.rng.within(2, 3),
             false => 1,
         };
-        let n = match short {
+        let n = match short || short_t {
             true if small => 2,
             true => self.rng.within(2, 4),
             false if small => 1,
@@ -105,6 +131,15 @@ impl Maker<'_> {
                 case.list(self.rng.within(1, n + 1));
             }
             self.mark(&mut case);
+        }
+        if short_t {
+            case.list_t(self.rng.within(1, n - 1));
+            // The marker does nothing for T; where 14 is to hold, it is not set.
+            if !short {
+                case.repeats = self.rng.maybe_marker(1, 2);
+            }
+        } else {
+            self.maybe_list_t(&mut case);
         }
         if silent {
             case.z.fill(0.0);
@@ -139,6 +174,7 @@ impl Maker<'_> {
                     0 | 1 if !case.zs.is_empty() => &mut case.zs,
                     0 | 1 => &mut case.z,
                     2 => &mut case.h,
+                    3 if !case.ts.is_empty() => &mut case.ts,
                     3 => &mut case.t,
                     4 => &mut case.rr,
                     _ => &mut case.q,
@@ -187,6 +223,7 @@ impl Maker<'_> {
                 let at = rng.below(case.y.len());
                 case.y[at] = rng.pick(&[f64::INFINITY, f64::NEG_INFINITY]);
             }
+            10 if !case.ts.is_empty() => case.ts[1] = some_non_zero(rng),
             10 => case.t[1] = some_non_zero(rng),
             11 => {
                 if rng.chance(1, 2) {
@@ -250,42 +287,28 @@ impl Maker<'_> {
             ..Case::default()
         };
         case.lend_needed();
+        self.maybe_list_t(&mut case);
         case
     }
 
-    /// Refusal 2, one part of the wrong length or the Z rule broken.
+    /// Refusal 2, one part of the wrong length, or the rule of Z or of T
+    /// broken.
     fn length_alone(&mut self) -> Case {
         let mut case = self.base(&[2]);
         let rng = &mut *self.rng;
-        let pm = case.p * case.m;
-        match rng.below(12) {
-            // Z.
-            0 => {
-                case.z = vec![];
-                case.zs = vec![];
-            }
-            1 => {
-                case.z = vec![1.0; pm];
-                case.zs = vec![1.0; pm];
-            }
-            2 if pm > 1 => {
-                case.z = vec![];
-                case.zs = vec![1.0; pm + rng.within(1, pm - 1)];
-            }
-            3 => {
-                case.zs = vec![];
-                case.z = vec![1.0; rng.pick(&[pm - 1, pm + 1, 2 * pm])];
-            }
+        let (p, m) = (case.p, case.m);
+        match rng.below(16) {
+            0..=3 => break_rule(rng, &mut case.z, &mut case.zs, p * m),
+            4..=7 => break_rule(rng, &mut case.t, &mut case.ts, m * m),
             // Inputs.
-            4..=7 => {
-                let part = rng.below(10);
-                if part == 9 {
+            8..=11 => {
+                let part = rng.below(9);
+                if part == 8 {
                     let len = case.flags.len();
                     case.flags.resize(rng.pick(&[0, len - 1, len + 1]), 0);
                 } else {
                     let part = [
                         &mut case.h,
-                        &mut case.t,
                         &mut case.rr,
                         &mut case.q,
                         &mut case.c,
@@ -321,10 +344,23 @@ impl Maker<'_> {
         case
     }
 
-    /// Only the smoother's own parts are too short; now and then the list is
+    /// The same of transitions.
+    pub(crate) fn long_list_t(&mut self, more: usize) -> Case {
+        let mut case = self.bare(1, 1, 1);
+        case.list_t(MAX_PERIODS + more);
+        case.repeats = self.rng.maybe_marker(1, 4);
+        case.h = vec![1.0];
+        case
+    }
+
+    /// Only the smoother's own parts are too short; now and then a list is
     /// too, which the filter's call alone sees then.
     pub fn smoother_alone(&mut self) -> Case {
-        let list: &[usize] = if self.rng.chance(1, 4) { &[14] } else { &[] };
+        let list: &[usize] = match self.rng.below(16) {
+            0..=3 => &[14],
+            4 => &[T_REACH],
+            _ => &[],
+        };
         let mut case = self.base(list);
         let at = parts::FILTER_PARTS + self.rng.below(2);
         let need = parts::needed(case.p, case.m, case.n)[at];
@@ -332,7 +368,7 @@ impl Maker<'_> {
         case
     }
 
-    /// Refusal k alone.
+    /// Test k alone.
     pub fn refused(&mut self, k: usize) -> Case {
         match k {
             1 if self.rng.chance(1, 2) => self.dimension_alone(),
@@ -365,6 +401,7 @@ impl Maker<'_> {
                 for y in &mut case.y {
                     *y = self.any();
                 }
+                self.maybe_list_t(&mut case);
                 case
             }
             _ => {
@@ -372,12 +409,13 @@ impl Maker<'_> {
                 let mut case = self.bare(1, 1, 2);
                 case.q = vec![2.0];
                 case.y = vec![self.any(), self.rng.gap()];
+                self.maybe_list_t(&mut case);
                 case
             }
         }
     }
 
-    /// Refusals a and b together, a judged first.
+    /// Tests a and b together, a judged first.
     pub fn refused_twice(&mut self, a: usize, b: usize) -> Case {
         let mut case = self.base(&[a, b]);
         let spoilt: Vec<usize> = [a, b]
@@ -399,10 +437,15 @@ impl Maker<'_> {
                 let at = self.rng.below(parts::FILTER_PARTS);
                 case.lent[at] -= case.lent[at].min(4);
                 case.lent[at] = case.lent[at].min(parts::needed(case.p, case.m, case.n)[at] - 1);
-            } else if self.rng.chance(1, 2) {
-                case.y.push(1.0);
             } else {
-                case.z.push(1.0);
+                // Of a constant matrix one number too many; of a list, both
+                // are given.
+                let part = match self.rng.below(3) {
+                    0 => &mut case.y,
+                    1 => &mut case.z,
+                    _ => &mut case.t,
+                };
+                part.push(1.0);
             }
         }
         if a == 1 {

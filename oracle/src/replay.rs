@@ -4,7 +4,7 @@
 use parts::{Inputs, Outcome, Outputs, Smoothed, FILTER_PARTS, SMOOTH_PARTS};
 
 use crate::case::{answer_words, one_nan, Buffers, Case};
-use crate::case::{ANSWER, OUTPUT_NAMES, PATTERN, PATTERN_BYTE};
+use crate::case::{ANSWER, INPUTS, OUTPUT_NAMES, PATTERN, PATTERN_BYTE};
 use crate::file::{ANSWER_AT, COUNTS_AT, INPUTS_AT, LENT_AT, REFUSALS_AT, REPEATS_AT};
 use crate::file::{HEADER_WORDS, HEAD_WORDS, MAGIC, MAX_CASE_WORDS, MAX_LIST, MAX_PART};
 
@@ -76,8 +76,8 @@ fn read_case(w: &[u64]) -> Result<Filed, String> {
         at += len as usize;
         Ok(part)
     };
-    let mut inputs: [&[u64]; 12] = [&[]; 12];
-    for k in 0..12 {
+    let mut inputs: [&[u64]; INPUTS] = [&[]; INPUTS];
+    for k in 0..INPUTS {
         inputs[k] = next(w[INPUTS_AT + k])?;
     }
     let mut written: [Vec<u64>; SMOOTH_PARTS] = Default::default();
@@ -98,14 +98,15 @@ fn read_case(w: &[u64]) -> Result<Filed, String> {
         repeats: w[REPEATS_AT] as u8,
         h: f(2),
         t: f(3),
-        rr: f(4),
-        q: f(5),
-        c: f(6),
-        d: f(7),
-        a1: f(8),
-        p_star: f(9),
-        flags: inputs[10].iter().map(|&b| b as u8).collect(),
-        y: f(11),
+        ts: f(4),
+        rr: f(5),
+        q: f(6),
+        c: f(7),
+        d: f(8),
+        a1: f(9),
+        p_star: f(10),
+        flags: inputs[11].iter().map(|&b| b as u8).collect(),
+        y: f(12),
         lent: std::array::from_fn(|k| w[LENT_AT + k] as usize),
         pair: None,
     };

@@ -9,7 +9,11 @@ use crate::gen::{check_scene, deck, make, Scene};
 use crate::makers::Room;
 use crate::marks;
 use crate::pointed;
+use crate::refuse::T_REACH;
 use crate::rng::Rng;
+
+/// So many cases are made a theorem of.
+pub const SHOWN: usize = 48;
 
 /// Candidates that the cases are chosen from.
 const CANDIDATES: u64 = 30_000;
@@ -21,14 +25,21 @@ const WAYS: [usize; 8] = [1, 3, 4, 5, 6, 7, 13, 16];
 
 /// And refusal 14 beside what is judged before and after it, and of a list
 /// that has as many numbers as there are periods; a short list that is marked
-/// by another byte than 1, and a marked constant design.
-const MARKED: [Scene; 6] = [
+/// by another byte than 1, and a marked constant design. Then lists of T:
+/// their reach, before that of designs, and in a marked call; the step back,
+/// steps forward, and what refusal 10 does not see.
+const LISTS: [Scene; 11] = [
     Scene::Pair(2, 14),
     Scene::Pair(14, 3),
     Scene::Pair(14, 12),
     Scene::Pointed(pointed::NUMBERS),
     Scene::Pointed(pointed::OTHER_BYTE),
     Scene::Pointed(pointed::CONSTANT),
+    Scene::Pair(T_REACH, 14),
+    Scene::Pointed(pointed::T_NUMBERS),
+    Scene::Pointed(pointed::BACK),
+    Scene::Pointed(pointed::FORWARD),
+    Scene::Pointed(pointed::LATER_DRIVEN),
 ];
 
 /// Marks that a small case can't have or need not show.
@@ -45,7 +56,8 @@ fn unwanted() -> u64 {
 }
 
 fn small_enough(case: &Case) -> bool {
-    case.m <= 3 && case.p <= 3 && case.r <= 2 && case.n <= 3 && case.zs.len() <= 12
+    let listed = case.zs.len().max(case.ts.len());
+    case.m <= 3 && case.p <= 3 && case.r <= 2 && case.n <= 3 && listed <= 12
 }
 
 /// What a case costs to compute and to read.
@@ -65,7 +77,7 @@ fn cost(case: &Case) -> f64 {
 }
 
 /// Cases that between them have every mark that a small case can have; then
-/// some ways of running off and short lists, then further ones.
+/// some ways of running off and lists, then further ones.
 pub fn choose(seed: u64, count: usize) -> Vec<(Case, Expected)> {
     let mut scenes = deck();
     scenes.sort_by_key(|s| format!("{s:?}"));
@@ -117,7 +129,7 @@ pub fn choose(seed: u64, count: usize) -> Vec<(Case, Expected)> {
         }
     }
     let ways = WAYS.map(|way| Scene::Pointed(pointed::OFFS + way));
-    for scene in ways.into_iter().chain(MARKED) {
+    for scene in ways.into_iter().chain(LISTS) {
         let shown = chosen.iter().any(|&i| pool[i].1 == scene);
         let first = pool.iter().position(|x| x.1 == scene);
         if let Some(i) = first.filter(|_| !shown && chosen.len() < count) {

@@ -1,13 +1,14 @@
 //! Small stretches as text: runs that are cut, some of them where numbers run
 //! off, each refusal of a stretch, saved bytes altered in each way, lists that
-//! reach so far, marked and unmarked. See FORMAT.md.
+//! reach so far, of designs marked and unmarked, and of T. See FORMAT.md.
 
 use parts::{encode, needed, saved_len, section_counts, Carried, Inputs, Outcome, Stretch};
 
 use crate::case::{one_nan, Buffers, Case, OUTPUT_NAMES, PATTERN_BYTE};
 use crate::makers::{Maker, Room};
+use crate::marks;
 use crate::rng::Rng;
-use crate::small::{choose, handed, hex, outcome, plain};
+use crate::small::{choose, handed, hex, outcome, plain, SHOWN};
 use crate::uncut::{uncut, Uncut};
 
 /// A call of a stretch, and what it must answer and leave.
@@ -285,6 +286,63 @@ fn reached(list: &mut Vec<Made>) {
     put("marked, and 12", repeated, &bytes, 1);
 }
 
+/// A list of `count` transitions, all different, for the two periods of the
+/// run by hand.
+fn stepped(flags: [u8; 2], count: usize) -> Case {
+    let mut case = by_hand(flags);
+    let another = [1.0, 1.0, 0.0, 0.5, 0.5, 0.0, 0.0, 2.0];
+    case.ts = [&case.t[..], &another].concat();
+    case.ts.truncate(4 * count);
+    case.t.clear();
+    case
+}
+
+/// Lists of T (document 02, request g). They count from the run's first
+/// period; their reach is judged after the saved bytes and before that of the
+/// designs; refusal 10 looks at the first, wherever the run goes on.
+fn steps(list: &mut Vec<Made>) {
+    let room = saved_len(2);
+    let two = stepped([1, 1], 2);
+    let u = uncut(&two.inputs()).expect("it runs");
+    cut_up(&two, &u, 1, list);
+    let [after_one, after_two] = [1, 2].map(|k| encode(1, 2, 1, &u.states[k]));
+    let mut put = |what: &str, case: Case, from: &[u8], last: u8| {
+        let begins = u8::from(from.is_empty());
+        list.push(make(what, case, begins, from, last, room));
+    };
+    let some = |count: usize, n: usize| part(&stepped([1, 1], count), 0, n);
+    put("2: T not reached", some(1, 2), &[], 0);
+    put("T reached by itself", some(1, 1), &[], 0);
+    put("no period, done as far as T", some(1, 0), &after_one, 0);
+    put("2: no period, done past T", some(1, 0), &after_two, 0);
+    put("a longer list of T", some(3, 1), &after_one, 1);
+    // T's reach beside others, by the periods done: 15 and 3 come before it,
+    // 14 and 12 after it. The marker is not for T.
+    let short = || {
+        let mut case = part(&stepped([1, 1], 1), 1, 2);
+        (case.z, case.zs) = (vec![], vec![1.0, 0.0]);
+        case.y[0] = f64::NAN;
+        case
+    };
+    put("15 and T's reach", short(), &after_one[1..], 0);
+    let mut with_nan = short();
+    with_nan.ts[3] = f64::NAN;
+    put("3 and T's reach", with_nan, &after_one, 0);
+    put("T's reach and 14", short(), &after_one, 0);
+    let mut silent = u.states[1].clone();
+    silent.news = 0;
+    let mut marked = short();
+    marked.repeats = 1;
+    let unheard = encode(1, 2, 1, &silent);
+    put("T's reach and 12, marked", marked, &unheard, 1);
+    // The second state is flagged, and drives the first.
+    let mixed = stepped([0, 1], 2);
+    put("10: by the first T", part(&mixed, 1, 2), &after_one, 0);
+    let mut later = mixed;
+    later.ts[1] = 0.0;
+    put("driven by a later T", part(&later, 1, 2), &after_one, 0);
+}
+
 /// Runs whose numbers run off (`offs`), cut before and after that: what an
 /// earlier stretch told stays, also where all is finite again; and one whose
 /// end is refused 12, with no report.
@@ -306,8 +364,10 @@ pub fn stretches(seed: u64) -> Vec<Made> {
     let mut list = Vec::new();
     let (mut cuts, mut silent) = ([0, 0], 0);
     let mut refused = [false; 15];
-    for (case, _) in choose(seed, 44) {
+    for (case, e) in choose(seed, SHOWN) {
         match uncut(&case.inputs()) {
+            // `steps` has T's reach, which here is not judged where 2 is.
+            Err(2) if e.hits[marks::T_SHORT] > 0 => {}
             Err(k) => {
                 // With bytes that are bad too; n = 0 is no refusal here.
                 if !std::mem::replace(&mut refused[k as usize], true) {
@@ -344,6 +404,7 @@ pub fn stretches(seed: u64) -> Vec<Made> {
     further(&mut list);
     off_and_cut(seed, &mut list);
     reached(&mut list);
+    steps(&mut list);
     list
 }
 

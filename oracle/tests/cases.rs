@@ -1,5 +1,5 @@
 //! The made cases: branches, numbers that run off, lists of designs and their
-//! marker, the fixed list, the reader, demand 3, request k.
+//! marker, lists of T, the fixed list, the reader, demand 3, request k.
 
 use oracle::case::{probe_hits, run, same_answer, Case, Expected};
 use oracle::gen::{check_scene, Cases, Scene};
@@ -51,6 +51,11 @@ fn the_list_replays() {
     assert!(seen.iter().all(|&s| s >= 10), "{seen:?}");
 }
 
+/// Whether this T would be refused 10.
+fn driven(i: &Inputs<'_>, t: &[f64]) -> bool {
+    parts::mixed_driven(&Inputs { t, ts: &[], ..*i })
+}
+
 /// Versions that are wrong in one way each.
 struct Wrong(usize);
 
@@ -58,12 +63,25 @@ impl Calls for Wrong {
     fn filter(&mut self, i: &Inputs<'_>, o: &mut Outputs<'_>) -> Outcome {
         let marked_by = |repeats: u8| Inputs { repeats, ..*i };
         let listed = i.zs.len() / (i.p * i.m).max(1);
+        let short = listed > 0 && listed < i.n && i.repeats == 0;
+        // One T out of the list for all periods, so many times over.
+        let size = (i.m.min(9) * i.m.min(9)).max(1);
+        let listed_t = i.ts.len() / size;
+        let short_t = listed_t > 0 && listed_t < i.n;
+        let taken = |k: usize, times: usize| i.ts[k * size..(k + 1) * size].repeat(times);
         let got = match self.0 {
             0 => return Err(1),
             // The marker: not seen, always taken as set, by its lowest bit.
             12 => tsecon_ssm::filter_call(&marked_by(0), o),
             13 => tsecon_ssm::filter_call(&marked_by(1), o),
             14 => tsecon_ssm::filter_call(&marked_by(i.repeats & 1), o),
+            // A list of T: its first for all, its last for all, let through
+            // by the marker.
+            21 | 22 | 23 if listed_t > 0 && (short_t && i.repeats != 0) == (self.0 == 23) => {
+                let k = if self.0 == 21 { 0 } else { listed_t - 1 };
+                let ts = &taken(k, listed_t.max(i.n.min(20)));
+                tsecon_ssm::filter_call(&Inputs { ts, ..*i }, o)
+            }
             _ => tsecon_ssm::filter_call(i, o),
         };
         match (self.0, got) {
@@ -72,12 +90,20 @@ impl Calls for Wrong {
             (15, Ok(_)) if listed == i.n => Err(14),
             (16, Ok(_)) if listed == 0 && i.n > 1 => Err(14),
             (17, Ok(_)) if listed == 0 && i.repeats != 0 => Err(14),
-            (18, Err(2)) if listed > 0 && listed < i.n && i.repeats == 0 => Err(14),
+            (18, Err(2)) if short => Err(14),
             (19, Err(14)) if parts::non_finite_system(i) => Err(3),
             (20, Err(14)) => {
                 o.blank(i.p, i.m, i.n);
                 Err(14)
             }
+            // T's reach: of a list that reaches n, given as 14, after 14,
+            // after 3.
+            (24, Ok(_)) if listed_t == i.n => Err(2),
+            (25, Err(2)) if short_t => Err(14),
+            (26, Err(2)) if short_t && short => Err(14),
+            (27, Err(2)) if short_t && parts::non_finite_system(i) => Err(3),
+            // Refusal 10 by a later T.
+            (28, Ok(_)) if (1..listed_t).any(|k| driven(i, &taken(k, 1))) => Err(10),
             (1, Ok(mut a)) => {
                 a.heard += 1;
                 Ok(a)
@@ -126,7 +152,7 @@ impl Calls for Wrong {
 
 #[test]
 fn the_reader_finds_wrong_versions() {
-    for k in (0..=5).chain(7..=20) {
+    for k in (0..=5).chain(7..=28) {
         assert!(replay(COMMITTED, &mut Wrong(k)).is_err(), "version {k}");
     }
     assert!(replay(COMMITTED, &mut Wrong(6)).is_ok());
@@ -175,6 +201,166 @@ fn a_list_must_reach_n() {
             }
         }
     }
+}
+
+/// A case of one element, two states and a list of so many transitions, all
+/// different.
+fn with_transitions(n: usize, count: usize, repeats: u8) -> Case {
+    let mut case = with_list(n, 1, repeats);
+    case.z = std::mem::take(&mut case.zs);
+    case.list_t(count);
+    for (k, one) in case.ts.chunks_mut(4).enumerate() {
+        one[1] = (k % 64) as f64 * 0.125;
+        one[3] = 0.5;
+    }
+    case
+}
+
+/// A list of n transitions, one less, one more, one, and the most that there
+/// may be: refused 2 where it falls short, marked or not.
+#[test]
+fn a_list_of_transitions_must_reach_n() {
+    for n in [1, 2, 3, 5, 20, 4095, 4096] {
+        for count in [1, n - 1, n, n + 1, 4096, 4097] {
+            if count == 0 {
+                continue;
+            }
+            for repeats in [0, 1, 255] {
+                let e = run(&with_transitions(n, count, repeats));
+                let due = (count < n || count > 4096).then_some(2);
+                for got in [e.filter, e.smooth] {
+                    assert_eq!(got.err(), due, "{count} transitions, n {n}");
+                }
+                let wrote = e.written.iter().any(|w| !w.is_empty());
+                assert_eq!(wrote, due.is_none());
+            }
+        }
+    }
+}
+
+/// Whether refusals 1 and 2 let a case through, or only T's reach does not.
+fn sized(e: &Expected) -> bool {
+    !matches!(e.filter, Err(1 | 2)) || e.hits[marks::T_SHORT] > 0
+}
+
+/// A list of n equal matrices gives what the constant T gives, refusals
+/// included; and what stands past n gives nothing.
+#[test]
+fn equal_transitions_are_the_constant_one() {
+    let (mut ran, mut longer) = (0, 0);
+    let mut refused = [0; 15];
+    for (_, case) in Cases::new(32).take(8_000) {
+        let e = run(&case);
+        if !sized(&e) {
+            continue;
+        }
+        let size = case.m * case.m;
+        if case.listed_t() > case.n {
+            let mut cut = case.clone();
+            cut.ts.truncate(case.n * size);
+            let past = cut.ts.len();
+            if case.ts[past..].iter().all(|x| x.is_finite()) {
+                assert!(agree(&e, &run(&cut)));
+                longer += 1;
+            }
+        }
+        let mut constant = case.clone();
+        if !case.ts.is_empty() {
+            constant.t = case.ts[..size].to_vec();
+            constant.ts.clear();
+        }
+        let mut copies = constant.clone();
+        copies.list_t(case.n);
+        let (constant, copies) = (run(&constant), run(&copies));
+        assert!(agree(&constant, &copies));
+        match constant.filter {
+            Ok(_) => ran += 1,
+            Err(k) => refused[k as usize] += 1,
+        }
+    }
+    assert!(ran > 3_000 && longer > 500, "{ran} {longer}");
+    let all = (3..=12).chain([14]).all(|k| refused[k] > 50);
+    assert!(all, "{refused:?}");
+}
+
+/// T is a list in half of all cases, often of matrices that differ, now and
+/// then too short, also in a marked call.
+#[test]
+fn every_second_case_has_a_list_of_transitions() {
+    for cases in [Cases::new(34), Cases::running_off(35)] {
+        let (mut listed, mut varied, mut copies) = (0, 0, 0);
+        let mut short = [0, 0];
+        for (_, case) in cases.take(4_000) {
+            let e = run(&case);
+            listed += usize::from(!case.ts.is_empty());
+            varied += e.hits[marks::T_VARIES];
+            copies += u64::from(e.hits[marks::T_EXACT] > 0 && e.hits[marks::T_VARIES] == 0);
+            short[usize::from(case.repeats != 0)] += e.hits[marks::T_SHORT];
+        }
+        assert!((1_900..2_300).contains(&listed), "{listed}");
+        assert!(varied > 250 && copies > 250, "{varied} {copies}");
+        assert!(short.iter().all(|&s| s > 30), "{short:?}");
+    }
+}
+
+/// The state of period 0, carried along beside the one that moves: its
+/// filtered mean and covariance at the end are the smoothed ones.
+#[test]
+fn the_step_back_is_by_the_transition_that_led_there() {
+    let mut rng = Rng::new(36);
+    let mut far = 0;
+    for round in 0..400 {
+        let (m, n) = (1 + round % 2, 2 + round % 4);
+        let mut case = with_transitions(n, n, 0);
+        case.ts = (0..n * m * m).map(|_| rng.plain()).collect();
+        case.m = m;
+        case.z = (0..m).map(|_| rng.plain()).collect();
+        case.rr = (0..m).map(|_| rng.plain()).collect();
+        case.c = (0..m).map(|_| rng.plain()).collect();
+        case.a1 = (0..m).map(|_| rng.plain()).collect();
+        case.y = (0..n).map(|_| rng.plain()).collect();
+        case.flags = vec![0; m];
+        case.p_star = vec![0.0; m * m];
+        (0..m).for_each(|k| case.p_star[k * m + k] = 1.0 + rng.unit());
+        case.lend_needed();
+        let mut wide = case.clone();
+        let w = 2 * m;
+        wide.m = w;
+        // Block (a, b) of m by m: the moving state first.
+        let block = |k: usize| ((k / w) / m, (k % w) / m, (k / w) % m * m + (k % w) % m);
+        let beside = |x: &[f64]| [x, &vec![0.0; m][..]].concat();
+        wide.ts = (0..n * w * w)
+            .map(|k| match block(k % (w * w)) {
+                (0, 0, at) => case.ts[k / (w * w) * m * m + at],
+                (1, 1, at) => f64::from(u8::from(at / m == at % m)),
+                _ => 0.0,
+            })
+            .collect();
+        wide.p_star = (0..w * w).map(|k| case.p_star[block(k).2]).collect();
+        (wide.z, wide.rr, wide.c) = (beside(&case.z), beside(&case.rr), beside(&case.c));
+        wide.a1 = case.a1.repeat(2);
+        wide.flags = vec![0; w];
+        wide.lend_needed();
+        let (e, end) = (run(&case), run(&wide));
+        let close = |a: u64, b: u64| {
+            let (a, b) = (f64::from_bits(a), f64::from_bits(b));
+            assert!((a - b).abs() <= 1e-9 * (1.0 + a.abs()), "{a} {b}");
+        };
+        for i in 0..m {
+            close(e.written[11][i], end.written[3][(n - 1) * w + m + i]);
+            for j in 0..m {
+                let at = (n - 1) * w * w + (m + i) * w + m + j;
+                close(e.written[12][i * m + j], end.written[4][at]);
+            }
+        }
+        // By the T of t it is another one.
+        let mut late = case.clone();
+        late.ts.drain(..m * m);
+        late.ts.extend(&case.ts[..m * m]);
+        let moved = f64::from_bits(run(&late).written[11][0]);
+        far += usize::from((moved - f64::from_bits(e.written[11][0])).abs() > 1e-3);
+    }
+    assert!(far > 200, "{far}");
 }
 
 /// Both answer and write the same.
@@ -360,6 +546,19 @@ fn pointed_cases_hit_their_mark() {
         &[Usual],
         &[Usual],
         &[],
+        &[Usual],
+        &[Usual],
+        &[Usual],
+        &[],
+        &[],
+        &[],
+        &[Usual],
+        &[],
+        &[],
+        &[Usual],
+        &[],
+        &[],
+        &[],
     ];
     // What runs off has a test of its own.
     for (k, want) in marks.iter().enumerate() {
@@ -391,7 +590,10 @@ fn small_cases_show_every_branch() {
     let refused = ORDER.iter().all(|&k| seen[marks::refusal(k)] > 0);
     let told = seen[marks::COV_OFF] > 0 && seen[marks::MEAN_OFF] > 0;
     let marked = seen[marks::LIST_SHORT] > 0 && seen[marks::MARKED_IN_VAIN] > 0;
-    assert!(shown && refused && told && marked, "{seen:?}");
+    let stepped = [marks::T_EXACT, marks::T_LONG, marks::T_VARIES]
+        .iter()
+        .all(|&k| seen[k] > 0);
+    assert!(shown && refused && told && marked && stepped, "{seen:?}");
 }
 
 #[test]

@@ -1,7 +1,7 @@
-//! The bench figures of document 01, starred and not.
+//! The bench figures of document 01, starred and not, and of request g.
 
 use oracle::case::run;
-use oracle::figures::{all, dust, hold, sized};
+use oracle::figures::{all, dust, hold, led_into, sized};
 use oracle::marks;
 use oracle::rng::pow2;
 use parts::{needed, Answer};
@@ -13,7 +13,7 @@ fn answer(e: &oracle::case::Expected) -> Answer {
 }
 
 #[test]
-fn every_figure_is_01s() {
+fn every_figure_is_as_said() {
     for figure in all() {
         hold(&figure, &run(&figure.case));
     }
@@ -32,6 +32,21 @@ fn i_blanks_every_part() {
 fn j_writes_nothing() {
     let figure = all().into_iter().find(|f| f.name == "J").unwrap();
     assert!(run(&figure.case).written.iter().all(|w| w.is_empty()));
+}
+
+/// By the T of t the step back would be by 1, and the first mean 8: as it is
+/// where a 1 leads into the second period, and c and Q make up for it, so that
+/// the same is predicted there.
+#[test]
+fn the_step_back_takes_the_transition_before() {
+    let figure = led_into();
+    let mut other = figure.clone();
+    other.ts = vec![1.0, 1.0];
+    other.c = vec![2.0];
+    other.q = vec![20.0];
+    let means = |case| run(case).written[11].clone();
+    assert_eq!(means(&figure), [14f64, 30.0].map(f64::to_bits));
+    assert_eq!(means(&other), [8f64, 30.0].map(f64::to_bits));
 }
 
 #[test]

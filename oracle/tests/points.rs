@@ -1,8 +1,8 @@
 //! The inputs of docs/DIFFERENCES.md and docs/DECISIONS.md, in the words used there, and what the call makes of each.
 //!
 //! A name and its numbers: `p m r n` the sizes; `Z T R P` matrices row by row (P is P*); `L` listed designs in place of Z, one after the other, and
-//! `repeats` their marker; `H Q` matrices, or only their diagonals; `c d a y` vectors (a is a1); `F` flags. Unless said: sizes 1, Z all 1, T the
-//! identity, no flag, no marker, readings 0, all else 0. `2^k` is a power of two.
+//! `repeats` their marker; `S` listed transitions in place of T; `H Q` matrices, or only their diagonals; `c d a y` vectors (a is a1); `F` flags.
+//! Unless said: sizes 1, Z all 1, T the identity, no flag, no marker, readings 0, all else 0. `2^k` is a power of two.
 
 use oracle::case::{run, Buffers, Case, Expected, NAN};
 use oracle::rng::pow2;
@@ -62,6 +62,7 @@ fn case(words: &str) -> Case {
             "repeats" => c.repeats = x as u8,
             "H" => c.h.push(x),
             "T" => c.t.push(x),
+            "S" => c.ts.push(x),
             "R" => c.rr.push(x),
             "Q" => c.q.push(x),
             "c" => c.c.push(x),
@@ -77,7 +78,7 @@ fn case(words: &str) -> Case {
     if c.z.is_empty() && c.zs.is_empty() {
         c.z = vec![1.0; p * m];
     }
-    if c.t.is_empty() {
+    if c.t.is_empty() && c.ts.is_empty() {
         c.t = square(m, vec![1.0; m]);
     }
     c.h = square(p, c.h);
@@ -223,6 +224,23 @@ fn difference_12_the_order_of_refusals() {
     c.n = 0;
     c.y.clear();
     assert_eq!(run(&c).filter.unwrap_err(), 1);
+}
+
+#[test]
+fn difference_15_the_step_back() {
+    // By the T of t, the Rust's, the first smoothed mean is 8.
+    let e = calls("n 2 H 6 S 2 1 R 1 Q 2 F 1 y 2 36");
+    holds(&e, "pred_mean", "0 4 30");
+    holds(&e, "pred_cov", "0 26 6.875");
+    holds(&e, "sm_mean", "14 30");
+    holds(&e, "sm_cov", "1.5 4.875");
+    // All of a list is looked at, of a short one nothing; refusal 10 looks at the first. The marker is for designs.
+    assert_eq!(refused("n 2 S 1 H 1"), 2);
+    assert_eq!(refused("n 2 S NaN repeats 1 H 1"), 2);
+    assert_eq!(refused("n 2 L 1 S 1 H 1"), 2);
+    assert_eq!(refused("n 2 S 1 1 NaN H 1"), 3);
+    assert_eq!(refused("m 2 n 2 S 1 0 1 1 1 0 0 1 H 1 P 0 0 0 1 F 1 0"), 10);
+    assert!(calls("m 2 n 2 S 1 0 0 1 1 0 1 1 H 1 P 0 0 0 1 F 1 0").filter.is_ok());
 }
 
 #[test]
@@ -478,6 +496,11 @@ fn decision_113_two_orders() {
     assert_eq!(alone("n 2 L 1 H -1"), Some(4));
     assert_eq!(alone("n 2 L 1 H 1"), Some(14));
     assert_eq!(alone("n 2 L 1 repeats 1 H 1"), None);
+    // Of lists of T too, before designs.
+    assert_eq!(refused("n 2 S 1 H -1"), 2);
+    assert_eq!(alone("n 2 S 1 H -1"), Some(4));
+    assert_eq!(alone("n 2 L 1 S 1 H 1"), Some(2));
+    assert_eq!(alone("n 2 S 1 1 H 1"), None);
 }
 
 #[test]

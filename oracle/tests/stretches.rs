@@ -238,6 +238,58 @@ fn a_list_reaches_so_far() {
     );
 }
 
+/// The same of a list of T, and 2, marked or not; 15 comes before it, and 14
+/// and 12 come after it.
+#[test]
+fn a_list_of_transitions_reaches_so_far() {
+    let (mut before, mut past, mut before_14, mut before_12) = (0, 0, 0, 0);
+    for (_, case) in Cases::new(27).take(4_000) {
+        let Ok(u) = uncut(&case.inputs()) else {
+            continue;
+        };
+        let (n, size) = (case.n, case.m * case.m);
+        if case.ts.is_empty() {
+            continue;
+        }
+        for reach in 1..=case.listed_t().min(n) {
+            let mut cut = case.clone();
+            cut.ts.truncate(reach * size);
+            for (from, to) in (0..=n).flat_map(|from| [from, n].map(|to| (from, to))) {
+                let saved = encoded(&case, &u, from);
+                let made = make(&periods(&cut, from, to), 0, &saved, 0);
+                if to <= reach {
+                    assert!(same_answer(&made.outcome, &told(&u, to)));
+                    same_blocks(&case, &u, &made, from, to);
+                    assert_eq!(made.save, encoded(&case, &u, to));
+                    before += 1;
+                    continue;
+                }
+                let marked_by = |repeats: u8| Inputs {
+                    repeats,
+                    ..periods(&cut, from, to)
+                };
+                let last = make(&marked_by(9), 0, &saved, 1);
+                let unmarked = make(&marked_by(0), 0, &saved, 0);
+                for made in [made, last, unmarked] {
+                    assert_eq!(made.outcome.unwrap_err(), 2);
+                    let fresh = Buffers::patterned(&needed(case.p, case.m, to - from));
+                    assert!((0..11).all(|k| made.written.words(k) == fresh.words(k)));
+                    assert!(made.save.iter().all(|&byte| byte == 0xA5));
+                }
+                let bad = make(&periods(&cut, from, to), 0, &saved[1..], 0);
+                assert_eq!(bad.outcome.unwrap_err(), 15);
+                past += 1;
+                before_14 += usize::from((1..to).contains(&case.listed()));
+                before_12 += usize::from(u.outcome.is_err());
+            }
+        }
+    }
+    assert!(
+        before > 3_000 && past > 3_000 && before_14 > 300 && before_12 > 50,
+        "{before} {past} {before_14} {before_12}"
+    );
+}
+
 /// The largest run: 4096 designs, unmarked, reach its last period, and one
 /// less does not, wherever it is cut.
 #[test]
@@ -256,6 +308,21 @@ fn a_list_reaches_the_largest_run() {
     }
     let saved = encoded(&case, &u, 4094);
     assert!(make(&periods(&less, 4094, 4095), 0, &saved, 0)
+        .outcome
+        .is_ok());
+    // And 4096 transitions.
+    let mut case = oracle::figures::sized(1, 4096);
+    case.list_t(4096);
+    assert!(same_answer(
+        &uncut(&case.inputs()).unwrap().outcome,
+        &u.outcome
+    ));
+    let rest = make(&periods(&case, 4094, 4096), 0, &saved, 1);
+    assert!(same_answer(&rest.outcome, &u.outcome));
+    case.ts.pop();
+    let rest = make(&periods(&case, 4094, 4096), 0, &saved, 1);
+    assert_eq!(rest.outcome.unwrap_err(), 2);
+    assert!(make(&periods(&case, 4094, 4095), 0, &saved, 0)
         .outcome
         .is_ok());
 }

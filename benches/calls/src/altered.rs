@@ -9,6 +9,7 @@ use crate::cuts::{periods, reach_held, room, Run};
 use crate::lent::{Ask, Lent, SAVE};
 use crate::library::Call;
 use crate::tally::Tally;
+use crate::wild::first_ones;
 
 /// After one run in so many, every bit of its bytes is flipped: of runs of up to three states, and of larger ones.
 const BITS_EVERY: [u64; 2] = [61, 1511];
@@ -46,12 +47,15 @@ pub struct Altered {
     pub refused: Option<bool>,
 }
 
-/// One stretch, of the library and of the oracle, on the same parts. How it must end, and the first difference.
-fn against_oracle(i: &Inputs<'_>, lent: &[usize; 13], ask: &Ask<'_>, fill: u64) -> (u32, Option<String>) {
+/// One stretch, of the library and of the oracle, on the same parts. How it must end, which is counted, and the first difference.
+fn against_oracle(i: &Inputs<'_>, lent: &[usize; 13], ask: &Ask<'_>, fill: u64, tally: &mut Tally) -> (u32, Option<String>) {
     let mut found = Lent::new(i, lent, ask, fill);
     let mut wanted = found.clone();
     let want = wanted.oracle(Call::Stretch);
-    if let Some(what) = reach_held(want, i, ask) {
+    let first = first_ones(Call::Stretch, &found.args());
+    tally.stretch_ended[want as usize] += 1;
+    tally.stretch_t_short += u64::from(want == 2 && first.is_none());
+    if let Some(what) = reach_held(want, first, i, ask) {
         return (want, Some(what));
     }
     let outcome = found.library(Call::Stretch);
@@ -119,9 +123,10 @@ pub fn report(rng: &mut Rng, done: usize) -> usize {
     }
 }
 
-/// The bytes of a run that nobody made: numbers of all kinds, mostly mirrored, and tallies in their ranges, for a stretch of n periods.
+/// The bytes of a run that nobody made: numbers of all kinds, mostly mirrored, and tallies in their ranges, for a stretch of n periods. Now and then few
+/// periods are done, so that a list may reach.
 pub fn made_up(rng: &mut Rng, p: usize, m: usize, r: usize, n: usize) -> Vec<u8> {
-    let done = rng.within(0, 4096 - n);
+    let done = rng.pick(&[rng.clone().within(0, 4096 - n), rng.clone().within(0, 2.min(4096 - n))]);
     let heard = rng.within(0, done * p);
     let plain = rng.chance(1, 2);
     let mut floats = |len: usize| -> Vec<f64> { (0..len).map(|_| if plain { rng.plain() } else { float(rng) }).collect() };
@@ -289,18 +294,23 @@ pub fn some_periods(rng: &mut Rng, n: usize) -> (usize, usize) {
     (from, from + rng.pick(&[0, most.min(1), most.min(2), most]))
 }
 
+/// So many periods done before a stretch of `len`, where a list of T is given mostly so few that it reaches.
+pub fn done_before(rng: &mut Rng, case: &Case, len: usize) -> usize {
+    let any = case.ts.is_empty() || rng.chance(1, 4);
+    rng.within(0, if any { case.n } else { case.n - len })
+}
+
 /// Alterations of the bytes of one run, at any period, for stretches of any of its periods; and a run that begins with bytes, or goes on without.
 pub fn try_run(rng: &mut Rng, run: &Run<'_>, name: &str, tally: &mut Tally) {
     let Case { p, m, n, .. } = *run.case;
     for _ in 0..ALTERATIONS {
-        let k = rng.within(0, n);
         let (from, to) = some_periods(rng, n);
+        let k = done_before(rng, run.case, to - from);
         let Altered { what, bytes, refused } = alter(rng, run, k, to - from);
         let last = rng.maybe_marker(1, 4);
         let ask = Ask { begins: 0, saved: &bytes, last, room: saved_len(m) + rng.below(9) };
         let lent = room(rng, p, m, to - from);
-        let (want, difference) = against_oracle(&periods(run.case, from, to), &lent, &ask, rng.word());
-        tally.stretch_ended[want as usize] += 1;
+        let (want, difference) = against_oracle(&periods(run.case, from, to), &lent, &ask, rng.word(), tally);
         let place = format!("{name}, bytes after {k} periods, {what}, then periods {from} to {to}");
         tally.altered.count(&place, held(want, refused).or(difference));
     }
@@ -316,8 +326,7 @@ pub fn try_run(rng: &mut Rng, run: &Run<'_>, name: &str, tally: &mut Tally) {
         (2, Ask { begins: 0, saved: any, last: 0, room: need - 1 }),
     ];
     for (due, ask) in asks {
-        let (want, difference) = against_oracle(&periods(run.case, from, to), &room(rng, p, m, to - from), &ask, rng.word());
-        tally.stretch_ended[want as usize] += 1;
+        let (want, difference) = against_oracle(&periods(run.case, from, to), &room(rng, p, m, to - from), &ask, rng.word(), tally);
         let name = format!("{name}, begins {}, {} bytes given, room for {}", ask.begins, ask.saved.len(), ask.room);
         tally.altered.count(&name, not_due(want, due).or(difference));
     }
@@ -329,17 +338,16 @@ pub fn try_bits(rng: &mut Rng, run: &Run<'_>, k: u64, name: &str, tally: &mut Ta
     if k % BITS_EVERY[usize::from(m > 3)] != 0 {
         return;
     }
-    let after = rng.within(0, n);
     let from = rng.within(0, n - 1);
     let to = from + rng.below(2);
+    let after = done_before(rng, run.case, to - from);
     let lent = room(rng, p, m, to - from);
     let last = rng.maybe_marker(1, 4);
     let mut bytes = run.bytes(after);
     for bit in 0..bytes.len() * 8 {
         bytes[bit / 8] ^= 1 << (bit % 8);
         let ask = Ask { begins: 0, saved: &bytes, last, room: saved_len(m) };
-        let (want, difference) = against_oracle(&periods(run.case, from, to), &lent, &ask, rng.word());
-        tally.stretch_ended[want as usize] += 1;
+        let (_, difference) = against_oracle(&periods(run.case, from, to), &lent, &ask, rng.word(), tally);
         tally.each_bit.count(&format!("{name}, bytes after {after} periods, bit {bit} flipped, then periods {from} to {to}"), difference);
         bytes[bit / 8] ^= 1 << (bit % 8);
     }
@@ -363,7 +371,7 @@ pub fn try_refused(rng: &mut Rng, case: &Case, refusal: u32, name: &str, tally: 
         let last = rng.maybe_marker(1, 2);
         let room = if rng.chance(1, 8) { need.saturating_sub(1) } else { need };
         let ask = Ask { begins, saved, last, room };
-        let (want, difference) = against_oracle(&case.inputs(), &case.lent, &ask, rng.word());
+        let (want, difference) = against_oracle(&case.inputs(), &case.lent, &ask, rng.word(), tally);
         let due = match refusal {
             1 if sized => None,
             1 | 2 => Some(refusal),
@@ -371,7 +379,6 @@ pub fn try_refused(rng: &mut Rng, case: &Case, refusal: u32, name: &str, tally: 
             _ => Some(refusal),
         };
         let told = due.and_then(|due| not_due(want, due));
-        tally.stretch_ended[want as usize] += 1;
         tally.stretch_refused.count(&format!("{name}, refused {refusal}, {what}"), told.or(difference));
     }
 }

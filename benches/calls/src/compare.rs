@@ -51,7 +51,7 @@ fn grow(rng: &mut Rng, case: &mut Case) {
     }
 }
 
-/// A run of up to 4096 periods: the timed model with gaps, elements without noise, often a list of designs, and often numbers that run off.
+/// A run of up to 4096 periods: the timed model with gaps, elements without noise, often lists of designs and of T, and often numbers that run off.
 fn long_case(rng: &mut Rng) -> Case {
     let (m, p, n) = (rng.within(1, 8), rng.within(1, 8), rng.within(21, 4096));
     let mut case = time::case(m, p, n);
@@ -73,23 +73,33 @@ fn long_case(rng: &mut Rng) -> Case {
     if rng.chance(1, 2) {
         grow(rng, &mut case);
     }
+    if rng.chance(1, 2) {
+        case.list_t(rng.pick(&[n, n, n, (n + 1).min(4096), 4096, n - 1]));
+        // Each period's own, and no more zeros than before.
+        case.ts.iter_mut().for_each(|x| *x *= 1.0 - 0.0625 * rng.unit());
+    }
     case
 }
 
-/// A case's run in stretches, also where its list falls short; and where the case is refused otherwise, as a stretch.
+/// Whether a call on the case is refused 2, and by the reach of T alone.
+fn by_reach_of_t(which: Call, case: &Case, refusal: u32) -> bool {
+    refusal == 2 && Lent::of(&case.reaching(), 0).oracle(which) != 2
+}
+
+/// A case's run in stretches, also where a list falls short; and where the case is refused otherwise, as a stretch.
 fn stretches(rng: &mut Rng, offset_rng: &mut Rng, case: &Case, k: u64, name: &str, tally: &mut Tally) {
-    // As the filter's call sees it, with the lengths that the case lends.
-    let refusal = Lent::of(case, 0).oracle(Call::Filter);
+    // As the filter's call sees it if T reaches n, with the lengths that the case lends.
+    let refusal = Lent::of(&case.reaching(), 0).oracle(Call::Filter);
     match Run::of(case) {
         Ok(run) if matches!(refusal, 0 | 12 | 14) => {
-            tally.listed(case, run.short());
+            tally.listed(case);
             cuts::try_short(rng, &run, name, tally);
             altered::try_run(rng, &run, name, tally);
             altered::try_bits(rng, &run, k, name, tally);
             values::try_stretch(rng, &run, name, tally);
             values::try_stretch_offsets(offset_rng, &run, name, tally);
         }
-        // What the filter's call judges after 14, a stretch is given before it.
+        // What the filter's call judges after a list's reach, a stretch is given before it.
         Err(other) if refusal == 14 => altered::try_refused(rng, case, other, name, tally),
         _ => altered::try_refused(rng, case, refusal, name, tally),
     }
@@ -98,6 +108,7 @@ fn stretches(rng: &mut Rng, offset_rng: &mut Rng, case: &Case, k: u64, name: &st
 fn one_case(cases: &Cases, seed: u64, k: u64, tally: &mut Tally) {
     tally.start(k);
     let (_, case) = cases.at(k);
+    tally.listed_t(&case);
     let name = format!("case {k} of seed {seed}");
     let mut rng = Rng::new(seed.wrapping_mul(0x9E37_79B9).wrapping_add(k));
     // Of its own, so that the wild call does not go by what demand 3 found in the library's answers.
@@ -109,6 +120,7 @@ fn one_case(cases: &Cases, seed: u64, k: u64, tally: &mut Tally) {
     for which in CALLS {
         let (outcome, difference, reports) = with_reports(which, &case, fill);
         tally.ended[outcome as usize] += 1;
+        tally.t_short += u64::from(by_reach_of_t(which, &case, outcome));
         if which == Call::Filter && outcome == 0 {
             tally.told(reports.0, reports.1);
         }
@@ -117,6 +129,7 @@ fn one_case(cases: &Cases, seed: u64, k: u64, tally: &mut Tally) {
     }
     values::try_case(&mut rng, &case, &name, tally);
     values::try_offsets(&mut offset_rng, &case, &name, tally);
+    values::try_copies(&case, fill, &name, tally);
     stretches(&mut stretch_rng, &mut offset_rng, &case, k, &name, tally);
     wild::try_case(&mut wild_rng, &mut stretch_rng, case, &name, tally);
     if k % LONG_EVERY == 0 {

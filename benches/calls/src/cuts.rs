@@ -1,6 +1,7 @@
 //! Runs cut into stretches: every stretch of the library, from the bytes that the one before saved, against the oracle's run that is not cut. The
 //! saved bytes are held to the encoder of the oracle, over the state that its own loop had at that period. Where a list of designs falls short and is
-//! not marked, the stretches are those of the marked run as far as it reaches, and past that refused 14.
+//! not marked, the stretches are those of the marked run as far as it reaches, and past that refused 14. Where a list of T falls short, they are those
+//! of the run whose list goes on to n, and past its own reach refused 2.
 
 use oracle::case::Case;
 use oracle::rng::Rng;
@@ -11,15 +12,16 @@ use crate::lent::{Ask, Lent, COV_OFF, D_DIFFUSE, HEARD, LOGLIK, MEAN_OFF, NEWS, 
 use crate::library::Call;
 use crate::tally::{Line, Tally};
 
-/// How many words the stretches of one long run may be lent in all: a list of designs is lent to each.
+/// How many words the stretches of one long run may be lent in all: the lists are lent to each.
 const LONG_WORDS: usize = 4_000_000;
 
-/// A case whose run starts, once it is marked, and the oracle's run.
+/// A case whose run starts, once it is marked and T reaches n, and the oracle's run.
 pub struct Run<'a> {
     pub case: &'a Case,
-    /// How many periods the list of designs reaches; of a constant design, all.
+    /// How many periods the list of designs reaches, and that of T; of a constant one, all.
     reach: usize,
-    /// How the marked filter's call ends: 0, or 12.
+    reach_t: usize,
+    /// How the marked filter's call ends if T reaches n: 0, or 12.
     pub ended: u32,
     written: [Vec<u64>; 11],
     /// After 0 to n periods.
@@ -47,38 +49,49 @@ pub fn periods(case: &Case, from: usize, to: usize) -> Inputs<'_> {
     i
 }
 
-/// Whether the list falls short of the run's periods, unmarked: reckoned anew from document 02, in numbers that can't overflow. The saved bytes tell
-/// how many periods are done.
-fn falls_short(i: &Inputs<'_>, ask: &Ask<'_>) -> bool {
+/// The refusal for a list that falls short of the run's periods, of T or else of designs, unmarked: reckoned anew from document 02, in numbers that
+/// can't overflow. The saved bytes tell how many periods are done.
+fn by_reach(i: &Inputs<'_>, ask: &Ask<'_>) -> Option<u32> {
     let done = match ask.saved.get(28..36) {
         Some(bytes) if ask.begins == 0 => bytes.iter().fold(0, |v, &byte| v << 8 | u128::from(byte)),
         _ => 0,
     };
-    let numbers = (done + i.n as u128) * (i.p * i.m) as u128;
-    !i.zs.is_empty() && i.repeats == 0 && (i.zs.len() as u128) < numbers
+    let periods = done + i.n as u128;
+    let short = |list: &[f64], size: usize| !list.is_empty() && (list.len() as u128) < periods * size as u128;
+    if short(i.ts, i.m * i.m) {
+        return Some(2);
+    }
+    (i.repeats == 0 && short(i.zs, i.p * i.m)).then_some(14)
 }
 
-/// Refusal 14 of a stretch, by document 02 alone, against the oracle's. Whether one before it is due is for others to tell.
-pub fn reach_held(want: u32, i: &Inputs<'_>, ask: &Ask<'_>) -> Option<String> {
-    let wrong = matches!(want, 0 | 12 | 14) && (want == 14) != falls_short(i, ask);
-    wrong.then(|| format!("THE ORACLE gives {want}, and document 02 says that 14 is {}due", if want == 14 { "not " } else { "" }))
+/// The refusal for a list's reach, by document 02 alone, against the oracle's. Whether one before it is due is for others to tell; of refusals 1 and 2
+/// `first` does, by sizes and lengths.
+pub fn reach_held(want: u32, first: Option<u32>, i: &Inputs<'_>, ask: &Ask<'_>) -> Option<String> {
+    let given = match want {
+        2 | 14 if first.is_none() => Some(want),
+        0 | 12 => None,
+        _ => return None,
+    };
+    let due = by_reach(i, ask);
+    (given != due).then(|| format!("THE ORACLE gives {want}, and for the reach of a list document 02 {due:?}"))
 }
 
 impl<'a> Run<'a> {
-    /// The run, marked, or its refusal, 1 to 11.
+    /// The run, marked and with T up to n, or its refusal, 1 to 11.
     pub fn of(case: &'a Case) -> Result<Self, u32> {
-        let whole = uncut(&Inputs { repeats: 1, ..case.inputs() })?;
+        let whole = uncut(&Inputs { repeats: 1, ..case.reaching().inputs() })?;
         let written = std::array::from_fn(|k| whole.written.words(k));
         let reach = if case.zs.is_empty() { usize::MAX } else { case.listed() };
-        Ok(Run { case, reach, ended: whole.outcome.err().unwrap_or(0), written, states: whole.states })
+        let reach_t = if case.ts.is_empty() { usize::MAX } else { case.listed_t() };
+        Ok(Run { case, reach, reach_t, ended: whole.outcome.err().unwrap_or(0), written, states: whole.states })
     }
 
-    /// Whether the list falls short of all periods.
-    pub fn short(&self) -> bool {
-        self.reach < self.case.n
+    /// Whether a list falls short of all periods.
+    fn short(&self) -> bool {
+        self.reach.min(self.reach_t) < self.case.n
     }
 
-    /// A marker for a stretch that ends at `to`: as the case has it where the list does not reach so far, else any byte.
+    /// A marker for a stretch that ends at `to`: as the case has it where the designs do not reach so far, else any byte.
     fn marker(&self, rng: &mut Rng, to: usize) -> u8 {
         match self.case.repeats {
             _ if to <= self.reach => rng.maybe_marker(1, 2),
@@ -95,6 +108,9 @@ impl<'a> Run<'a> {
     /// Writes what the stretch over periods `from` up to `to` must leave. How it must end.
     fn put(&self, lent: &mut Lent, from: usize, to: usize, last: bool) -> u32 {
         let (p, m) = (self.case.p, self.case.m);
+        if to > self.reach_t {
+            return 2;
+        }
         if to > self.reach && self.case.repeats == 0 {
             return 14;
         }
@@ -158,7 +174,7 @@ impl<'a> Run<'a> {
     }
 
     /// The whole run in stretches that end at `cuts`, ascending, and at its end; up to the first that differs. Now and then the last one is empty. One
-    /// that is refused 14 leaves the run where it was.
+    /// that is refused for a list's reach leaves the run where it was.
     pub fn chain(&self, rng: &mut Rng, cuts: &[usize], name: &str, line: &mut Line) {
         let n = self.case.n;
         let mut ends = cuts.to_vec();
@@ -184,7 +200,7 @@ fn anywhere(rng: &mut Rng, n: usize, most: usize) -> Vec<usize> {
     cuts
 }
 
-/// A short run: cut at each period, after every period, anywhere, and not at all; where its list falls short, also gone on with after each period.
+/// A short run: cut at each period, after every period, anywhere, and not at all; where a list falls short, also gone on with after each period.
 pub fn try_short(rng: &mut Rng, run: &Run<'_>, name: &str, tally: &mut Tally) {
     let n = run.case.n;
     for cut in 0..=n {
@@ -195,7 +211,7 @@ pub fn try_short(rng: &mut Rng, run: &Run<'_>, name: &str, tally: &mut Tally) {
     let some = anywhere(rng, n, 4);
     run.chain(rng, &some, &format!("{name}, cut at {some:?}"), &mut tally.cut_anywhere);
     run.chain(rng, &[], &format!("{name}, in one stretch"), &mut tally.cut_anywhere);
-    // From what the marked run saves: unmarked, done past the list's end is refused too, with no period more.
+    // From what the whole run saves: done past a list's end is refused too, with no period more.
     for from in (0..=n).filter(|_| run.short()) {
         let to = rng.within(from, n);
         let made = run.stretch(rng, from, to, Some(&run.bytes(from)), to == n);
@@ -208,7 +224,7 @@ pub fn try_long(rng: &mut Rng, run: &Run<'_>, name: &str, tally: &mut Tally) {
     let n = run.case.n;
     let some = anywhere(rng, n, 8);
     run.chain(rng, &some, &format!("{name}, cut at {some:?}"), &mut tally.cut_anywhere);
-    let most = LONG_WORDS / (run.case.zs.len() + 1000);
+    let most = LONG_WORDS / (run.case.zs.len() + run.case.ts.len() + 1000);
     let first = rng.within(0, n.saturating_sub(most));
     let every: Vec<usize> = (first..n.min(first + most)).collect();
     run.chain(rng, &every, &format!("{name}, cut after every period from {first} on"), &mut tally.cut_each);

@@ -1,38 +1,39 @@
 //! All that one call is lent, in one stretch of memory: the inputs, the outputs and the answer's places, each between two guard zones. Two such
 //! stretches after two calls are compared word by word, so that nothing can change unseen: no tail, no guard, no input, no place of a refused answer.
 
-use oracle::case::{answer_words, one_nan, Case, ANSWER, INPUT_NAMES, OUTPUT_NAMES};
+use oracle::case::{answer_words, one_nan, Case, ANSWER, INPUTS, INPUT_NAMES, OUTPUT_NAMES};
 use oracle::{filter_call, saved_len, smooth_call, stretch_call, Inputs, Outputs, Smoothed, Stretch};
 
 use crate::library::{self, Call};
 
 /// Words of a guard zone.
 const GUARD: usize = 4;
-const INPUTS: usize = 12;
-const OUTPUTS: usize = 13;
+pub const OUTPUTS: usize = 13;
 /// Past the inputs, the outputs and the answer: the bytes that a stretch goes on from, and those that it saves.
 const PARTS: usize = INPUTS + OUTPUTS + ANSWER + 2;
 const ANSWER_NAMES: [&str; ANSWER] = ["the log-likelihood", "d_diffuse", "heard", "news", "cov_off", "mean_off"];
 
 /// Numbers of parts, the inputs first, then the outputs, then the answer's places, then a stretch's bytes.
-pub const C: usize = 6;
-pub const D: usize = 7;
-pub const A1: usize = 8;
-pub const FLAGS: usize = 10;
-pub const Y: usize = 11;
-pub const PRED_MEAN: usize = 12;
-pub const FILT_MEAN: usize = 15;
-pub const KINDS: usize = 17;
-pub const V: usize = 18;
-pub const SM_MEAN: usize = 23;
-pub const LOGLIK: usize = 25;
-pub const D_DIFFUSE: usize = 26;
-pub const HEARD: usize = 27;
-pub const NEWS: usize = 28;
-pub const COV_OFF: usize = 29;
-pub const MEAN_OFF: usize = 30;
-pub const SAVED: usize = 31;
-pub const SAVE: usize = 32;
+pub const T: usize = 3;
+pub const TS: usize = 4;
+pub const C: usize = 7;
+pub const D: usize = 8;
+pub const A1: usize = 9;
+pub const FLAGS: usize = 11;
+pub const Y: usize = 12;
+pub const PRED_MEAN: usize = INPUTS;
+pub const FILT_MEAN: usize = INPUTS + 3;
+pub const KINDS: usize = INPUTS + 5;
+pub const V: usize = INPUTS + 6;
+pub const SM_MEAN: usize = INPUTS + 11;
+pub const LOGLIK: usize = INPUTS + OUTPUTS;
+pub const D_DIFFUSE: usize = LOGLIK + 1;
+pub const HEARD: usize = LOGLIK + 2;
+pub const NEWS: usize = LOGLIK + 3;
+pub const COV_OFF: usize = LOGLIK + 4;
+pub const MEAN_OFF: usize = LOGLIK + 5;
+pub const SAVED: usize = LOGLIK + ANSWER;
+pub const SAVE: usize = SAVED + 1;
 
 /// Where a part starts, in words and bytes more, and how many places it has.
 #[derive(Debug, Clone, Copy, Default)]
@@ -107,7 +108,7 @@ impl Lent {
     /// These inputs, outputs of the lengths `lent`, and what a stretch has besides. Its bytes start anywhere in a word.
     pub fn new(i: &Inputs<'_>, lent: &[usize; OUTPUTS], ask: &Ask<'_>, fill: u64) -> Self {
         #[rustfmt::skip]
-        let floats: [&[f64]; INPUTS] = [i.z, i.zs, i.h, i.t, i.rr, i.q, i.c, i.d, i.a1, i.p_star, &[], i.y];
+        let floats: [&[f64]; INPUTS] = [i.z, i.zs, i.h, i.t, i.ts, i.rr, i.q, i.c, i.d, i.a1, i.p_star, &[], i.y];
         let mut parts = [Part::default(); PARTS];
         let mut at = GUARD;
         for (k, part) in parts.iter_mut().enumerate() {
@@ -183,6 +184,13 @@ impl Lent {
         unsafe { library::call(which, &args) }
     }
 
+    /// The same with none of this input part handed in, though it is lent: so that all else lies where it lies with it.
+    pub fn library_without(&mut self, which: Call, part: usize) -> u32 {
+        let mut args = self.args();
+        args.inputs[part].1 = 0;
+        unsafe { library::call(which, &args) }
+    }
+
     /// The oracle's call on the same parts, its answer in the same places.
     pub fn oracle(&mut self, which: Call) -> u32 {
         self.oracle_from(which, None)
@@ -199,8 +207,8 @@ impl Lent {
         let kinds = unsafe { std::slice::from_raw_parts_mut(a.outputs[5].0.cast::<u8>(), a.outputs[5].1) };
         #[rustfmt::skip]
         let i = Inputs {
-            p, m, r, n, z: x(0), zs: x(1), repeats: a.repeats, h: x(2), t: x(3), rr: x(4), q: x(5), c: x(6), d: x(7), a1: x(8), p_star: x(9),
-            flags, y: x(Y),
+            p, m, r, n, z: x(0), zs: x(1), repeats: a.repeats, h: x(2), t: x(T), ts: x(TS), rr: x(5), q: x(6), c: x(C), d: x(D), a1: x(A1),
+            p_star: x(10), flags, y: x(Y),
         };
         #[rustfmt::skip]
         let mut outputs = Outputs {

@@ -49,13 +49,13 @@ pub unsafe fn call(which: Call, a: &Args) -> u32 {
 #[inline(never)]
 unsafe fn whole(which: Call, a: &Args) -> u32 {
     let [p, m, r, n] = a.sizes;
-    let [z, zs, h, t, rr, q, c, d, a1, ps, fl, y] = a.inputs;
+    let [z, zs, h, t, ts, rr, q, c, d, a1, ps, fl, y] = a.inputs;
     let [pm, pc, pi, fm, fc, k, v, fs, fi, ms, mi, sm, sc] = a.outputs;
     let [loglik, d_diffuse, heard, news, cov_off, mean_off] = a.answer;
     match which {
         Call::Filter => goxundar_filter(
             p, m, r, n,
-            z.0.cast(), z.1, zs.0.cast(), zs.1, a.repeats, h.0.cast(), h.1, t.0.cast(), t.1,
+            z.0.cast(), z.1, zs.0.cast(), zs.1, a.repeats, h.0.cast(), h.1, t.0.cast(), t.1, ts.0.cast(), ts.1,
             rr.0.cast(), rr.1, q.0.cast(), q.1, c.0.cast(), c.1, d.0.cast(), d.1,
             a1.0.cast(), a1.1, ps.0.cast(), ps.1, fl.0.cast(), fl.1, y.0.cast(), y.1,
             pm.0.cast(), pm.1, pc.0.cast(), pc.1, pi.0.cast(), pi.1, fm.0.cast(), fm.1, fc.0.cast(), fc.1,
@@ -64,7 +64,7 @@ unsafe fn whole(which: Call, a: &Args) -> u32 {
         ),
         _ => goxundar_smooth(
             p, m, r, n,
-            z.0.cast(), z.1, zs.0.cast(), zs.1, a.repeats, h.0.cast(), h.1, t.0.cast(), t.1,
+            z.0.cast(), z.1, zs.0.cast(), zs.1, a.repeats, h.0.cast(), h.1, t.0.cast(), t.1, ts.0.cast(), ts.1,
             rr.0.cast(), rr.1, q.0.cast(), q.1, c.0.cast(), c.1, d.0.cast(), d.1,
             a1.0.cast(), a1.1, ps.0.cast(), ps.1, fl.0.cast(), fl.1, y.0.cast(), y.1,
             pm.0.cast(), pm.1, pc.0.cast(), pc.1, pi.0.cast(), pi.1, fm.0.cast(), fm.1, fc.0.cast(), fc.1,
@@ -79,12 +79,12 @@ unsafe fn whole(which: Call, a: &Args) -> u32 {
 #[inline(never)]
 unsafe fn stretch(a: &Args) -> u32 {
     let [p, m, r, n] = a.sizes;
-    let [z, zs, h, t, rr, q, c, d, a1, ps, fl, y] = a.inputs;
+    let [z, zs, h, t, ts, rr, q, c, d, a1, ps, fl, y] = a.inputs;
     let [pm, pc, pi, fm, fc, k, v, fs, fi, ms, mi, ..] = a.outputs;
     let [loglik, d_diffuse, heard, news, cov_off, mean_off] = a.answer;
     goxundar_stretch(
         p, m, r, n,
-        z.0.cast(), z.1, zs.0.cast(), zs.1, a.repeats, h.0.cast(), h.1, t.0.cast(), t.1,
+        z.0.cast(), z.1, zs.0.cast(), zs.1, a.repeats, h.0.cast(), h.1, t.0.cast(), t.1, ts.0.cast(), ts.1,
         rr.0.cast(), rr.1, q.0.cast(), q.1, c.0.cast(), c.1, d.0.cast(), d.1,
         a1.0.cast(), a1.1, ps.0.cast(), ps.1, fl.0.cast(), fl.1, y.0.cast(), y.1,
         a.begins, a.saved.0, a.saved.1, a.last,

@@ -1,5 +1,7 @@
 //! What was compared, how much of it differs, and the first difference.
 
+use std::cmp::Ordering;
+
 use oracle::case::Case;
 
 /// One kind of comparison.
@@ -40,6 +42,11 @@ pub struct Tally {
     pub wild_ended: [u64; 15],
     /// Runs that are cut and have a list of designs: marked and short, unmarked and reaching n, unmarked and short.
     pub lists: [u64; 3],
+    /// Cases that have a list of T: of n matrices, of more, of fewer.
+    pub t_lists: [u64; 3],
+    /// Calls on made cases that are refused 2 by the reach of T alone, and stretches from saved bytes.
+    pub t_short: u64,
+    pub stretch_t_short: u64,
     /// Cases that the filter's call answers: with a covariance report, with a mean report, with both, with neither.
     pub reports: [u64; 4],
     /// Long runs with a report.
@@ -53,6 +60,7 @@ pub struct Tally {
     pub other_number: Line,
     pub gap: Line,
     pub other_offsets: Line,
+    pub copies: Line,
     pub wild_sizes: Line,
     pub wild_lengths: Line,
     pub wild_claims: Line,
@@ -73,7 +81,7 @@ pub struct Tally {
 }
 
 impl Tally {
-    fn lines(&mut self) -> [(&'static str, &mut Line); 22] {
+    fn lines(&mut self) -> [(&'static str, &mut Line); 23] {
         [
             ("filter against the oracle", &mut self.filter),
             ("smoother against the oracle", &mut self.smooth),
@@ -82,6 +90,7 @@ impl Tally {
             ("demand 3: another number for a reading that is no news", &mut self.other_number),
             ("demand 3: a gap for a reading that is no news", &mut self.gap),
             ("request k: other a1, c and d", &mut self.other_offsets),
+            ("request g: n copies of T for a constant T", &mut self.copies),
             ("wild calls: sizes", &mut self.wild_sizes),
             ("wild calls: lengths", &mut self.wild_lengths),
             ("wild calls: lengths claimed that nothing has", &mut self.wild_claims),
@@ -90,7 +99,7 @@ impl Tally {
             ("stretches of runs cut once, at each period", &mut self.cut_once),
             ("stretches of runs cut after every period", &mut self.cut_each),
             ("stretches of runs cut anywhere, up to 4096 periods", &mut self.cut_anywhere),
-            ("stretches of runs whose list falls short", &mut self.cut_short),
+            ("stretches of runs of which a list falls short", &mut self.cut_short),
             ("stretches from saved bytes that were altered", &mut self.altered),
             ("stretches from saved bytes, each bit flipped in turn", &mut self.each_bit),
             ("stretches that refusals 1 to 11 are for, and 15 too", &mut self.stretch_refused),
@@ -112,6 +121,8 @@ impl Tally {
         self.cases += other.cases;
         self.wild_nulls += other.wild_nulls;
         self.long_told += other.long_told;
+        self.t_short += other.t_short;
+        self.stretch_t_short += other.stretch_t_short;
         for (a, b) in self.reports.iter_mut().zip(other.reports) {
             *a += b;
         }
@@ -119,7 +130,7 @@ impl Tally {
             self.ended[k] += other.ended[k];
             self.wild_ended[k] += other.wild_ended[k];
         }
-        for (a, b) in self.lists.iter_mut().zip(other.lists) {
+        for (a, b) in self.lists.iter_mut().chain(&mut self.t_lists).zip(other.lists.into_iter().chain(other.t_lists)) {
             *a += b;
         }
         for (a, b) in self.stretch_ended.iter_mut().zip(other.stretch_ended) {
@@ -139,7 +150,8 @@ impl Tally {
     }
 
     /// Counts the list of designs of a run that is cut.
-    pub fn listed(&mut self, case: &Case, short: bool) {
+    pub fn listed(&mut self, case: &Case) {
+        let short = !case.zs.is_empty() && case.listed() < case.n;
         let kind = match (short, case.repeats) {
             (true, 0) => 2,
             (true, _) => 0,
@@ -147,6 +159,19 @@ impl Tally {
             _ => return,
         };
         self.lists[kind] += 1;
+    }
+
+    /// Counts the list of T of a case, whatever becomes of it.
+    pub fn listed_t(&mut self, case: &Case) {
+        let reached = case.n.saturating_mul(case.m).saturating_mul(case.m);
+        if !case.ts.is_empty() {
+            let kind = match case.ts.len().cmp(&reached) {
+                Ordering::Equal => 0,
+                Ordering::Greater => 1,
+                Ordering::Less => 2,
+            };
+            self.t_lists[kind] += 1;
+        }
     }
 
     /// How many stretches were compared, and how many of them from saved bytes that were altered.
@@ -167,6 +192,10 @@ impl Tally {
         let [cov, mean, both, neither] = self.reports;
         println!("answered cases: {cov} with a covariance report, {mean} with a mean report, {both} of these with both; {neither} with neither");
         println!("long runs with a report: {}", self.long_told);
+        let [exact, longer, shorter] = self.t_lists;
+        let listed: u64 = self.t_lists.iter().sum();
+        println!("cases with a list of T: {listed} of {}; {exact} of n matrices, {longer} of more, {shorter} of fewer", self.cases);
+        println!("refused 2 by the reach of T alone: {} calls on made cases, {} stretches from saved bytes", self.t_short, self.stretch_t_short);
         let [repeated, reached, short] = self.lists;
         println!("runs cut that have a list of designs: {repeated} marked and short, {reached} unmarked that reach n, {short} unmarked and short");
         println!("wild calls: {}; empty parts null in {}", ended(&self.wild_ended), self.wild_nulls);

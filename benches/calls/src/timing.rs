@@ -1,9 +1,10 @@
-//! The time of both calls, the library's against the oracle's: the same inputs, in turns, over and over. And of a run in stretches against the library's
-//! own filter.
+//! The time of both calls, the library's against the oracle's: the same inputs, in turns, over and over. And of a run in stretches, and of a run with a
+//! list of T, against the library's own calls.
 
 use std::hint::black_box;
 use std::time::Instant;
 
+use oracle::case::Case;
 use oracle::rng::Rng;
 use oracle::time;
 
@@ -50,6 +51,19 @@ fn periods(which: Call, m: usize, p: usize, n: usize) -> (f64, f64) {
     let mut lent = Lent::of(&time::case(m, p, n), 0);
     let [library, oracle] = in_turns(|| [once(|| black_box(&mut lent).library(which)), once(|| black_box(&mut lent).oracle(which))]);
     (library / n as f64, oracle / n as f64)
+}
+
+/// The timed case with a list of n transitions. They are copies, so that nothing but the list differs.
+fn listed(m: usize, p: usize, n: usize) -> Case {
+    let mut case = time::case(m, p, n);
+    case.list_t(n);
+    case
+}
+
+/// Nanoseconds a period of the library's call, with a constant T and with a list.
+fn by_list(which: Call, m: usize, p: usize, n: usize) -> [f64; 2] {
+    let mut lent = [time::case(m, p, n), listed(m, p, n)].map(|case| Lent::of(&case, 0));
+    in_turns(|| lent.each_mut().map(|one| once(|| black_box(one).library(which)))).map(|x| x / n as f64)
 }
 
 /// A run of one stretch after the other, each of `each` periods, from the bytes that the one before saved.
@@ -125,11 +139,12 @@ fn check_stretches() -> (u64, u64) {
 pub fn check() -> bool {
     let (mut calls, mut differ) = (0, 0);
     for (m, p) in time::SIZES {
-        for n in GROWTH.into_iter().chain([time::PERIODS]) {
+        let constant = GROWTH.into_iter().chain([time::PERIODS]).map(|n| time::case(m, p, n));
+        for case in constant.chain([listed(m, p, time::PERIODS)]) {
             for which in CALLS {
                 calls += 1;
-                if let Some(what) = compare::against_oracle(which, &time::case(m, p, n), 0).1 {
-                    println!("{}, m = {m}, p = {p}, n = {n}: {what}", which.name());
+                if let Some(what) = compare::against_oracle(which, &case, 0).1 {
+                    println!("{}, m = {m}, p = {p}, n = {}, {} transitions listed: {what}", which.name(), case.n, case.listed_t());
                     differ += 1;
                 }
             }
@@ -167,6 +182,21 @@ pub fn print() {
     for (m, p) in time::SIZES {
         let [filter, one, many] = cut_up(m, p, time::PERIODS);
         println!("{m:>2} {p:>2}  {filter:>9.0}   {one:>9.0} {:>9.3}   {many:>9.0} {:>9.3}", one / filter, many / filter);
+    }
+    println!();
+    println!("A list of n = {} transitions, the library's nanoseconds a period; ratio: to a constant T", time::PERIODS);
+    println!("       {:^29}   {:^29}", "filter", "smoother");
+    let head = format!("{:>9} {:>9} {:>9}", "constant", "list", "ratio");
+    println!("{:>2} {:>2}  {head}   {head}", "m", "p");
+    for (m, p) in time::SIZES {
+        let row: Vec<String> = CALLS
+            .iter()
+            .map(|&which| {
+                let [constant, list] = by_list(which, m, p, time::PERIODS);
+                format!("{constant:>9.0} {list:>9.0} {:>9.3}", list / constant)
+            })
+            .collect();
+        println!("{m:>2} {p:>2}  {}", row.join("   "));
     }
     for which in CALLS {
         println!();

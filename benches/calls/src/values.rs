@@ -1,6 +1,6 @@
 //! Demand 3 and request k, tried on the library by pairs of calls: the values of finite readings reach no covariance, decision, variance, gain vector,
-//! count, refusal or report on the covariances, nor do the offsets past refusals 1 to 11, or where a list falls short (14); and a reading judged no
-//! news is no news, for the report on the means too. The oracle is not asked.
+//! count, refusal or report on the covariances, nor do the offsets past refusals 1 to 11, or where a list falls short (2 or 14); and a reading judged
+//! no news is no news, for the report on the means too. And a list of n copies of T is the constant T (request g). The oracle is not asked.
 
 use std::ops::Range;
 
@@ -9,9 +9,9 @@ use oracle::demand3::{other, other_offsets, other_values};
 use oracle::rng::Rng;
 use oracle::Inputs;
 
-use crate::altered::{float, number, report, some_periods, LIKELIHOOD, MEAN, MEAN_REPORT, SIZES, STATE, TALLIES};
+use crate::altered::{done_before, float, number, report, some_periods, LIKELIHOOD, MEAN, MEAN_REPORT, SIZES, STATE, TALLIES};
 use crate::cuts;
-use crate::lent::{Ask, Lent, A1, C, D, FILT_MEAN, HEARD, KINDS, LOGLIK, MEAN_OFF, NEWS, PRED_MEAN, SAVE, SAVED, SM_MEAN, V, Y};
+use crate::lent::{Ask, Lent, A1, C, D, FILT_MEAN, HEARD, KINDS, LOGLIK, MEAN_OFF, NEWS, PRED_MEAN, SAVE, SAVED, SM_MEAN, T, TS, V, Y};
 use crate::library::{Call, CALLS};
 use crate::tally::Tally;
 
@@ -85,12 +85,30 @@ pub fn try_case(rng: &mut Rng, case: &Case, name: &str, tally: &mut Tally) {
     }
 }
 
-/// Request k on one case past refusals 1 to 11, or refused 14, for both calls.
+/// A constant T against a list of n copies of it, refusals included: both calls, and a stretch that begins a run.
+pub fn try_copies(case: &Case, fill: u64, name: &str, tally: &mut Tally) {
+    if !case.sized() || !case.ts.is_empty() || case.t.len() != case.m * case.m {
+        return;
+    }
+    let ts = case.t.repeat(case.n);
+    let ask = Ask { begins: 1, room: oracle::saved_len(case.m), ..Ask::default() };
+    for which in CALLS.into_iter().chain([Call::Stretch]) {
+        let both = Lent::new(&Inputs { ts: &ts, ..case.inputs() }, &case.lent, &ask, fill);
+        let [constant, copies] = [TS, T].map(|left_out| {
+            let mut lent = both.clone();
+            let refusal = lent.library_without(which, left_out);
+            Run { which, refusal, lent }
+        });
+        tally.copies.count(&format!("request g, {name}, {}, n copies of T", which.name()), moved(&constant, &copies, &[]));
+    }
+}
+
+/// Request k on one case past refusals 1 to 11, or refused for a list's reach, for both calls. Other offsets have the same lengths, so that 2 stays.
 pub fn try_offsets(rng: &mut Rng, case: &Case, name: &str, tally: &mut Tally) {
     let fill = rng.word();
     for which in CALLS {
         let before = run(which, case, fill);
-        if matches!(before.refusal, 0 | 12 | 14) {
+        if matches!(before.refusal, 0 | 2 | 12 | 14) {
             let after = run(which, &other_offsets(rng, case), fill);
             let name = format!("request k, {name}, {}, other offsets", which.name());
             tally.other_offsets.count(&name, seen(&before, &after, &[C, D, A1, Y]));
@@ -114,7 +132,7 @@ struct Piece {
 impl Piece {
     fn of(rng: &mut Rng, case: &Case, begins: u8) -> Self {
         let (from, to) = some_periods(rng, case.n);
-        let done = rng.within(0, case.n);
+        let done = done_before(rng, case, to - from);
         let last = rng.maybe_marker(1, 4);
         // Often marked, since a list that reaches n may not reach the end of a stretch that is put here.
         let repeats = if rng.chance(1, 2) { rng.marker() } else { case.repeats };

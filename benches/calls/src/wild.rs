@@ -1,20 +1,23 @@
 //! Wild calls: sizes, lengths and bits that no sensible caller passes. Each must return, with the refusal that document 01's table says and nothing
 //! else touched, or with the oracle's answer.
 
-use oracle::case::Case;
+use oracle::case::{Case, INPUTS};
 use oracle::rng::Rng;
 
 use crate::altered::made_up;
 use crate::cuts::reach_held;
-use crate::lent::{Args, Ask, Lent, SAVE, SAVED};
+use crate::lent::{Args, Ask, Lent, OUTPUTS, SAVE, SAVED, T, TS};
 use crate::library::{self, Call, CALLS};
 use crate::tally::Tally;
 
 /// Sizes and lengths outside every range. Eight times some of them is 0, or a small number, in 64 bits.
 const HUGE: [usize; 7] = [usize::MAX, usize::MAX - 1, usize::MAX / 8, 1 << 63, 1 << 61, (1 << 61) + 1, 1 << 32];
 
-/// Refusals 1 and 2, and 14 where it is judged next, reckoned anew from the documents, in numbers that can't overflow. No part of the oracle.
-fn first_ones(which: Call, a: &Args) -> Option<u32> {
+/// Inputs of floats: all but the flags.
+const FLOATS: usize = INPUTS - 1;
+
+/// Refusals 1 and 2, and a list's reach where it is judged next, reckoned anew from the documents, in numbers that can't overflow. No part of the oracle.
+pub fn first_ones(which: Call, a: &Args) -> Option<u32> {
     let [p, m, r, n] = a.sizes.map(|x| x as u128);
     let small = |x: u128| (1..=8).contains(&x);
     let least_n = u128::from(which != Call::Stretch);
@@ -23,11 +26,15 @@ fn first_ones(which: Call, a: &Args) -> Option<u32> {
     }
     let input = |k: usize| a.inputs[k].1 as u128;
     let output = |k: usize| a.outputs[k].1 as u128;
-    let constant = input(0) == p * m && input(1) == 0;
-    let listed = input(0) == 0 && (1..=4096).any(|designs| input(1) == designs * p * m);
-    // h, t, rr, q, c, d, a1, p_star, flags, y
-    let exact = [p * p, m * m, m * r, r * r, m, p, m, m * m, m, n * p];
-    let inputs = exact.iter().enumerate().all(|(k, &len)| input(k + 2) == len);
+    // Given once, or listed.
+    let rule = |once: usize, list: usize, size: u128| {
+        let listed = input(once) == 0 && (1..=4096).any(|count| input(list) == count * size);
+        listed || (input(once) == size && input(list) == 0)
+    };
+    // rr, q, c, d, a1, p_star, flags, y
+    let exact = [m * r, r * r, m, p, m, m * m, m, n * p];
+    let others = input(2) == p * p && exact.iter().enumerate().all(|(k, &len)| input(k + 5) == len);
+    let inputs = rule(0, 1, p * m) && rule(T, TS, m * m) && others;
     #[rustfmt::skip]
     let least = [
         (n + 1) * m, (n + 1) * m * m, (n + 1) * m * m, n * m, n * m * m,
@@ -36,11 +43,14 @@ fn first_ones(which: Call, a: &Args) -> Option<u32> {
     ];
     let outputs = (0..which.outputs()).all(|k| output(k) >= least[k]);
     let saves = which != Call::Stretch || a.last != 0 || a.save.1 as u128 >= 120 + 8 * m + 32 * m * m;
-    if !((constant || listed) && inputs && outputs && saves) {
+    if !(inputs && outputs && saves) {
         return Some(2);
     }
-    let short = listed && a.repeats == 0 && input(1) < n * p * m;
-    (short && which != Call::Stretch).then_some(14)
+    let short = |list: usize, size: u128| which != Call::Stretch && input(list) != 0 && input(list) < n * size;
+    if short(TS, m * m) {
+        return Some(2);
+    }
+    (a.repeats == 0 && short(1, p * m)).then_some(14)
 }
 
 /// What is claimed of a part's length besides: the part, by its number in `lent`, and the claim.
@@ -53,10 +63,10 @@ fn one_call(which: Call, case: &Case, ask: &Ask<'_>, claims: &Claims, nulls: boo
     let mut args = found.args();
     for &(part, claim) in claims {
         match part {
-            0..12 => args.inputs[part].1 = claim,
+            0..INPUTS => args.inputs[part].1 = claim,
             SAVED => args.saved.1 = claim,
             SAVE => args.save.1 = claim,
-            _ => args.outputs[part - 12].1 = claim,
+            _ => args.outputs[part - INPUTS].1 = claim,
         }
     }
     if nulls {
@@ -72,7 +82,7 @@ fn one_call(which: Call, case: &Case, ask: &Ask<'_>, claims: &Claims, nulls: boo
         }
     }
     let reckoned = first_ones(which, &args);
-    let claims_inputs = claims.iter().any(|(part, _)| *part < 12);
+    let claims_inputs = claims.iter().any(|(part, _)| *part < INPUTS);
     // No slice has such a length, so the oracle can't be asked.
     let want = if claims_inputs {
         reckoned.expect("no input can have a length that is claimed here")
@@ -82,11 +92,12 @@ fn one_call(which: Call, case: &Case, ask: &Ask<'_>, claims: &Claims, nulls: boo
     } else {
         wanted.oracle(which)
     };
-    let later = |k: u32| !matches!(k, 1 | 2) && (k != 14 || which == Call::Stretch);
+    // A stretch is judged by a list's reach later.
+    let later = |k: u32| k != 1 && (!matches!(k, 2 | 14) || which == Call::Stretch);
     if !reckoned.map_or(later(want), |k| k == want) {
         return (want, Some(format!("THE ORACLE gives {want}, and the documents' table {reckoned:?}")));
     }
-    if let Some(what) = reach_held(want, &case.inputs(), ask) {
+    if let Some(what) = reach_held(want, reckoned, &case.inputs(), ask) {
         return (want, Some(what));
     }
     let outcome = unsafe { library::call(which, &args) };
@@ -111,12 +122,13 @@ fn float_input(case: &mut Case, k: usize) -> &mut Vec<f64> {
         1 => &mut case.zs,
         2 => &mut case.h,
         3 => &mut case.t,
-        4 => &mut case.rr,
-        5 => &mut case.q,
-        6 => &mut case.c,
-        7 => &mut case.d,
-        8 => &mut case.a1,
-        9 => &mut case.p_star,
+        4 => &mut case.ts,
+        5 => &mut case.rr,
+        6 => &mut case.q,
+        7 => &mut case.c,
+        8 => &mut case.d,
+        9 => &mut case.a1,
+        10 => &mut case.p_star,
         _ => &mut case.y,
     }
 }
@@ -127,12 +139,13 @@ fn fit(case: &mut Case, rng: &mut Rng) {
     let (p, m, r, n) = (case.p, case.m, case.r, case.n);
     let cut = |len: usize| if len <= 1 << 16 { len } else { len % 5 };
     let x = |a: usize, b: usize| cut(a.wrapping_mul(b));
-    let lengths = [x(p, m), 0, x(p, p), x(m, m), x(m, r), x(r, r), x(m, 1), x(p, 1), x(m, 1), x(m, m), x(n, p)];
+    let (next, square) = (n.wrapping_add(1), m.wrapping_mul(m));
+    let (t, ts) = if rng.chance(1, 2) { (x(m, m), 0) } else { (0, x(n, square)) };
+    let lengths = [x(p, m), 0, x(p, p), t, ts, x(m, r), x(r, r), x(m, 1), x(p, 1), x(m, 1), x(m, m), x(n, p)];
     for (k, len) in lengths.into_iter().enumerate() {
         resize(float_input(case, k), len, rng);
     }
     case.flags.resize(x(m, 1), 0);
-    let (next, square) = (n.wrapping_add(1), m.wrapping_mul(m));
     let gain = p.wrapping_mul(m);
     case.lent = [
         x(next, m), x(next, square), x(next, square), x(n, m), x(n, square),
@@ -170,13 +183,27 @@ fn sizes(rng: &mut Rng, case: &mut Case) {
         0 => {}
         1 => fit(case, rng),
         _ => {
-            for k in 0..11 {
+            for k in 0..FLOATS {
                 float_input(case, k).clear();
             }
             case.flags.clear();
-            case.lent = [0; 13];
+            case.lent = [0; OUTPUTS];
         }
     }
+}
+
+/// T: none, two of them, the one that is given as the other, or a list of any length.
+fn transitions(rng: &mut Rng, case: &mut Case) {
+    let one = case.m.min(9) * case.m.min(9);
+    let (t, ts) = match rng.below(5) {
+        0 => (0, 0),
+        1 => (one, one * rng.within(1, 3)),
+        2 => (case.ts.len(), case.t.len()),
+        3 => (0, one * rng.within(1, 24)),
+        _ => (0, rng.within(1, 300)),
+    };
+    resize(&mut case.t, t, rng);
+    resize(&mut case.ts, ts, rng);
 }
 
 /// Lengths that do not fit, by one or by a lot.
@@ -190,17 +217,20 @@ fn lengths(rng: &mut Rng, case: &mut Case) {
             _ => len + rng.within(2, 4096),
         }
     }
+    if rng.chance(1, 4) {
+        return transitions(rng, case);
+    }
     for _ in 0..rng.within(1, 2) {
-        match rng.below(25) {
-            11 => {
+        match rng.below(INPUTS + OUTPUTS) {
+            FLOATS => {
                 let len = other(rng, case.flags.len());
                 case.flags.resize(len, 0);
             }
-            k @ 0..11 => {
+            k @ 0..FLOATS => {
                 let len = other(rng, float_input(case, k).len());
                 resize(float_input(case, k), len, rng);
             }
-            k => case.lent[k - 12] = other(rng, case.lent[k - 12]),
+            k => case.lent[k - INPUTS] = other(rng, case.lent[k - INPUTS]),
         }
     }
 }
@@ -216,11 +246,11 @@ fn claims(rng: &mut Rng, case: &Case, least_n: usize) -> Claims {
     let outputs_alone = rng.chance(1, 2);
     (0..rng.within(1, 3))
         .filter_map(|_| {
-            let part = if outputs_alone { rng.within(12, 24) } else { rng.below(25) };
-            let truth = if part < 12 { lent.inputs[part].1 } else { lent.outputs[part - 12].1 };
+            let part = if outputs_alone { INPUTS + rng.below(OUTPUTS) } else { rng.below(INPUTS + OUTPUTS) };
+            let truth = if part < INPUTS { lent.inputs[part].1 } else { lent.outputs[part - INPUTS].1 };
             // The second: as many bytes as in truth, in 64 bits.
             let claim = if rng.chance(1, 2) { rng.pick(&HUGE) } else { (1 << 61) + truth };
-            (part < 12 || enough(part - 12)).then_some((part, claim))
+            (part < INPUTS || enough(part - INPUTS)).then_some((part, claim))
         })
         .collect()
 }
@@ -228,8 +258,8 @@ fn claims(rng: &mut Rng, case: &Case, least_n: usize) -> Claims {
 /// Random bits in one place, in a part or in all inputs.
 fn random_bits(rng: &mut Rng, case: &mut Case) {
     let mode = rng.below(3);
-    let only = rng.below(12);
-    for k in (0..11).filter(|&k| mode == 2 || k == only) {
+    let only = rng.below(INPUTS);
+    for k in (0..FLOATS).filter(|&k| mode == 2 || k == only) {
         let part = float_input(case, k);
         if mode == 0 && !part.is_empty() {
             let place = rng.below(part.len());
@@ -238,7 +268,7 @@ fn random_bits(rng: &mut Rng, case: &mut Case) {
             part.iter_mut().for_each(|x| *x = bits(rng));
         }
     }
-    if mode == 2 || only == 11 {
+    if mode == 2 || only == FLOATS {
         case.flags.iter_mut().for_each(|f| *f = rng.word() as u8);
     }
 }
@@ -272,7 +302,12 @@ fn random_numbers(rng: &mut Rng) -> Case {
     case.h = diagonal(rng, p, spread);
     case.q = diagonal(rng, r, spread.min(250));
     case.rr = list(rng, m * r, spread.min(250));
-    case.t = list(rng, m * m, spread);
+    if rng.chance(1, 2) {
+        case.t = list(rng, m * m, spread);
+    } else {
+        let matrices = rng.pick(&[n, n, n + 1, n + 2, rng.clone().within(1, n)]);
+        case.ts = list(rng, matrices * m * m, spread);
+    }
     case.c = list(rng, m, spread);
     case.d = list(rng, p, spread);
     case.a1 = list(rng, m, spread);
@@ -284,7 +319,9 @@ fn random_numbers(rng: &mut Rng) -> Case {
             let held = case.flags[a] != 0 || case.flags[b] != 0;
             case.p_star[a * m + b] = if held { 0.0 } else { case.p_star[a.min(b) * m + a.max(b)] };
             if case.flags[a] == 0 && case.flags[b] != 0 {
-                case.t[a * m + b] = 0.0;
+                // Of a list, the first.
+                let t = if case.ts.is_empty() { &mut case.t } else { &mut case.ts };
+                t[a * m + b] = 0.0;
             }
         }
         case.p_star[a * m + a] = case.p_star[a * m + a].abs();

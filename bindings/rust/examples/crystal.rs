@@ -7,7 +7,7 @@
 //!
 //! bindings/c/example.c is the same in C.
 
-use goxundar::{smooth, Design, Model, Moments, Record, Refusal};
+use goxundar::{smooth, Design, Model, Moments, Record, Refusal, Transition};
 
 const GAP: f64 = f64::NAN;
 const OFFSET: usize = 0;
@@ -19,11 +19,11 @@ fn crystal() -> Model {
             1.0, 0.0, 1.0, // input 0: offset + radio error
             1.0, 0.0, 1.0, // input 1: the same
         ]),
-        t: vec![
+        transition: Transition::Constant(vec![
             1.0, 1.0, 0.0, // offset: itself, plus the rate
             0.0, 1.0, 0.0, // rate: itself
             0.0, 0.0, 0.0, // radio error: nothing of the last one stays
-        ],
+        ]),
         // Each state has a disturbance of its own.
         rr: vec![1.0, 0.0, 0.0, 0.0, 1.0, 0.0, 0.0, 0.0, 1.0],
         q: vec![

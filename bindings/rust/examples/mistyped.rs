@@ -4,16 +4,16 @@
 //! then not for half a year. With 98 typed for 0.98 nothing is refused, and up to the gap the offset looks right. In the gap the rate grows 98 times
 //! a day, its variance 98² times, until both overflow. From there on they are infinities and NaNs, and the checks after the gap are no news.
 
-use goxundar::{filter, Design, Model, Refusal};
+use goxundar::{filter, Design, Model, Refusal, Transition};
 
 const GAP: f64 = f64::NAN;
 
 /// Of the rate, `kept` is left a day later.
 fn crystal(kept: f64) -> Model {
     Model {
-        design: Design::Constant(vec![1.0, 0.0]), // a check reads the offset
-        h: vec![25.0],                            // and is off by 5 ms
-        t: vec![1.0, 1.0, 0.0, kept],             // offset: itself, plus the rate. Rate: what is left of it
+        design: Design::Constant(vec![1.0, 0.0]),                    // a check reads the offset
+        h: vec![25.0],                                               // and is off by 5 ms
+        transition: Transition::Constant(vec![1.0, 1.0, 0.0, kept]), // offset: itself, plus the rate. Rate: what is left of it
         rr: vec![1.0, 0.0, 0.0, 1.0],
         q: vec![0.04, 0.0, 0.0, 0.01],
         diffuse: vec![true, true],

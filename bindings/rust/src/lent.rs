@@ -7,7 +7,7 @@ use crate::Refusal;
 
 /// The largest p, m and r.
 pub const MAX_SIZE: usize = 8;
-/// The largest n, and the largest count of listed designs.
+/// The largest n, and the largest count of listed designs or transitions.
 pub const MAX_PERIODS: usize = 4096;
 
 /// What is handed in. [`crate::Model`] says what each part means.
@@ -29,8 +29,10 @@ pub struct Inputs<'a> {
     pub repeats: bool,
     /// p·p: the readings' noise.
     pub h: &'a [f64],
-    /// m·m: the transition.
+    /// m·m: the constant transition, or empty.
     pub t: &'a [f64],
+    /// k·m·m: k transitions, or empty. Exactly one of `t` and `ts` is empty. A list that runs out is [`Refusal::Length`], whatever `repeats` is.
+    pub ts: &'a [f64],
     /// m·r: which disturbance moves which state.
     pub rr: &'a [f64],
     /// r·r: the disturbances' variances.
@@ -189,6 +191,8 @@ pub fn filter(i: &Inputs<'_>, o: &mut Outputs<'_>) -> Result<Answer, Refusal> {
             i.h.len(),
             i.t.as_ptr(),
             i.t.len(),
+            i.ts.as_ptr(),
+            i.ts.len(),
             i.rr.as_ptr(),
             i.rr.len(),
             i.q.as_ptr(),
@@ -257,6 +261,8 @@ pub fn smooth(i: &Inputs<'_>, o: &mut Outputs<'_>, s: &mut SmoothedOutputs<'_>) 
             i.h.len(),
             i.t.as_ptr(),
             i.t.len(),
+            i.ts.as_ptr(),
+            i.ts.len(),
             i.rr.as_ptr(),
             i.rr.len(),
             i.q.as_ptr(),
@@ -310,9 +316,9 @@ pub fn smooth(i: &Inputs<'_>, o: &mut Outputs<'_>, s: &mut SmoothedOutputs<'_>) 
     outcome(number, a)
 }
 
-/// The filter, over the next n periods of a run. `i.y` has the readings of these alone. The rest is the run's, the same in every stretch: a list `zs`
-/// counts from the run's first period, `repeats` is not saved, and the start is checked each time and used at [`Origin::Start`]. The answer is since
-/// the run began, and its periods count from the run's first.
+/// The filter, over the next n periods of a run. `i.y` has the readings of these alone. The rest is the run's, the same in every stretch: the lists
+/// `zs` and `ts` count from the run's first period, `repeats` is not saved, and the start is checked each time and used at [`Origin::Start`]. The
+/// answer is since the run began, and its periods count from the run's first.
 pub fn stretch(i: &Inputs<'_>, from: Origin<'_>, o: &mut Outputs<'_>, then: Ending<'_>) -> Result<Answer, Refusal> {
     let mut a = Places::default();
     let (begins, saved): (u8, &[u8]) = match from {
@@ -339,6 +345,8 @@ pub fn stretch(i: &Inputs<'_>, from: Origin<'_>, o: &mut Outputs<'_>, then: Endi
             i.h.len(),
             i.t.as_ptr(),
             i.t.len(),
+            i.ts.as_ptr(),
+            i.ts.len(),
             i.rr.as_ptr(),
             i.rr.len(),
             i.q.as_ptr(),

@@ -7,12 +7,12 @@
 //! Every call ends with an answer or a [`Refusal`], whatever is passed. No caller checks first.
 //!
 //! ```
-//! use goxundar::{smooth, Design, Model, Record};
+//! use goxundar::{smooth, Design, Model, Record, Transition};
 //!
 //! // A level that wanders with variance 2 a period, read on two inputs without noise. At the start nothing is known of it.
 //! let level = Model {
 //!     design: Design::Constant(vec![1.0, 1.0]),
-//!     t: vec![1.0],
+//!     transition: Transition::Constant(vec![1.0]),
 //!     rr: vec![1.0],
 //!     q: vec![2.0],
 //!     diffuse: vec![true],
@@ -33,13 +33,13 @@
 //! refused for them. So accuracy tables can be drawn up before there is any reading, and before it is known where the states will start:
 //!
 //! ```
-//! use goxundar::{smooth, Design, Model};
+//! use goxundar::{smooth, Design, Model, Transition};
 //!
 //! let (gap, to_come) = (f64::NAN, 0.0);
 //! let plan = Model {
 //!     design: Design::Constant(vec![1.0]),
 //!     h: vec![1.0],
-//!     t: vec![1.0],
+//!     transition: Transition::Constant(vec![1.0]),
 //!     rr: vec![1.0],
 //!     q: vec![0.5],
 //!     p_star: vec![4.0],
@@ -76,7 +76,7 @@ mod refusal;
 mod run;
 mod saved;
 
-pub use model::{Design, Model};
+pub use model::{Design, Model, Transition};
 pub use refusal::Refusal;
 pub use run::{filter, smooth, Moments, Predicted, Record, Run, Smoothed};
 pub use saved::{begin, Saved};

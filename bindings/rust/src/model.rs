@@ -7,9 +7,10 @@ use crate::lent::{Inputs, MAX_SIZE};
 /// A list that runs out before the periods do is taken for a mistake. If it is short on purpose, say so:
 ///
 /// ```
-/// use goxundar::{filter, Design, Model, Refusal};
+/// use goxundar::{filter, Design, Model, Refusal, Transition};
 /// // A level that is read in metres in the first period, and in centimetres from then on.
-/// let level = |design| Model { design, h: vec![1.0], t: vec![1.0], diffuse: vec![true], ..Model::zeros(1, 1, 1) };
+/// let transition = Transition::Constant(vec![1.0]);
+/// let level = |design| Model { design, transition: transition.clone(), h: vec![1.0], diffuse: vec![true], ..Model::zeros(1, 1, 1) };
 /// let readings = [2.0, 201.0, 199.0];
 ///
 /// // Two designs for three periods are refused.
@@ -33,6 +34,40 @@ pub enum Design {
     Repeated(Vec<f64>),
 }
 
+/// T, how the states move from one period to the next. Matrices are row by row.
+///
+/// ```
+/// use goxundar::{smooth, Design, Model, Refusal, Transition};
+/// // A level that doubles in the first step, and then stays: the cabinet was heated.
+/// let level = |transition| Model {
+///     design: Design::Constant(vec![1.0]),
+///     h: vec![6.0],
+///     transition,
+///     rr: vec![1.0],
+///     q: vec![2.0],
+///     diffuse: vec![true],
+///     ..Model::zeros(1, 1, 1)
+/// };
+/// let heated = smooth(&level(Transition::Listed(vec![2.0, 1.0])), 2, &[2.0, 36.0])?;
+/// assert_eq!(heated.run().predicted(1).mean, [4.0]); // 2, doubled
+/// assert_eq!(heated.smoothed(0).mean, [14.0]); // back by the same 2
+/// assert_eq!(heated.smoothed(1).mean, [30.0]);
+///
+/// // The last period has one too: it leads to the forecast. Fewer transitions than periods are refused.
+/// assert_eq!(heated.run().predicted(2).mean, [30.0]);
+/// assert_eq!(smooth(&level(Transition::Listed(vec![2.0])), 2, &[2.0, 36.0]).unwrap_err(), Refusal::Length);
+/// # Ok::<(), Refusal>(())
+/// ```
+#[derive(Debug, Clone, PartialEq)]
+pub enum Transition {
+    /// m·m: the same in all periods.
+    Constant(Vec<f64>),
+    /// k·m·m: k matrices one after the other, 1 to 4096 of them. The t-th leads from period t to the next; the smoother's step back from t to t − 1
+    /// takes the one of t − 1, which led into t. There may be more of them than periods; fewer are [`Refusal::Length`](crate::Refusal::Length), and
+    /// none is repeated. In a run in stretches they count from the run's first period.
+    Listed(Vec<f64>),
+}
+
 /// A model of p elements, m states and r disturbances, each 1 to 8:
 ///
 /// - reading = d + Z·state + noise, where the noise of element i has variance H(i, i);
@@ -41,12 +76,12 @@ pub enum Design {
 /// Matrices are row by row: entry (i, j) of one with k columns is at i·k + j. Nothing is checked here: what does not fit, the call refuses.
 ///
 /// ```
-/// use goxundar::{Design, Model};
+/// use goxundar::{Design, Model, Transition};
 /// // A level that wanders, read with noise. Nothing is known of it at the start.
 /// let level = Model {
 ///     design: Design::Constant(vec![1.0]),
 ///     h: vec![1.0],
-///     t: vec![1.0],
+///     transition: Transition::Constant(vec![1.0]),
 ///     rr: vec![1.0],
 ///     q: vec![2.0],
 ///     diffuse: vec![true],
@@ -66,8 +101,8 @@ pub struct Model {
     pub design: Design,
     /// p·p: H, the readings' noise. Diagonal; an entry of 0 is a reading without noise.
     pub h: Vec<f64>,
-    /// m·m: T, how the states move.
-    pub t: Vec<f64>,
+    /// T.
+    pub transition: Transition,
     /// m·r: R, which disturbance moves which state.
     pub rr: Vec<f64>,
     /// r·r: Q, the disturbances' variances. Diagonal.
@@ -85,7 +120,7 @@ pub struct Model {
 }
 
 impl Model {
-    /// Every part 0 and as long as the sizes ask for, a constant design, no state diffuse. To fill in the rest from.
+    /// Every part 0 and as long as the sizes ask for, a constant design and transition, no state diffuse. To fill in the rest from.
     ///
     /// Where a size is out of its range all parts are empty: the call refuses the size anyway.
     pub fn zeros(p: usize, m: usize, r: usize) -> Model {
@@ -97,7 +132,7 @@ impl Model {
             r,
             design: Design::Constant(zeros(p, m)),
             h: zeros(p, p),
-            t: zeros(m, m),
+            transition: Transition::Constant(zeros(m, m)),
             rr: zeros(m, r),
             q: zeros(r, r),
             c: zeros(m, 1),
@@ -120,6 +155,10 @@ impl Model {
             Design::Listed(zs) => (&[], zs, false),
             Design::Repeated(zs) => (&[], zs, true),
         };
+        let (t, ts): (&[f64], &[f64]) = match &self.transition {
+            Transition::Constant(t) => (t, &[]),
+            Transition::Listed(ts) => (&[], ts),
+        };
         Inputs {
             p: self.p,
             m: self.m,
@@ -129,7 +168,8 @@ impl Model {
             zs,
             repeats,
             h: &self.h,
-            t: &self.t,
+            t,
+            ts,
             rr: &self.rr,
             q: &self.q,
             c: &self.c,

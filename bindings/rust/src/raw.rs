@@ -12,7 +12,7 @@
 
 extern "C" {
     /// The filter.
-    #[link_name = "goxundar_filter_3"]
+    #[link_name = "goxundar_filter_4"]
     pub fn goxundar_filter(
         p: usize,
         m: usize,
@@ -27,6 +27,8 @@ extern "C" {
         h_len: usize,
         t: *const f64,
         t_len: usize,
+        ts: *const f64,
+        ts_len: usize,
         rr: *const f64,
         rr_len: usize,
         q: *const f64,
@@ -74,7 +76,7 @@ extern "C" {
     ) -> u32;
 
     /// The filter, and then the smoother.
-    #[link_name = "goxundar_smooth_3"]
+    #[link_name = "goxundar_smooth_4"]
     pub fn goxundar_smooth(
         p: usize,
         m: usize,
@@ -89,6 +91,8 @@ extern "C" {
         h_len: usize,
         t: *const f64,
         t_len: usize,
+        ts: *const f64,
+        ts_len: usize,
         rr: *const f64,
         rr_len: usize,
         q: *const f64,
@@ -140,7 +144,7 @@ extern "C" {
     ) -> u32;
 
     /// Some periods of a run, from its start or from what was saved.
-    #[link_name = "goxundar_stretch_3"]
+    #[link_name = "goxundar_stretch_4"]
     pub fn goxundar_stretch(
         p: usize,
         m: usize,
@@ -155,6 +159,8 @@ extern "C" {
         h_len: usize,
         t: *const f64,
         t_len: usize,
+        ts: *const f64,
+        ts_len: usize,
         rr: *const f64,
         rr_len: usize,
         q: *const f64,

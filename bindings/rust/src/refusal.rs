@@ -3,8 +3,8 @@
 use std::error::Error;
 use std::fmt;
 
-/// Why a call was refused: the first that applies, in this order, but that 14 is judged right after 2, and in a run in stretches 15 and then 14 right
-/// before 12. The numbers are the library's.
+/// Why a call was refused: the first that applies, in this order, but that 14 is judged right after 2. In a run in stretches 15 comes right before
+/// 12, and between the two how far the lists reach: 2 for the transitions, then 14 for the designs. The numbers are the library's.
 ///
 /// ```
 /// use goxundar::Refusal;
@@ -18,9 +18,11 @@ use std::fmt;
 pub enum Refusal {
     /// p, m or r is not 1 to 8, or n not 1 to 4096 (in a stretch of a run 0 to 4096).
     Dimension = 1,
-    /// An input has not its exact length, an output is too short, or not exactly one of the constant design and the list of designs is given.
+    /// An input has not its exact length, an output is too short, or not exactly one of the constant design and the list of designs is given; or so
+    /// of the transitions. Or a [`Transition::Listed`](crate::Transition::Listed) has fewer matrices than there are periods; in a stretch, than the
+    /// periods done and n come to.
     Length = 2,
-    /// Z (each listed one, used or not), H, T, R or Q has a NaN or an infinity.
+    /// Z or T (each listed one, used or not), H, R or Q has a NaN or an infinity.
     NonFiniteSystem = 3,
     /// A diagonal entry of H or Q is below 0.
     NotPsd = 4,
@@ -35,7 +37,7 @@ pub enum Refusal {
     NonDiagonalH = 8,
     /// A reading is infinite. A NaN is a gap, and fine.
     InfiniteReading = 9,
-    /// T leads from a flagged state into an unflagged one.
+    /// T leads from a flagged state into an unflagged one. Of a list it is the first that counts.
     MixedDriven = 10,
     /// R·Q·R', symmetrised, has an entry that is not finite.
     NonFiniteNoise = 11,
@@ -84,7 +86,7 @@ impl fmt::Display for Refusal {
     fn fmt(&self, f: &mut fmt::Formatter<'_>) -> fmt::Result {
         f.write_str(match self {
             Refusal::Dimension => "p, m or r is not 1 to 8, or n not 1 to 4096",
-            Refusal::Length => "a part has not the length that the sizes ask for, or there is no design",
+            Refusal::Length => "a part has not the length that the sizes ask for, there is no design, or not a transition for every period",
             Refusal::NonFiniteSystem => "Z, H, T, R or Q has a NaN or an infinity",
             Refusal::NotPsd => "a diagonal entry of H or Q is below 0",
             Refusal::QNotDiagonal => "an off-diagonal entry of Q is not 0",

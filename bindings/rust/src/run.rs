@@ -165,12 +165,12 @@ impl Run {
     /// Nothing is refused for an overflow. It is carried on, as infinities and NaNs, and a mistyped model would be seen late: look here.
     ///
     /// ```
-    /// use goxundar::{filter, Design, Model, Refusal};
+    /// use goxundar::{filter, Design, Model, Refusal, Transition};
     /// // A rate that keeps 0.98 of itself from one period to the next; and no reading for a long time.
     /// let rate = |keeps| Model {
     ///     design: Design::Constant(vec![1.0]),
     ///     h: vec![1.0],
-    ///     t: vec![keeps],
+    ///     transition: Transition::Constant(vec![keeps]),
     ///     a1: vec![1.0],
     ///     p_star: vec![1.0],
     ///     ..Model::zeros(1, 1, 1)
@@ -264,11 +264,11 @@ impl Smoothed {
 /// Runs the filter over n periods. `readings` has n·p places: element i of period t is at t·p + i, and a NaN is a gap.
 ///
 /// ```
-/// use goxundar::{filter, Design, Model, Record, Refusal};
+/// use goxundar::{filter, Design, Model, Record, Refusal, Transition};
 /// let level = Model {
 ///     design: Design::Constant(vec![1.0]),
 ///     h: vec![1.0],
-///     t: vec![1.0],
+///     transition: Transition::Constant(vec![1.0]),
 ///     rr: vec![1.0],
 ///     q: vec![2.0],
 ///     diffuse: vec![true],
@@ -294,11 +294,11 @@ pub fn filter(model: &Model, n: usize, readings: &[f64]) -> Result<Run, Refusal>
 /// Runs the filter over n periods, and then the smoother back. `readings` is as in [`filter`].
 ///
 /// ```
-/// use goxundar::{smooth, Design, Model, Refusal};
+/// use goxundar::{smooth, Design, Model, Refusal, Transition};
 /// let level = Model {
 ///     design: Design::Constant(vec![1.0]),
 ///     h: vec![1.0],
-///     t: vec![1.0],
+///     transition: Transition::Constant(vec![1.0]),
 ///     rr: vec![1.0],
 ///     q: vec![2.0],
 ///     diffuse: vec![true],

@@ -10,11 +10,11 @@ use crate::{Model, Refusal, Run};
 /// bit: every period's views and, from the last stretch, the answer.
 ///
 /// ```
-/// use goxundar::{begin, filter, Design, Model, Refusal, Saved};
+/// use goxundar::{begin, filter, Design, Model, Refusal, Saved, Transition};
 /// let level = Model {
 ///     design: Design::Constant(vec![1.0]),
 ///     h: vec![1.0],
-///     t: vec![1.0],
+///     transition: Transition::Constant(vec![1.0]),
 ///     rr: vec![1.0],
 ///     q: vec![2.0],
 ///     diffuse: vec![true],
@@ -42,8 +42,9 @@ use crate::{Model, Refusal, Run};
 /// ```
 ///
 /// The bytes hold the run, and of the model its sizes p, m and r alone. Hand every stretch the same model; nothing can tell if you do. The start is
-/// checked each time, and used by [`begin`]. A list of designs is handed over whole: they count from the run's first period, and whether the last is
-/// [repeated](crate::Design::Repeated) is not in the bytes. docs/SAVED.md has the bytes one by one, and how to keep them safe.
+/// checked each time, and used by [`begin`]. A list, of designs or of transitions, is handed over whole: it counts from the run's first period, and
+/// whether the last design is [repeated](crate::Design::Repeated) is not in the bytes. docs/SAVED.md has the bytes one by one, and how to keep them
+/// safe.
 #[derive(Debug, Clone, PartialEq, Eq)]
 pub struct Saved {
     bytes: Vec<u8>,

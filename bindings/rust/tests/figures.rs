@@ -2,28 +2,34 @@
 
 mod level;
 
-use goxundar::{filter, smooth, Design, Model, Record, Refusal, Run};
+use goxundar::{filter, smooth, Design, Model, Record, Refusal, Run, Transition};
 use level::level as plain;
 
 const GAP: f64 = f64::NAN;
 
 /// p = 2, both designs 1, H zero.
 fn two_inputs() -> Model {
-    Model { design: Design::Constant(vec![1.0, 1.0]), t: vec![1.0], rr: vec![1.0], q: vec![2.0], diffuse: vec![true], ..Model::zeros(2, 1, 1) }
+    Model {
+        design: Design::Constant(vec![1.0, 1.0]),
+        transition: Transition::Constant(vec![1.0]),
+        rr: vec![1.0],
+        q: vec![2.0],
+        diffuse: vec![true],
+        ..Model::zeros(2, 1, 1)
+    }
 }
 
 /// m states, T the identity.
 fn sized(m: usize) -> Model {
-    let mut model = Model::zeros(1, m, 1);
-    model.design = Design::Constant(vec![1.0; m]);
-    model.h = vec![1.0];
-    for i in 0..m {
-        model.t[i * m + i] = 1.0;
+    Model {
+        design: Design::Constant(vec![1.0; m]),
+        h: vec![1.0],
+        transition: Transition::Constant((0..m * m).map(|k| if k % (m + 1) == 0 { 1.0 } else { 0.0 }).collect()),
+        rr: vec![1.0; m],
+        q: vec![2.0],
+        diffuse: vec![true; m],
+        ..Model::zeros(1, m, 1)
     }
-    model.rr = vec![1.0; m];
-    model.q = vec![2.0];
-    model.diffuse = vec![true; m];
-    model
 }
 
 /// The filter's run. The smoother's, which must be the same, is compared on the way.
@@ -122,7 +128,7 @@ fn e_a_gap_first() {
 
 /// H = 2, y = [NaN, 2], and T.
 fn washing(t: f64) -> Run {
-    run(&Model { h: vec![2.0], t: vec![t], ..plain() }, &[GAP, 2.0])
+    run(&Model { h: vec![2.0], transition: Transition::Constant(vec![t]), ..plain() }, &[GAP, 2.0])
 }
 
 #[test]

@@ -1,35 +1,21 @@
 //! Lists of designs. One that runs out is refused, unless it is said to repeat its last: then it gives what the list gives in which that is written
 //! out.
 
+mod clock;
 mod level;
 mod same;
 
-use goxundar::{begin, filter, raw, smooth, Design, Model, Refusal, Run, Saved, Smoothed};
+use clock::{designs, readings, same_calls, N};
+use goxundar::{begin, filter, raw, smooth, Design, Model, Refusal, Saved};
 use level::level;
-use same::{all_bits, answer, is_part};
+use same::{answer, is_part};
 use std::ptr::null;
 
 const GAP: f64 = f64::NAN;
 
-/// Document 02's periods.
-const N: usize = 14;
-
-/// An offset and its rate, on two inputs. So a design has four numbers.
+/// The clock, with these designs.
 fn clock(design: Design) -> Model {
-    Model {
-        design,
-        h: vec![1.0, 0.0, 0.0, 4.0],
-        t: vec![1.0, 1.0, 0.0, 1.0],
-        rr: vec![0.0, 1.0],
-        q: vec![0.25],
-        diffuse: vec![true; 2],
-        ..Model::zeros(2, 2, 1)
-    }
-}
-
-/// That many designs, up to sixteen: no two are the same.
-fn designs(count: usize) -> Vec<f64> {
-    (0..4 * count).map(|i| (i * i % 67) as f64 - 20.0).collect()
+    Model { design, ..clock::clock() }
 }
 
 /// The last design, written out for each period that has none.
@@ -38,32 +24,6 @@ fn written_out(mut designs: Vec<f64>) -> Vec<f64> {
         designs.extend_from_within(designs.len() - 4..);
     }
     designs
-}
-
-fn readings() -> Vec<f64> {
-    (0..2 * N).map(|i| if i % 5 == 3 { GAP } else { (i * i % 29) as f64 }).collect()
-}
-
-fn same_run(got: &Run, want: &Run) {
-    assert_eq!((got.periods(), answer(got)), (want.periods(), answer(want)));
-    is_part(got, want, 0);
-}
-
-fn same_smoothed(got: &Smoothed, want: &Smoothed) {
-    same_run(got.run(), want.run());
-    for (got, want) in (0..N).map(|t| (got.smoothed(t), want.smoothed(t))) {
-        assert_eq!((all_bits(got.mean), all_bits(got.cov)), (all_bits(want.mean), all_bits(want.cov)));
-    }
-}
-
-/// Three calls give the same, of either model, bit for bit: the filter, the smoother, and the filter as a stretch, with its bytes.
-fn same_calls(got: &Model, want: &Model) {
-    let y = &readings();
-    same_run(&filter(got, N, y).unwrap(), &filter(want, N, y).unwrap());
-    same_smoothed(&smooth(got, N, y).unwrap(), &smooth(want, N, y).unwrap());
-    let (stretches, saved): (Vec<Run>, Vec<Saved>) = [got, want].map(|model| begin(model, N, y).unwrap()).into_iter().unzip();
-    same_run(&stretches[0], &stretches[1]);
-    assert_eq!(saved[0], saved[1]);
 }
 
 #[test]
@@ -117,7 +77,8 @@ fn as_c_calls(repeats: u8) -> (u32, f64, [usize; 5]) {
     // Safety: each part has as many numbers as its length says, and none overlaps another.
     let number = unsafe {
         raw::goxundar_filter(
-            1, 1, 1, 2, null(), 0, one, 1, repeats, one, 1, one, 1, one, 1, two, 1, zero, 1, zero, 1, zero, 1, zero, 1, flag, 1, y.as_ptr(), 2,
+            1, 1, 1, 2, null(), 0, one, 1, repeats, one, 1, one, 1, null(), 0, one, 1, two, 1, zero, 1, zero, 1, zero, 1, zero, 1, flag, 1,
+            y.as_ptr(), 2,
             pm, 3, pc, 3, pi, 3, fm, 2, fc, 2, kinds.as_mut_ptr(), 2, v, 2, fs, 2, fi, 2, ms, 2, mi, 2,
             &mut loglik, d_diffuse, heard, news, cov_off, mean_off,
         )

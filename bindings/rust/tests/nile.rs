@@ -5,7 +5,7 @@
 //!
 //! The tolerance allows for the outside program's own arithmetic. Our bits are fixed.
 
-use goxundar::{smooth, Design, Model, Record};
+use goxundar::{smooth, Design, Model, Record, Transition};
 
 fn flows() -> Vec<f64> {
     let text = include_str!("../../../data/nile.txt");
@@ -24,7 +24,7 @@ fn local_level() {
     let level = Model {
         design: Design::Constant(vec![1.0]),
         h: vec![15099.0],
-        t: vec![1.0],
+        transition: Transition::Constant(vec![1.0]),
         rr: vec![1.0],
         q: vec![1469.1],
         diffuse: vec![true],

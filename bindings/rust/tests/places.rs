@@ -4,7 +4,7 @@
 //! a gap. Of input 1: v = (27 − 20) − 3, M* = P*·z = (0, 4), F* = 4 + 4. So the gain is (0, 0.5), and P* loses 0.5·4 at (1, 1). Then the step:
 //! T·a + c, and T·P·T' + R·Q·R'. Over one period the smoothed moments are the filtered ones.
 
-use goxundar::{filter, smooth, Design, Model, Record, Run};
+use goxundar::{filter, smooth, Design, Model, Record, Run, Transition};
 
 fn model() -> Model {
     Model {
@@ -13,7 +13,7 @@ fn model() -> Model {
         r: 1,
         design: Design::Constant(vec![1.0, 2.0, 0.0, 1.0]),
         h: vec![1.0, 0.0, 0.0, 4.0],
-        t: vec![1.0, 1.0, 0.0, 1.0],
+        transition: Transition::Constant(vec![1.0, 1.0, 0.0, 1.0]),
         rr: vec![0.0, 1.0],
         q: vec![2.0],
         c: vec![100.0, 1000.0],
@@ -53,7 +53,8 @@ fn every_part() {
 fn a_diffuse_record() {
     let mut level = Model { q: vec![2.0], diffuse: vec![true], ..Model::zeros(1, 1, 1) };
     level.design = Design::Constant(vec![1.0]);
-    (level.h, level.t, level.rr) = (vec![1.0], vec![1.0], vec![1.0]);
+    level.transition = Transition::Constant(vec![1.0]);
+    (level.h, level.rr) = (vec![1.0], vec![1.0]);
     let run = filter(&level, 1, &[2.0]).unwrap();
     assert_eq!(run.record(0, 0), Record::Diffuse { v: 2.0, f_star: 1.0, f_inf: 1.0, m_star: &[0.0], m_inf: &[1.0] });
 }

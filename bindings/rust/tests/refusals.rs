@@ -3,7 +3,7 @@
 mod level;
 
 use goxundar::lent::{self, Inputs, Lengths, Outputs, SmoothedOutputs};
-use goxundar::{filter, smooth, Design, Model, Refusal};
+use goxundar::{filter, smooth, Design, Model, Refusal, Transition};
 use level::level as plain;
 
 /// The refusal's number, 0 for none, of both calls.
@@ -13,13 +13,13 @@ fn number(model: &Model, n: usize, readings: &[f64]) -> u32 {
     number
 }
 
-/// One call breaks every rule. They are mended one by one, in the table's order, so the refusals come in that order too.
-#[test]
-fn in_order() {
+/// One call breaks every rule. They are mended one by one, in the table's order, so the refusals come in that order too. `transition` makes one of a
+/// matrix.
+fn in_order(transition: impl Fn([f64; 4]) -> Transition) {
     let mut model = Model::zeros(2, 2, 2);
     let mut designs = vec![0.0, 0.0, 0.0, f64::NAN];
     model.design = Design::Listed(designs.clone());
-    model.t = vec![1.0, 0.0, 1.0, f64::NAN];
+    model.transition = transition([1.0, 0.0, 1.0, f64::NAN]);
     model.h = vec![0.0, 0.0, 1.0, -1.0];
     model.q = vec![0.0, 1.0, 0.0, 1.0];
     model.d = vec![0.0, f64::INFINITY];
@@ -37,7 +37,7 @@ fn in_order() {
     designs[3] = 0.0;
     model.design = Design::Repeated(designs.clone());
     assert_eq!(number(&model, 2, &readings), 3);
-    model.t[3] = 1.0;
+    model.transition = transition([1.0, 0.0, 1.0, 1.0]);
     assert_eq!(number(&model, 2, &readings), 4);
     model.h[3] = 0.0;
     assert_eq!(number(&model, 2, &readings), 5);
@@ -51,13 +51,24 @@ fn in_order() {
     assert_eq!(number(&model, 2, &readings), 9);
     readings[1] = 0.0;
     assert_eq!(number(&model, 2, &readings), 10);
-    model.t[2] = 0.0;
+    model.transition = transition([1.0, 0.0, 0.0, 1.0]);
     assert_eq!(number(&model, 2, &readings), 11);
     model.rr[3] = 1.0;
     assert_eq!(number(&model, 2, &readings), 12);
     designs[0] = 1.0;
     model.design = Design::Repeated(designs);
     assert_eq!(number(&model, 2, &readings), 0);
+}
+
+#[test]
+fn in_order_with_a_constant_transition() {
+    in_order(|t| Transition::Constant(t.to_vec()));
+}
+
+/// A list of equal matrices is refused as the constant one is.
+#[test]
+fn in_order_with_a_list_of_transitions() {
+    in_order(|t| Transition::Listed(t.repeat(2)));
 }
 
 #[test]
@@ -79,7 +90,7 @@ fn parts_too_long_or_too_short() {
     for wrong in [vec![], vec![0.0; 2], vec![0.0; 65]] {
         assert_eq!(number(&Model { design: Design::Constant(wrong.clone()), ..plain() }, 1, &[2.0]), 2);
         assert_eq!(number(&Model { h: wrong.clone(), ..plain() }, 1, &[2.0]), 2);
-        assert_eq!(number(&Model { t: wrong.clone(), ..plain() }, 1, &[2.0]), 2);
+        assert_eq!(number(&Model { transition: Transition::Constant(wrong.clone()), ..plain() }, 1, &[2.0]), 2);
         assert_eq!(number(&Model { rr: wrong.clone(), ..plain() }, 1, &[2.0]), 2);
         assert_eq!(number(&Model { q: wrong.clone(), ..plain() }, 1, &[2.0]), 2);
         assert_eq!(number(&Model { c: wrong.clone(), ..plain() }, 1, &[2.0]), 2);
@@ -101,11 +112,28 @@ fn listed_designs() {
         assert_eq!(number(&listed(4096), 1, &[2.0]), 0);
         assert_eq!(number(&listed(4097), 1, &[2.0]), 2);
         // Two inputs need pairs.
-        let pairs = |k: usize| Model { design: list(vec![1.0; k]), t: vec![1.0], diffuse: vec![true], ..Model::zeros(2, 1, 1) };
+        let pairs = |k: usize| Model { design: list(vec![1.0; k]), diffuse: vec![true], ..Model::zeros(2, 1, 1) };
         assert_eq!(number(&pairs(3), 1, &[2.0, 2.0]), 2);
         assert_eq!(number(&pairs(3), 2, &[2.0; 4]), 2);
         assert_eq!(number(&pairs(4), 2, &[2.0; 4]), 0);
     }
+}
+
+/// A list of 1 to 4096 transitions, of a length that is a multiple of m·m. tests/transitions.rs has those that run out.
+#[test]
+fn listed_transitions() {
+    let listed = |k: usize| Model { transition: Transition::Listed(vec![1.0; k]), ..plain() };
+    assert_eq!(number(&listed(0), 1, &[2.0]), 2);
+    assert_eq!(number(&listed(1), 1, &[2.0]), 0);
+    assert_eq!(number(&listed(4096), 1, &[2.0]), 0);
+    assert_eq!(number(&listed(4097), 1, &[2.0]), 2);
+    // Two states need four numbers.
+    let fours = |k: usize| Model { transition: Transition::Listed(vec![1.0; k]), diffuse: vec![true; 2], ..Model::zeros(1, 2, 1) };
+    for k in 0..12 {
+        let want = if k == 8 { 0 } else { 2 };
+        assert_eq!(number(&fours(k), 2, &[f64::NAN; 2]), want, "{k} numbers");
+    }
+    assert_eq!(number(&fours(12), 2, &[f64::NAN; 2]), 0);
 }
 
 /// The outputs of a smoother's call of one state and one period, each with a place more than needed, all 7.
@@ -142,6 +170,12 @@ fn what_is_written() {
     let mut lent = Lent::new();
     assert_eq!(lent.smooth(&one_period(&[1.0], &[2], &[2.0])), Err(Refusal::StartShape));
     assert_eq!((lent.pred, lent.rest, lent.kinds), ([[7.0; 3]; 3], [[7.0; 2]; 9], [7; 2]));
+
+    // Nor does 2, of transitions that are not given, are given twice, or run out.
+    for (n, t, ts) in [(1, &[][..], &[][..]), (1, &[1.0], &[1.0]), (2, &[], &[1.0])] {
+        assert_eq!(lent.smooth(&Inputs { n, t, ts, ..one_period(&[1.0], &[1], &[2.0, 6.0][..n]) }), Err(Refusal::Length));
+        assert_eq!((lent.pred, lent.rest, lent.kinds), ([[7.0; 3]; 3], [[7.0; 2]; 9], [7; 2]));
+    }
 
     // Nor does 14. What is lent has room for a second period: figures B and C, where the list repeats its design.
     let two_periods = Inputs { n: 2, z: &[], zs: &[1.0], ..one_period(&[1.0], &[1], &[2.0, 6.0]) };

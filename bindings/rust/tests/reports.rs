@@ -1,7 +1,7 @@
 //! Numbers that ran off: the two reports of every call, what they leave out, and how they are carried. Every expected value follows from a rule of
 //! document 01 or 02, as a comment says. `(cov_off, mean_off)` throughout; C's are these plus 1.
 
-use goxundar::{begin, filter, smooth, Design, Model, Record, Refusal, Run, Saved};
+use goxundar::{begin, filter, smooth, Design, Model, Record, Refusal, Run, Saved, Transition};
 
 const GAP: f64 = f64::NAN;
 
@@ -44,7 +44,14 @@ fn reports(model: &Model, readings: &[f64]) -> Off {
 
 /// A known level that grows, with no noise: without readings its mean is T^t in period t, its covariance T^2t.
 fn growing(growth: f64) -> Model {
-    Model { design: Design::Constant(vec![1.0]), h: vec![1.0], t: vec![growth], a1: vec![1.0], p_star: vec![1.0], ..Model::zeros(1, 1, 1) }
+    Model {
+        design: Design::Constant(vec![1.0]),
+        h: vec![1.0],
+        transition: Transition::Constant(vec![growth]),
+        a1: vec![1.0],
+        p_star: vec![1.0],
+        ..Model::zeros(1, 1, 1)
+    }
 }
 
 /// The covariance is 2^1024 in period 2, the mean in period 4. What is predicted after the last period is left out.
@@ -80,7 +87,7 @@ fn a_filtered_covariance() {
     let far = 2f64.powi(1000);
     let two = Model {
         design: Design::Constant(vec![2f64.powi(40), 2f64.powi(-40)]),
-        t: vec![1.0, 0.0, 0.0, 1.0],
+        transition: Transition::Constant(vec![1.0, 0.0, 0.0, 1.0]),
         p_star: vec![0.0, far, far, 0.0],
         ..Model::zeros(1, 2, 1)
     };
@@ -100,7 +107,13 @@ fn a_filtered_mean_by_the_reading() {
 /// Without noise input 0 tells all, and input 1 nothing: what it reads has no part in the report.
 #[test]
 fn not_by_a_reading_that_is_no_news() {
-    let twice = Model { design: Design::Constant(vec![1.0, 1.0]), t: vec![1.0], a1: vec![LARGE], p_star: vec![1.0], ..Model::zeros(2, 1, 1) };
+    let twice = Model {
+        design: Design::Constant(vec![1.0, 1.0]),
+        transition: Transition::Constant(vec![1.0]),
+        a1: vec![LARGE],
+        p_star: vec![1.0],
+        ..Model::zeros(2, 1, 1)
+    };
     for any in [-LARGE, 0.0, LARGE] {
         assert_eq!(reports(&twice, &[LARGE, any]), NONE);
         assert_eq!(reports(&twice, &[-LARGE, any]), (None, Some(0)));
@@ -113,7 +126,12 @@ fn not_by_a_reading_that_is_no_news() {
 #[test]
 fn a_nan_that_ends_the_diffuse_start() {
     let x = 2f64.powi(600);
-    let two = Model { design: Design::Constant(vec![1.0, 0.0]), t: vec![x, -x, x, x], diffuse: vec![true; 2], ..Model::zeros(1, 2, 1) };
+    let two = Model {
+        design: Design::Constant(vec![1.0, 0.0]),
+        transition: Transition::Constant(vec![x, -x, x, x]),
+        diffuse: vec![true; 2],
+        ..Model::zeros(1, 2, 1)
+    };
     assert_eq!(reports(&two, &[GAP; 2]), NONE);
     let run = filter(&two, 2, &[GAP; 2]).unwrap();
     assert_eq!((run.d_diffuse(), run.predicted(1).diffuse_cov), (1, &[0.0; 4][..]));
@@ -138,7 +156,7 @@ fn an_infinite_scale() {
     let twice = Model {
         design: Design::Constant(vec![1.0, 2f64.powi(40)]),
         h: vec![far, 0.0, 0.0, 0.0],
-        t: vec![1.0],
+        transition: Transition::Constant(vec![1.0]),
         p_star: vec![far],
         ..Model::zeros(2, 1, 1)
     };

@@ -4,7 +4,7 @@ mod level;
 mod same;
 
 use goxundar::lent::{self, Ending, Inputs, Lengths, Origin, Outputs};
-use goxundar::{begin, filter, Design, Model, Refusal, Saved};
+use goxundar::{begin, filter, Design, Model, Refusal, Saved, Transition};
 use level::level;
 use same::{answer, is_part};
 
@@ -16,7 +16,7 @@ fn crystal() -> Model {
     let twice = [2.0, 0.0, 1.0, 2.0, 0.0, 1.0];
     Model {
         design: Design::Repeated([once, once, twice].concat()),
-        t: vec![1.0, 1.0, 0.0, 0.0, 1.0, 0.0, 0.0, 0.0, 0.0],
+        transition: Transition::Constant(vec![1.0, 1.0, 0.0, 0.0, 1.0, 0.0, 0.0, 0.0, 0.0]),
         rr: vec![1.0, 0.0, 0.0, 0.0, 1.0, 0.0, 0.0, 0.0, 1.0],
         q: vec![0.04, 0.0, 0.0, 0.0, 0.01, 0.0, 0.0, 0.0, 25.0],
         diffuse: vec![true, true, false],
@@ -30,7 +30,13 @@ const CHECKS: [f64; 16] = [GAP, GAP, 212.0, GAP, GAP, GAP, 236.5, 236.5, GAP, 25
 /// An overflowing one: after some periods there are infinities, and then NaNs.
 fn runaway() -> Model {
     let zeros = Model::zeros(1, 2, 1);
-    Model { design: Design::Constant(vec![1.0, 0.0]), h: vec![1.0], t: vec![1e50, -1e50, 0.0, 1e50], p_star: vec![1.0, 0.0, 0.0, 1.0], ..zeros }
+    Model {
+        design: Design::Constant(vec![1.0, 0.0]),
+        h: vec![1.0],
+        transition: Transition::Constant(vec![1e50, -1e50, 0.0, 1e50]),
+        p_star: vec![1.0, 0.0, 0.0, 1.0],
+        ..zeros
+    }
 }
 
 // ---- cut anywhere
@@ -95,7 +101,7 @@ fn infinities_and_nans_are_carried() {
 /// Document 01's figure F, cut after its first period: its place 1 holds 2^-18, which the next stretch tests, and finds to be 0.
 #[test]
 fn the_last_place_is_not_tested() {
-    let f = Model { h: vec![2.0], t: vec![2f64.powi(-9)], ..level() };
+    let f = Model { h: vec![2.0], transition: Transition::Constant(vec![2f64.powi(-9)]), ..level() };
     let (first, saved) = begin(&f, 1, &[GAP]).unwrap();
     assert_eq!(first.predicted(1).diffuse_cov, [2f64.powi(-18)]);
     let rest = saved.finish(&f, 1, &[2.0]).unwrap();
@@ -142,7 +148,7 @@ fn the_page_has_the_places() {
     let rows: Vec<Vec<&str>> = PAGE.lines().map(|line| line.split('|').map(str::trim).collect()).collect();
     let places = |row: &[&str], k: usize, m: usize| (worked_out(row[4], m), row[5 + k].parse::<usize>().unwrap());
     for (k, m) in [1usize, 2, 3, 8].into_iter().enumerate() {
-        let (_, saved) = begin(&Model { t: vec![0.0; m * m], ..Model::zeros(1, m, 1) }, 0, &[]).unwrap();
+        let (_, saved) = begin(&Model { transition: Transition::Constant(vec![0.0; m * m]), ..Model::zeros(1, m, 1) }, 0, &[]).unwrap();
         let mut end = 0;
         for section in 1..=8 {
             let row = rows.iter().find(|row| row.len() == 10 && row[1] == section.to_string()).unwrap();
@@ -346,6 +352,12 @@ fn what_is_written() {
         assert_eq!(lent.stretch(&reading(&[6.0]), Origin::Saved(wrong), Ending::Save(&mut again)), Err(Refusal::BadSaved));
         assert_eq!((lent, again), (UNTOUCHED, [7; 163]));
     }
+
+    // Nor does 2, where the second period has no transition.
+    let short = Inputs { t: &[], ts: &[1.0], ..reading(&[6.0]) };
+    let (mut lent, mut again) = (UNTOUCHED, [7; 163]);
+    assert_eq!(lent.stretch(&short, Origin::Saved(&save[..160]), Ending::Save(&mut again)), Err(Refusal::Length));
+    assert_eq!((lent, again), (UNTOUCHED, [7; 163]));
 
     // Nor does 14: the second period has no design. Where the first is repeated, it is figure B's again.
     let listed = Inputs { z: &[], zs: &[1.0], ..reading(&[6.0]) };

@@ -7,7 +7,8 @@ ghost use Rattle.backward.specs.View.{ReadyBack, Back};
 pub fn back<'a>(
     z: &'a [f64],
     zs: &'a [f64],
-    t: &[f64],
+    t: &'a [f64],
+    ts: &'a [f64],
     pred_mean: &[f64],
     pred_cov: &[f64],
     pred_inf: &[f64],
@@ -24,18 +25,21 @@ pub fn back<'a>(
     m: usize,
     n: usize,
 )
-    requires { ⌜ ReadyBack p m n (length (now z)) (length (now zs)) (length (now t)) (length (now «pred_mean»)) (length (now «pred_cov»)) (length (now «pred_inf»)) (length (now v))
-        (flatIn (now kinds) (now «f_star») (now «f_inf») (now «m_star») (now «m_inf»)) (length (now «sm_mean»)) (length (now «sm_cov»)) ⌝ }
-    ensures { λ _. ⌜ Back p m n «d_diffuse» (now (z .entry)) (now (zs .entry)) (now (t .entry))
+    requires { ⌜ ReadyBack p m n (length (now z)) (length (now zs)) (length (now t)) (length (now ts))
+        (length (now «pred_mean»)) (length (now «pred_cov»)) (length (now «pred_inf»)) (length (now v))
+        (flatIn (now kinds) (now «f_star») (now «f_inf») (now «m_star») (now «m_inf»))
+        (length (now «sm_mean»)) (length (now «sm_cov»)) ⌝ }
+    ensures { λ _. ⌜ Back p m n «d_diffuse» (now (z .entry)) (now (zs .entry)) (now (t .entry)) (now (ts .entry))
         (now («pred_mean» .entry)) (now («pred_cov» .entry)) (now («pred_inf» .entry)) (now (v .entry))
-        (flatIn (now (kinds .entry)) (now («f_star» .entry)) (now («f_inf» .entry)) (now («m_star» .entry)) (now («m_inf» .entry)))
+        (flatIn (now (kinds .entry)) (now («f_star» .entry)) (now («f_inf» .entry))
+        (now («m_star» .entry)) (now («m_inf» .entry)))
         (now («sm_mean» .entry)) (now («sm_mean» .exit)) (now («sm_cov» .entry)) (now («sm_cov» .exit)) ⌝ }
 {
-    let listed = model::listed(zs, p, m);
     cov_back::cov_back(
         z,
         zs,
         t,
+        ts,
         pred_cov,
         pred_inf,
         kinds,
@@ -48,12 +52,12 @@ pub fn back<'a>(
         p,
         m,
         n,
-        listed,
     );
     mean_back::mean_back(
         z,
         zs,
         t,
+        ts,
         pred_mean,
         pred_cov,
         pred_inf,
@@ -68,6 +72,5 @@ pub fn back<'a>(
         p,
         m,
         n,
-        listed,
     );
 }

@@ -4,7 +4,7 @@ ghost use Rattle.promise.specs.Lent.{given, lent};
 ghost use Rattle.promise.specs.Exported.{isYes, places, FilteredC};
 
 #[no_mangle]
-pub extern "C" fn goxundar_filter_3<'a>(
+pub extern "C" fn goxundar_filter_4<'a>(
     p: usize,
     m: usize,
     r: usize,
@@ -13,7 +13,8 @@ pub extern "C" fn goxundar_filter_3<'a>(
     zs: &'a [f64],
     repeats: u8,
     h: &[f64],
-    t: &[f64],
+    t: &'a [f64],
+    ts: &'a [f64],
     rr: &[f64],
     q: &[f64],
     c: &[f64],
@@ -42,7 +43,7 @@ pub extern "C" fn goxundar_filter_3<'a>(
 ) -> u32
     ensures { λ k. ⌜ FilteredC
         (given p m r n
-        (now (z .entry)) (now (zs .entry)) (isYes repeats) (now (h .entry)) (now (t .entry)) (now (rr .entry)) (now (q .entry))
+        (now (z .entry)) (now (zs .entry)) (isYes repeats) (now (h .entry)) (now (t .entry)) (now (ts .entry)) (now (rr .entry)) (now (q .entry))
         (now (c .entry)) (now (d .entry)) (now (a1 .entry)) (now («p_star» .entry)) (now (flags .entry)) (now (y .entry)))
         (lent
         (now («pred_mean» .entry)) (now («pred_cov» .entry)) (now («pred_inf» .entry))
@@ -70,6 +71,7 @@ pub extern "C" fn goxundar_filter_3<'a>(
         repeats != 0,
         h,
         t,
+        ts,
         rr,
         q,
         c,

@@ -5,7 +5,7 @@ ghost use Rattle.promise.specs.Exported.{isYes, places, SmoothedC};
 
 // The filter's call with two outputs more.
 #[no_mangle]
-pub extern "C" fn goxundar_smooth_3<'a>(
+pub extern "C" fn goxundar_smooth_4<'a>(
     p: usize,
     m: usize,
     r: usize,
@@ -14,7 +14,8 @@ pub extern "C" fn goxundar_smooth_3<'a>(
     zs: &'a [f64],
     repeats: u8,
     h: &[f64],
-    t: &[f64],
+    t: &'a [f64],
+    ts: &'a [f64],
     rr: &[f64],
     q: &[f64],
     c: &[f64],
@@ -45,7 +46,7 @@ pub extern "C" fn goxundar_smooth_3<'a>(
 ) -> u32
     ensures { λ k. ⌜ SmoothedC
         (given p m r n
-        (now (z .entry)) (now (zs .entry)) (isYes repeats) (now (h .entry)) (now (t .entry)) (now (rr .entry)) (now (q .entry))
+        (now (z .entry)) (now (zs .entry)) (isYes repeats) (now (h .entry)) (now (t .entry)) (now (ts .entry)) (now (rr .entry)) (now (q .entry))
         (now (c .entry)) (now (d .entry)) (now (a1 .entry)) (now («p_star» .entry)) (now (flags .entry)) (now (y .entry)))
         (lentSmooth
         (now («pred_mean» .entry)) (now («pred_cov» .entry)) (now («pred_inf» .entry))
@@ -75,6 +76,7 @@ pub extern "C" fn goxundar_smooth_3<'a>(
         repeats != 0,
         h,
         t,
+        ts,
         rr,
         q,
         c,

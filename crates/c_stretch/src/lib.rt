@@ -5,7 +5,7 @@ ghost use Rattle.promise.specs.Lent.{given, lent, givenStretch, lentStretch};
 ghost use Rattle.promise.specs.Exported.{isYes, places, StretchedC};
 
 #[no_mangle]
-pub extern "C" fn goxundar_stretch_3<'a>(
+pub extern "C" fn goxundar_stretch_4<'a>(
     p: usize,
     m: usize,
     r: usize,
@@ -14,7 +14,8 @@ pub extern "C" fn goxundar_stretch_3<'a>(
     zs: &'a [f64],
     repeats: u8,
     h: &[f64],
-    t: &[f64],
+    t: &'a [f64],
+    ts: &'a [f64],
     rr: &[f64],
     q: &[f64],
     c: &[f64],
@@ -48,7 +49,7 @@ pub extern "C" fn goxundar_stretch_3<'a>(
     ensures { λ k. ⌜ StretchedC
         (givenStretch
         (given p m r n
-        (now (z .entry)) (now (zs .entry)) (isYes repeats) (now (h .entry)) (now (t .entry)) (now (rr .entry)) (now (q .entry))
+        (now (z .entry)) (now (zs .entry)) (isYes repeats) (now (h .entry)) (now (t .entry)) (now (ts .entry)) (now (rr .entry)) (now (q .entry))
         (now (c .entry)) (now (d .entry)) (now (a1 .entry)) (now («p_star» .entry)) (now (flags .entry)) (now (y .entry)))
         (isYes begins) (now (saved .entry)) (isYes last))
         (lentStretch
@@ -81,6 +82,7 @@ pub extern "C" fn goxundar_stretch_3<'a>(
         repeats != 0,
         h,
         t,
+        ts,
         rr,
         q,
         c,

@@ -1,17 +1,18 @@
--- The three demands and requests d and k, of the filter's call. `Called x o y w w′ r b b′`: with the inputs x, o and y and the parts lent as w and w′
+-- The three demands and requests d, g and k, of the filter's call. `Called x o y w w′ r b b′`: with the inputs x, o and y and the parts lent as w and w′
 -- it came back with r, and left b and b′ in them. That every call does so is the contract of filter::filter_univariate, which asks nothing.
 use mathlib.Core.Path.{_≡_, refl, sym, _∙_, subst}
 use mathlib.Core.Logic.{_↔_}
-use Prim.Native.Nat.{ℕ, _<_}
+use Prim.Native.Nat.{ℕ, _*_, _≤_, _<_}
 use mathlib.Core.Bool.{Bool}
-use mathlib.Core.List.{List}
-use lib.ListN.{set}
+use mathlib.Core.List.{List, []}
+use lib.ListN.{length, set}
 use lib.Dec.{T}
 use lib.Ieee.{Float, nan}
 use Rattle.definition.specs.Num.{isFinite}
 use Rattle.definition.specs.Inputs.{Model, Offsets}
 use Rattle.definition.specs.Outcome.{CovParts, MeanParts, outcome}
 use Rattle.definition.specs.Tracks.{by-classes}
+use Rattle.laws.specs.Entries.{copies}
 use Rattle.demands.specs.Conditions.{Room, table, First}
 use Rattle.demands.specs.Refusals as refusals
 use Rattle.demands.specs.Totals.{totals}
@@ -20,6 +21,8 @@ use Rattle.demands.specs.Values as demand
 use Rattle.demands.specs.Offsets as offset
 use Rattle.demands.specs.Marked.{marking}
 use Rattle.demands.specs.Marked as mark
+use Rattle.demands.specs.Copies.{withT}
+use Rattle.demands.specs.Copies as copied
 use Rattle.promise.specs.declared.Outcome.{Outcome}
 use Rattle.promise.specs.Calls.{Promise}
 use Rattle.calls.specs.Seen as seen
@@ -75,3 +78,12 @@ module _ (x : Model) (o : Offsets) (y : List Float) (w : CovParts) (w′ : MeanP
 
     pub gap : {s : Outcome} {c : CovParts} {c′ : MeanParts} → Called x o (set y k nan) w w′ s c c′ → seen.OneLess r s × seen.SameParts b c b′ c′
     gap other = let u = demand.no-news x o y w w′ k (seen.no-news call h) in seen.one-less call other h (u .gapCov) (u .gapMean)
+
+-- request g: T given once, and as a list of copies of it: n of them, or more. Both calls come back with the same, and leave the same
+module _ (x : Model) (t : List Float) (whole : length t ≡ x .m * x .m) (o : Offsets) (y : List Float) (w : CovParts) (w′ : MeanParts) {r s : Outcome} {b c : CovParts} {b′ c′ : MeanParts}
+    (once : Called (withT t [] x) o y w w′ r b b′) where
+  pub equal-matrices : Called (withT [] (copies (x .n) t) x) o y w w′ s c c′ → seen.Same r s b c b′ c′
+  equal-matrices listed = seen.same once listed (sym (copied.equal-matrices x t whole o y w w′))
+
+  pub as-constant : (k : ℕ) → x .n ≤ k → k ≤ 4096 → Called (withT [] (copies k t) x) o y w w′ s c c′ → seen.Same r s b c b′ c′
+  as-constant k reach few listed = seen.same once listed (sym (copied.as-constant x t whole o y w w′ k reach few))

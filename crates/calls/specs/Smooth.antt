@@ -1,17 +1,18 @@
--- The three demands and requests d and k, of the smoother's call: the filter's eleven parts and the two smoothed ones. `Called` is as in Filter, with
+-- The three demands and requests d, g and k, of the smoother's call: the filter's eleven parts and the two smoothed ones. `Called` is as in Filter, with
 -- the smoothed parts lent as sm and sc and left as sm′ and sc′. That every call does so is the contract of smoother::smooth_univariate.
 use mathlib.Core.Path.{_≡_, refl, sym, ap, _∙_, subst}
 use mathlib.Core.Logic.{_↔_}
-use Prim.Native.Nat.{ℕ, _<_}
+use Prim.Native.Nat.{ℕ, _*_, _≤_, _<_}
 use mathlib.Core.Bool.{Bool}
-use mathlib.Core.List.{List}
-use lib.ListN.{set}
+use mathlib.Core.List.{List, []}
+use lib.ListN.{length, set}
 use lib.Dec.{T}
 use lib.Ieee.{Float, nan}
 use Rattle.definition.specs.Num.{0ᶠ, isFinite}
 use Rattle.definition.specs.Inputs.{Model, Offsets}
 use Rattle.definition.specs.Outcome.{CovParts, MeanParts, SmoothedCov, SmoothedMean, CovOutcome, MeanOutcome, smoothedCovNeed, smoothedMeanNeed, smoothOutcome}
 use Rattle.definition.specs.Tracks.{smooth-by-classes}
+use Rattle.laws.specs.Entries.{copies}
 use Rattle.demands.specs.Conditions.{RoomSmooth, table, First}
 use Rattle.demands.specs.Refusals as refusals
 use Rattle.demands.specs.Refusals.{Blanked}
@@ -21,6 +22,8 @@ use Rattle.demands.specs.Values as demand
 use Rattle.demands.specs.Offsets as offset
 use Rattle.demands.specs.Marked.{marking}
 use Rattle.demands.specs.Marked as mark
+use Rattle.demands.specs.Copies.{withT}
+use Rattle.demands.specs.Copies as copied
 use Rattle.promise.specs.declared.Outcome.{Outcome}
 use Rattle.promise.specs.Calls.{PromiseSmooth}
 use Rattle.calls.specs.Seen as seen
@@ -103,3 +106,12 @@ module _ (x : Model) (o : Offsets) (y : List Float) (w : CovParts) (w′ : MeanP
         let u = demand.no-news-smooth x o y w w′ sm sc k (seen.no-news (call .filter) h) in
         let l = seen.one-less (call .filter) (other .filter) h (u .gapCov) (ap (λ (z : SmoothedMean). z .filter) (u .gapMean)) in
         (l .0, l .1, call .mean ∙ ap (λ (z : SmoothedMean). z .smoothed) (sym (u .gapMean)) ∙ sym (other .mean), call .cov ∙ sym (u .gapSmoothed) ∙ sym (other .cov))
+
+-- request g
+module _ (x : Model) (t : List Float) (whole : length t ≡ x .m * x .m) (o : Offsets) (y : List Float) (w : CovParts) (w′ : MeanParts) (sm sc : List Float) {r s : Outcome} {b c : CovParts} {b′ c′ : MeanParts} {sm′ sm″ sc′ sc″ : List Float}
+    (once : Called (withT t [] x) o y w w′ sm sc r b b′ sm′ sc′) where
+  pub equal-matrices : Called (withT [] (copies (x .n) t) x) o y w w′ sm sc s c c′ sm″ sc″ → Same r s b c b′ c′ sm′ sm″ sc′ sc″
+  equal-matrices listed = same once listed (sym (copied.equal-matrices-smooth x t whole o y w w′ sm sc))
+
+  pub as-constant : (k : ℕ) → x .n ≤ k → k ≤ 4096 → Called (withT [] (copies k t) x) o y w w′ sm sc s c c′ sm″ sc″ → Same r s b c b′ c′ sm′ sm″ sc′ sc″
+  as-constant k reach few listed = same once listed (sym (copied.as-constant-smooth x t whole o y w w′ sm sc k reach few))

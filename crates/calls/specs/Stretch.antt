@@ -1,9 +1,9 @@
--- The three demands and requests d and k, of a stretch's call, and that a run in stretches is the run. `Called` is as in Filter, with where the
+-- The three demands and requests d, g and k, of a stretch's call, and that a run in stretches is the run. `Called` is as in Filter, with where the
 -- stretch goes on from (w), whether it is the last, and the part to save in, lent as save and left as save′. That every call does so is the contract
 -- of stretch::stretch. `Ready` asks that numbers are doubles and saved numbers bytes, as those of a caller always are.
 use mathlib.Core.Path.{_≡_, refl, sym, ap, ap₂, _∙_, subst}
 use mathlib.Core.Logic.{_⊎_, _↔_}
-use Prim.Native.Nat.{ℕ, _+_, _*_, _<_}
+use Prim.Native.Nat.{ℕ, _+_, _*_, _≤_, _<_}
 use mathlib.Core.Bool.{Bool, true, false}
 use mathlib.Core.List.{List, [], _∷_, _++_, map}
 use lib.ListN.{length, getD, set, take, drop}
@@ -20,10 +20,11 @@ use Rattle.definition.specs.Stretch.{From, StretchOutcome, pastIn, meanToldIn, 
 use Rattle.laws.specs.All.{AllOf, all-map}
 use Rattle.laws.specs.Bytes.{Byte}
 use Rattle.laws.specs.Cut.{lasting}
+use Rattle.laws.specs.Entries.{copies}
 use Rattle.laws.specs.Written.{covUnit, meanUnit}
 use Rattle.laws.specs.AcceptedStretch.{Ready, resume}
 use Rattle.laws.specs.AcceptedStretch as accepted
-use Rattle.demands.specs.Conditions.{ListShort, First}
+use Rattle.demands.specs.Conditions.{SomeShort, First}
 use Rattle.demands.specs.Values.{Alike}
 use Rattle.demands.specs.Reports as report
 use Rattle.demands.specs.WholeStretch.{start}
@@ -41,6 +42,8 @@ use Rattle.demands.specs.StretchUnheard as unheard
 use Rattle.demands.specs.Offsets as offset
 use Rattle.demands.specs.Marked.{marking}
 use Rattle.demands.specs.Marked as mark
+use Rattle.demands.specs.Copies.{withT}
+use Rattle.demands.specs.Copies as copied
 use Rattle.promise.specs.declared.Outcome.{Outcome}
 use Rattle.promise.specs.Calls.{PromiseStretch}
 use Rattle.calls.specs.Seen as seen
@@ -166,10 +169,19 @@ module _ (x : Model) (o : Offsets) (w : From) (last : Bool) (y : List Float) (v 
           subst (λ (l : List ℕ). SavedLess (x .m) (take (savedNeed (x .m)) l) (take (savedNeed (x .m)) save″)) (sym (call .save))
           (subst (λ (l : List ℕ). SavedLess (x .m) (take (savedNeed (x .m)) (stretchOutcome x o w last y v v′ save .save)) (take (savedNeed (x .m)) l)) (sym (other .save)) known)
 
--- ---- a stretch alone: where it begins, is the last, has a period and its list is not short, it is the filter's call. (Of a short list both are
+-- ---- request g: T given once, and as a list of copies of it, as long as the periods done and the stretch's or longer. Both calls come back with the
+-- same, and leave the same
+
+pub as-constant : (x : Model) (t : List Float) → length t ≡ x .m * x .m → (o : Offsets) (w : From) (last : Bool) (y : List Float) (v : CovParts) (v′ : MeanParts) (save : List ℕ) (k : ℕ)
+    → 0 < k → pastIn x w .done + x .n ≤ k → k ≤ 4096
+    → {r s : Outcome} {b c : CovParts} {b′ c′ : MeanParts} {save′ save″ : List ℕ}
+    → Called (withT t [] x) o w last y v v′ save r b b′ save′ → Called (withT [] (copies k t) x) o w last y v v′ save s c c′ save″ → Same r s b c b′ c′ save′ save″
+as-constant x t whole o w last y v v′ save k some reach few once listed = same once listed (sym (copied.as-constant-stretch x t whole o y v v′ w last save k some reach few))
+
+-- ---- a stretch alone: where it begins, is the last, has a period and none of its lists is short, it is the filter's call. (Of a short list both are
 -- turned away, but the filter's call looks at that before 3 to 11, a stretch after 15)
 
-pub whole : (x : Model) (o : Offsets) (y : List Float) (v : CovParts) (v′ : MeanParts) (save : List ℕ) → 0 < x .n → (ListShort x (x .n) → ⊥)
+pub whole : (x : Model) (o : Offsets) (y : List Float) (v : CovParts) (v′ : MeanParts) (save : List ℕ) → 0 < x .n → (SomeShort x (x .n) → ⊥)
     → {r s : Outcome} {b c : CovParts} {b′ c′ : MeanParts} {save′ : List ℕ}
     → Called x o start true y v v′ save r b b′ save′ → filter.Called x o y v v′ s c c′ → seen.Same r s b c b′ c′ × (save′ ≡ save)
 whole x o y v v′ save some reaches call other =

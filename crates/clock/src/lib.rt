@@ -7,7 +7,11 @@ use sheet::answers::Settings;
 use sheet::answers::Spread;
 use sheet::answers::Start;
 ghost use mathlib.Core.Path.{_≡_};
-ghost use Rattle.clock.specs.Transition.{doubleOf, keptOf, transitionOf};
+ghost use mathlib.Core.Bool.{cond};
+ghost use Prim.Native.Nat.{_/_, _%_, _<_};
+ghost use lib.ListN.{length};
+ghost use Rattle.definition.specs.Num.{at};
+ghost use Rattle.clock.specs.Transition.{doubleOf, keptOf, keepingOf, transitionOf, inSeason, Seasons};
 
 // What a ppb has of the rate's unit.
 const PER_PPB: f64 = 1000.0;
@@ -84,13 +88,53 @@ fn kept(thousandths: u64) -> f64
     double(thousandths) / WHOLE
 }
 
-// The offset grows by the rate; of the rate some is kept; of the radio's error nothing stays.
+// The offset grows by the rate; of the rate so much is kept; of the radio's error nothing stays.
+fn keeping(s: Settings, thousandths: u64) -> [f64; 9]
+    ensures { λ r. ⌜ r ≡ keepingOf s thousandths ⌝ }
+{
+    let step = double(s.period) / SECONDS;
+    let kept = kept(thousandths);
+    [1.0, step, 0.0, 0.0, kept, 0.0, 0.0, 0.0, 0.0]
+}
+
 pub fn transition(s: Settings) -> [f64; 9]
     ensures { λ r. ⌜ r ≡ transitionOf s ⌝ }
 {
-    let step = double(s.period) / SECONDS;
-    let kept = kept(s.rate_keeps);
-    [1.0, step, 0.0, 0.0, kept, 0.0, 0.0, 0.0, 0.0]
+    keeping(s, s.rate_keeps)
+}
+
+// Whether the season has begun in period k, from 0.
+fn in_season(season: u64, k: usize) -> bool
+    requires { ⌜ k < 4096 ⌝ }
+    ensures { λ r. ⌜ r ≡ inSeason season k ⌝ }
+{
+    if season == 0 {
+        return false;
+    }
+    season <= k as u64 + 1
+}
+
+// Number i of the list, by the T of the periods before the season and the T of its own.
+fn number(season: u64, before: &[f64], own: &[f64], i: usize) -> f64
+    requires { ⌜ (i < 36864) × (9 ≡ length (now before)) × (9 ≡ length (now own)) ⌝ }
+    ensures { λ r. ⌜ r ≡ cond (inSeason season (i / 9)) (at (now (own .entry)) (i % 9)) (at (now (before .entry)) (i % 9)) ⌝ }
+{
+    if in_season(season, i / 9) {
+        return own[i % 9];
+    }
+    before[i % 9]
+}
+
+// T of each of the 4096 periods that a run may have, one after the other.
+pub fn transitions(s: Settings, list: &mut [f64])
+    requires { ⌜ 36864 ≡ length (now list) ⌝ }
+    ensures { λ _. ⌜ Seasons s (now (list .exit)) ⌝ }
+{
+    let before = transition(s);
+    let own = keeping(s, s.season_keeps);
+    for i in 0..36864 {
+        list[i] = number(s.season, &before, &own, i);
+    }
 }
 
 pub fn disturbances(s: Settings) -> [f64; 9] {
@@ -134,4 +178,19 @@ pub fn first<'a>(s: &'a [f64], k: usize) -> &'a [f64] {
     }
     let none = 0;
     &s[none..k]
+}
+
+// What the library is handed of the one T, and of the list: it takes the one or the other, and wants the other one empty.
+pub fn once<'a>(s: Settings, t: &'a [f64]) -> &'a [f64] {
+    if s.season == 0 {
+        return t;
+    }
+    first(t, 0)
+}
+
+pub fn listed<'a>(s: Settings, list: &'a [f64]) -> &'a [f64] {
+    if s.season == 0 {
+        return first(list, 0);
+    }
+    list
 }

@@ -10,7 +10,7 @@ use lib.Ieee.{Float}
 use borrow.Rule.Slice.PartMut.{midOf}
 use Rattle.definition.specs.Run.{scan, count, join}
 use Rattle.definition.specs.Cov.{System, Cov, CovPeriod, periodOf, period, covRun}
-use Rattle.definition.specs.Inputs.{classOf, isGap, gapRows, systemFrom, designFrom}
+use Rattle.definition.specs.Inputs.{classOf, isGap, gapRows, systemFrom, partFrom, transitionFrom}
 use Rattle.definition.specs.Parts.{predCov, predInf, filtCov, fStar, fInf, mStar, mInf, covBlock, kindBlock}
 use Rattle.definition.specs.Outcome.{covWritten, kindsWritten}
 use Rattle.laws.specs.Lists.{length-chunks}
@@ -52,9 +52,9 @@ one-more false d d′ i e h = omega arith
 abbrev long-at : {X : Type 0} → ℕ → ℕ → List X → ℕ
 long-at i k o = length (midOf (i * k) (i * k + k - i * k) o)
 
-module _ (p m : ℕ) (z zs h t r : List Float) (c : Cov) (y : List Float) (n : ℕ) where
+module _ (p m : ℕ) (z zs h t ts r : List Float) (c : Cov) (y : List Float) (n : ℕ) where
   abbrev Y : System
-  Y = systemFrom p m z zs h t r
+  Y = systemFrom p m z zs h t ts r
 
   abbrev gs : List (List Bool)
   gs = gapRows n p (map classOf y)
@@ -127,31 +127,31 @@ module _ (p m : ℕ) (z zs h t r : List Float) (c : Cov) (y : List Float) (n : �
               };
         }
 
-  module _ {i d d′ : ℕ} {s s′ : Cov} {l : Bool} {zi : List Float} {pc₀ pc pi₀ pi fc₀ fc : List Float} {k₀ k : List ℕ} {fs₀ fs fi₀ fi ms₀ ms mi₀ mi : List Float} (pcb pib fcb : List Float) (kb : List ℕ) (fsb fib msb mib : List Float) where
+  module _ {i d d′ : ℕ} {s s′ : Cov} {l : Bool} {zi ti : List Float} {pc₀ pc pi₀ pi fc₀ fc : List Float} {k₀ k : List ℕ} {fs₀ fs fi₀ fi ms₀ ms mi₀ mi : List Float} (pcb pib fcb : List Float) (kb : List ℕ) (fsb fib msb mib : List Float) where
     -- period i leaves its blocks, each in its own part
     pub going-next : Going i s d pc₀ pc pi₀ pi fc₀ fc k₀ k fs₀ fs fi₀ fi ms₀ ms mi₀ mi → i < n → Room p m n (length pc₀) (length pi₀) (length fc₀) (length k₀) (length fs₀) (length fi₀) (length ms₀) (length mi₀)
         → Blocks p m (length pcb) (length pib) (length fcb) (length kb) (length fsb) (length fib) (length msb) (length mib)
-        → zi ≡ designFrom p m z zs i → Held m (periodOf p m h t r zi s (own-gaps i)) l s′ pcb pib fcb kb fsb fib msb mib → d′ ≡ d + cond l 1 0
+        → zi ≡ partFrom (p * m) z zs i → ti ≡ transitionFrom m t ts i → Held m (periodOf p m h ti r zi s (own-gaps i)) l s′ pcb pib fcb kb fsb fib msb mib → d′ ≡ d + cond l 1 0
         → Going (i + 1) s′ d′ pc₀ (over i (m * m) pc pcb) pi₀ (over i (m * m) pi pib) fc₀ (over i (m * m) fc fcb) k₀ (over i p k kb) fs₀ (over i p fs fsb) fi₀ (over i p fi fib) ms₀ (over i (p * m) ms msb) mi₀ (over i (p * m) mi mib)
     unfolding systemFrom
-    going-next g h′ room long ez w ed =
-        let a : i < length gs = rw rows h′ in
+    going-next g h′ room long ez et w ed =
+        let low : i < length gs = rw rows h′ in
         let here = period Y i (past i .1) (getD gs i []) in
-        let now : periodOf p m h t r zi s (own-gaps i) ≡ here = ap (λ (v : List Float). periodOf p m h t r v s (own-gaps i)) ez ∙ ap₂ (λ (w : Cov) (v : List Bool). period Y i w v) (g .state) (row-at i h′) in
+        let now : periodOf p m h ti r zi s (own-gaps i) ≡ here = ap₂ (λ (u v : List Float). periodOf p m h u r v s (own-gaps i)) et ez ∙ ap₂ (λ (w : Cov) (v : List Bool). period Y i w v) (g .state) (row-at i h′) in
         let held = subst (λ (q : CovPeriod × Cov). Held m q l s′ pcb pib fcb kb fsb fib msb mib) now w in
         record {
           low = omega arith;
-          state = state-next (period Y) gs c i [] (past i .1) s′ a refl (held .state);
-          diffuse = count-next (period Y) gs c (λ (q : CovPeriod). cond (q .diffuse) 1 0) (count (λ (q : CovPeriod). q .diffuse)) diffuse-more i [] d d′ a (g .diffuse) (ed ∙ ap (λ (b : Bool). d + cond b 1 0) (held .diffuse));
+          state = state-next (period Y) gs c i [] (past i .1) s′ low refl (held .state);
+          diffuse = count-next (period Y) gs c (λ (q : CovPeriod). cond (q .diffuse) 1 0) (count (λ (q : CovPeriod). q .diffuse)) diffuse-more i [] d d′ low (g .diffuse) (ed ∙ ap (λ (b : Bool). d + cond b 1 0) (held .diffuse));
           few = one-more l d d′ i ed (g .few);
-          pred = wrote (covBlock m predCov) (m * m) pc₀ pc pcb a h′ (room .pred) (g .pred) (long .pred) (held .pred);
-          pred-inf = wrote (covBlock m predInf) (m * m) pi₀ pi pib a h′ (room .pred-inf) (g .pred-inf) (long .pred-inf) (held .pred-inf);
-          filt = wrote (covBlock m filtCov) (m * m) fc₀ fc fcb a h′ (room .filt) (g .filt) (long .filt) (held .filt);
-          kinds = wrote kindBlock p k₀ k kb a h′ (room .kinds) (g .kinds) (long .records .kinds) (held .kinds);
-          stars = wrote (covBlock m fStar) p fs₀ fs fsb a h′ (room .stars) (g .stars) (long .records .stars) (held .stars);
-          infs = wrote (covBlock m fInf) p fi₀ fi fib a h′ (room .infs) (g .infs) (long .records .infs) (held .infs);
-          m-stars = wrote (covBlock m mStar) (p * m) ms₀ ms msb a h′ (room .m-stars) (g .m-stars) (long .records .m-stars) (held .m-stars);
-          m-infs = wrote (covBlock m mInf) (p * m) mi₀ mi mib a h′ (room .m-infs) (g .m-infs) (long .records .m-infs) (held .m-infs);
+          pred = wrote (covBlock m predCov) (m * m) pc₀ pc pcb low h′ (room .pred) (g .pred) (long .pred) (held .pred);
+          pred-inf = wrote (covBlock m predInf) (m * m) pi₀ pi pib low h′ (room .pred-inf) (g .pred-inf) (long .pred-inf) (held .pred-inf);
+          filt = wrote (covBlock m filtCov) (m * m) fc₀ fc fcb low h′ (room .filt) (g .filt) (long .filt) (held .filt);
+          kinds = wrote kindBlock p k₀ k kb low h′ (room .kinds) (g .kinds) (long .records .kinds) (held .kinds);
+          stars = wrote (covBlock m fStar) p fs₀ fs fsb low h′ (room .stars) (g .stars) (long .records .stars) (held .stars);
+          infs = wrote (covBlock m fInf) p fi₀ fi fib low h′ (room .infs) (g .infs) (long .records .infs) (held .infs);
+          m-stars = wrote (covBlock m mStar) (p * m) ms₀ ms msb low h′ (room .m-stars) (g .m-stars) (long .records .m-stars) (held .m-stars);
+          m-infs = wrote (covBlock m mInf) (p * m) mi₀ mi mib low h′ (room .m-infs) (g .m-infs) (long .records .m-infs) (held .m-infs);
         }
       where
         wrote : {X : Type 0} (f : CovPeriod → List X) (k : ℕ) (old o b : List X) → i < length gs → i < n → n * k ≤ length old → passes.Wrote (period Y) f k gs c old o i → length b ≡ k → b ≡ f (period Y i (past i .1) (getD gs i []) .0)
@@ -199,13 +199,13 @@ module _ (p m n : ℕ) {r : List CovPeriod × Cov} {e : Ended} {p* p∞ b u s s�
       }
 
 -- the pass: the inputs as they were lent
-module _ (p m n : ℕ) (z zs : List Float) (gs : List (List Bool)) (h h′ t t′ r : List Float) (c c′ : Cov) where
-  same-run : h′ ≡ h → t′ ≡ t → c′ ≡ c → covRun (systemFrom p m z zs h′ t′ r) 0 c′ gs ≡ covRun (systemFrom p m z zs h t r) 0 c gs
-  same-run a b e = cc
+module _ (p m n : ℕ) (z zs : List Float) (gs : List (List Bool)) (h h′ t ts r : List Float) (c c′ : Cov) where
+  same-run : h′ ≡ h → c′ ≡ c → covRun (systemFrom p m z zs h′ t ts r) 0 c′ gs ≡ covRun (systemFrom p m z zs h t ts r) 0 c gs
+  same-run a e = cc
 
   module _ {o : Ended} {p* p∞ w u s s′ : List Float} {pc₀ pc pi₀ pi fc₀ fc : List Float} {k₀ k : List ℕ} {fs₀ fs fi₀ fi ms₀ ms mi₀ mi : List Float} (pcb pib : List Float) where
-    pub finished : h′ ≡ h → t′ ≡ t → c′ ≡ c → LoopedTo p m n (covRun (systemFrom p m z zs h′ t′ r) 0 c′ gs) p* p∞ w u o pc₀ pc pi₀ pi fc₀ fc k₀ k fs₀ fs fi₀ fi ms₀ ms mi₀ mi
+    pub finished : h′ ≡ h → c′ ≡ c → LoopedTo p m n (covRun (systemFrom p m z zs h′ t ts r) 0 c′ gs) p* p∞ w u o pc₀ pc pi₀ pi fc₀ fc k₀ k fs₀ fs fi₀ fi ms₀ ms mi₀ mi
         → {a b : ℕ} → a ≡ m * m → Saved a p* pcb → b ≡ m * m → Saved b p∞ pib → s′ ≡ covLaid m s (mat m p*) (mat m p∞) (mat m w) (mat m u)
-        → Passed p m n (covRun (systemFrom p m z zs h t r) 0 c gs) o s s′ pc₀ (over n (m * m) pc pcb) pi₀ (over n (m * m) pi pib) fc₀ fc k₀ k fs₀ fs fi₀ fi ms₀ ms mi₀ mi
+        → Passed p m n (covRun (systemFrom p m z zs h t ts r) 0 c gs) o s s′ pc₀ (over n (m * m) pc pcb) pi₀ (over n (m * m) pi pib) fc₀ fc k₀ k fs₀ fs fi₀ fi ms₀ ms mi₀ mi
     unfolding rect
-    finished a b e l ec wc ei wi q = passed p m n pcb pib (subst (λ (r : List CovPeriod × Cov). LoopedTo p m n r p* p∞ w u o pc₀ pc pi₀ pi fc₀ fc k₀ k fs₀ fs fi₀ fi ms₀ ms mi₀ mi) (same-run a b e) l) (wc .kept ∙ ec) (saved ec wc) (wi .kept ∙ ei) (saved ei wi) q
+    finished a e l ec wc ei wi q = passed p m n pcb pib (subst (λ (r : List CovPeriod × Cov). LoopedTo p m n r p* p∞ w u o pc₀ pc pi₀ pi fc₀ fc k₀ k fs₀ fs fi₀ fi ms₀ ms mi₀ mi) (same-run a e) l) (wc .kept ∙ ec) (saved ec wc) (wi .kept ∙ ei) (saved ei wi) q

@@ -5,10 +5,10 @@ use native.Mathlib.Omega.{arith}
 use mathlib.Core.List.{List}
 use lib.ListN.{length, take, drop}
 use lib.Ieee.{Float}
-use Rattle.definition.specs.Inputs.{designFrom}
+use Rattle.definition.specs.Inputs.{partFrom}
 use Rattle.laws.specs.Backward.{block-long}
 use Rattle.laws.specs.Blocks.{part-in}
-use Rattle.model.specs.Design.{length-design}
+use Rattle.model.specs.Lists.{length-part}
 use Rattle.cov.specs.View.{Period, Blocks, Periods, Room, Ready, Rooms}
 
 -- the diffuse periods before period i are at most i
@@ -20,10 +20,10 @@ pub read-in : (p : ℕ) {i n y : ℕ} → y ≡ n * p → i < n → i * p + p �
 read-in p e h = part-in p h (omega arith) e
 
 -- period i of n
-pub period-in : (z zs y : List Float) {design : List Float} {p m n listed i : ℕ} → Periods p m n listed (length z) (length zs) (length y) → i < n → design ≡ designFrom p m z zs i
+pub period-in : (z zs y : List Float) {design : List Float} {p m n t ts i : ℕ} → Periods p m n (length z) (length zs) t ts (length y) → i < n → design ≡ partFrom (p * m) z zs i
     → Period p m (length design) (length (take (i * p + p - i * p) (drop (i * p) y)))
 period-in z zs y {p = p} {i = i} g h e =
-    record { p8 = g .design .p8; m8 = g .design .m8; designed = ap length e ∙ length-design z zs i (g .design); readings = block-long i p y (read-in p (g .readings) h) }
+    record { p8 = g .design .p8; m8 = g .design .m8; designed = ap length e ∙ length-part z zs i (g .design .chosen); readings = block-long i p y (read-in p (g .readings) h) }
 
 -- blocks that are as long as they were
 pub kept : {p m a b d e f g h j a′ b′ d′ e′ f′ g′ h′ j′ : ℕ} → Blocks p m a b d e f g h j → a′ ≡ a → b′ ≡ b → d′ ≡ d → e′ ≡ e → f′ ≡ f → g′ ≡ g → h′ ≡ h → j′ ≡ j → Blocks p m a′ b′ d′ e′ f′ g′ h′ j′
@@ -36,8 +36,8 @@ kept w e1 e2 e3 e4 e5 e6 e7 e8 =
     }
 
 -- the pass's inputs and outputs, for the loop
-pub periods : {p m n listed z zs h t p* flags y : ℕ} → Ready p m n listed z zs h t p* flags y → Periods p m n listed z zs y
-periods g = record { n4096 = g .n4096; design = g .design; readings = g .readings }
+pub periods : {p m n z zs h t ts p* flags y : ℕ} → Ready p m n z zs h t ts p* flags y → Periods p m n z zs t ts y
+periods g = record { n4096 = g .n4096; design = g .design; transition = g .transition; readings = g .readings }
 
 pub rooms : {p m n pc pi fc ks fs fi ms mi : ℕ} → Rooms p m n pc pi fc ks fs fi ms mi → Room p m n pc pi fc ks fs fi ms mi
 rooms g =

@@ -12,7 +12,7 @@ use Rattle.definition.specs.Parts as parts
 use Rattle.definition.specs.Outcome.{covWritten, kindsWritten}
 use Rattle.laws.specs.Passes.{Laid}
 use Rattle.dense.specs.Views.{mat}
-use Rattle.model.specs.Design.{DesignFits}
+use Rattle.model.specs.Lists.{PartFits}
 use Rattle.model.specs.Places.{StartFits}
 use Rattle.period.specs.Views.{stateOf}
 use Rattle.carried.specs.State.{covKept}
@@ -82,11 +82,12 @@ pub record Held (m : ℕ) (q : CovPeriod × Cov) (l : Bool) (s : Cov) (pc pi fc 
   pub m-stars : ms ≡ covBlock m mStar (q .0)
   pub m-infs : mi ≡ covBlock m mInf (q .0)
 
--- ---- all n periods: the design and the readings, and room for the blocks
+-- ---- all n periods: the design, the transition and the readings, and room for the blocks
 
-pub record Periods (p m n listed : ℕ) (z zs y : ℕ) : Type 0 where
+pub record Periods (p m n : ℕ) (z zs t ts y : ℕ) : Type 0 where
   pub n4096 : n ≤ 4096
-  pub design : DesignFits p m z zs listed
+  pub design : PartFits p m z zs
+  pub transition : PartFits m m t ts
   pub readings : y ≡ n * p
 
 pub record Room (p m n : ℕ) (pc pi fc ks fs fi ms mi : ℕ) : Type 0 where
@@ -114,12 +115,12 @@ pub record LoopedTo (p m n : ℕ) (r : List CovPeriod × Cov) (p* p∞ b u : Lis
 
 -- ---- the pass
 
--- what a call that is past refusals 1 and 2 has for it: the lengths of Z, the listed Z, H, T, P*, the flags and y
-pub record Ready (p m n listed : ℕ) (z zs h t p* flags y : ℕ) : Type 0 where
+-- what a call that is past refusals 1 and 2 has for it: the lengths of Z, the listed Z, H, T, the listed T, P*, the flags and y
+pub record Ready (p m n : ℕ) (z zs h t ts p* flags y : ℕ) : Type 0 where
   pub n4096 : n ≤ 4096
-  pub design : DesignFits p m z zs listed
+  pub design : PartFits p m z zs
   pub noise : h ≡ p * p
-  pub transition : t ≡ m * m
+  pub transition : PartFits m m t ts
   pub start : StartFits m p* flags
   pub readings : y ≡ n * p
 

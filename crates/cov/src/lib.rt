@@ -190,7 +190,8 @@ fn and_one(d: usize, yes: bool) -> usize
     if yes { d + 1 } else { d }
 }
 
-// All n periods, in order. Each is handed its own block of each output.
+// All n periods, in order. Each is handed its own block of each output, and its own transition: `tr` is the constant one, `trs`
+// the list.
 fn cov_loop<'a>(
     star: &mut [f64; 64],
     p_inf: &mut [f64; 64],
@@ -208,21 +209,21 @@ fn cov_loop<'a>(
     z: &'a [f64],
     zs: &'a [f64],
     hs: &[f64; 64],
-    tr: &[f64; 64],
+    tr: &'a [f64],
+    trs: &'a [f64],
     rqr: &[f64; 64],
     y: &[f64],
     p: usize,
     m: usize,
     n: usize,
-    listed: usize,
 ) -> Ended
-    requires { ⌜ Periods p m n listed (length (now z)) (length (now zs)) (length (now y))
+    requires { ⌜ Periods p m n (length (now z)) (length (now zs)) (length (now tr)) (length (now trs)) (length (now y))
         × Room p m n (length (now «pred_cov»)) (length (now «pred_inf»)) (length (now «filt_cov»))
         (length (now kinds)) (length (now «f_star»)) (length (now «f_inf»))
         (length (now «m_star»)) (length (now «m_inf»)) ⌝ }
     ensures { λ e. ⌜ LoopedTo p m n
         (covRun (systemFrom p m (now (z .entry)) (now (zs .entry)) (mat p (now (hs .entry)))
-        (mat m (now (tr .entry))) (mat m (now (rqr .entry)))) 0
+        (now (tr .entry)) (now (trs .entry)) (mat m (now (rqr .entry)))) 0
         (stateOf m (now (star .entry)) (now («p_inf» .entry)) (now (root .entry)) (now (unres .entry)) live)
         (gapRows n p (map classOf (now (y .entry)))))
         (now (star .exit)) (now («p_inf» .exit)) (now (root .exit)) (now (unres .exit)) e
@@ -235,8 +236,10 @@ fn cov_loop<'a>(
     let pm = p * m;
     let mut live = live;
     let mut d = 0;
+    let mut step = dense::load64(tr);
     for t in 0..n {
-        let design = model::design(z, zs, p, m, listed, t);
+        let design = model::lists::part(z, zs, p, m, t);
+        model::lists::transition(&mut step, tr, trs, m, t);
         // Where its blocks lie: its matrices, its elements, their gain vectors.
         let cov = t * mm;
         let cov_end = cov + mm;
@@ -260,7 +263,7 @@ fn cov_loop<'a>(
             live,
             design,
             hs,
-            tr,
+            &step,
             rqr,
             &y[element..element_end],
             p,
@@ -273,12 +276,13 @@ fn cov_loop<'a>(
 
 // The covariance pass: the predicted, diffuse and filtered covariances and the records of n periods, and place n of the
 // predicted ones, in its own part too. It begins at the state that is lent, and leaves it as it is after the n periods; an
-// empty state: it begins at the start. `rqr` is R Q R', symmetrised; `listed` is how many designs the list has.
+// empty state: it begins at the start. `rqr` is R Q R', symmetrised.
 pub fn cov_pass<'a>(
     z: &'a [f64],
     zs: &'a [f64],
     h: &[f64],
-    t: &[f64],
+    t: &'a [f64],
+    ts: &'a [f64],
     rqr: &[f64; 64],
     p_star: &[f64],
     flags: &[u8],
@@ -296,17 +300,16 @@ pub fn cov_pass<'a>(
     p: usize,
     m: usize,
     n: usize,
-    listed: usize,
 ) -> Ended
     requires { ⌜ StateFits m (length (now state))
-        × Ready p m n listed (length (now z)) (length (now zs)) (length (now h)) (length (now t))
+        × Ready p m n (length (now z)) (length (now zs)) (length (now h)) (length (now t)) (length (now ts))
         (length (now «p_star»)) (length (now flags)) (length (now y))
         × Rooms p m n (length (now «pred_cov»)) (length (now «pred_inf»)) (length (now «filt_cov»))
         (length (now kinds)) (length (now «f_star»)) (length (now «f_inf»))
         (length (now «m_star»)) (length (now «m_inf»)) ⌝ }
     ensures { λ e. ⌜ Passed p m n
         (covRun (systemFrom p m (now (z .entry)) (now (zs .entry)) (now (h .entry)) (now (t .entry))
-        (mat m (now (rqr .entry)))) 0
+        (now (ts .entry)) (mat m (now (rqr .entry)))) 0
         (covFrom m (now (state .entry)) live (now («p_star» .entry)) (now (flags .entry)))
         (gapRows n p (map classOf (now (y .entry))))) e (now (state .entry)) (now (state .exit))
         (now («pred_cov» .entry)) (now («pred_cov» .exit)) (now («pred_inf» .entry)) (now («pred_inf» .exit))
@@ -315,7 +318,6 @@ pub fn cov_pass<'a>(
         (now («m_star» .entry)) (now («m_star» .exit)) (now («m_inf» .entry)) (now («m_inf» .exit)) ⌝ }
 {
     let hs = dense::load64(h);
-    let tr = dense::load64(t);
     let mut star = [0.0; 64];
     let mut p_inf = [0.0; 64];
     let mut root = [0.0; 64];
@@ -348,13 +350,13 @@ pub fn cov_pass<'a>(
         z,
         zs,
         &hs,
-        &tr,
+        t,
+        ts,
         rqr,
         y,
         p,
         m,
         n,
-        listed,
     );
     let mm = m * m;
     let from = n * mm;

@@ -8,7 +8,7 @@ use lib.ListN.{length, getD, replicate}
 use lib.Ieee.{Float}
 use Rattle.definition.specs.Num.{0ᶠ}
 use Rattle.definition.specs.Run.{scanBack, join}
-use Rattle.definition.specs.Inputs.{designFrom, frameFrom}
+use Rattle.definition.specs.Inputs.{partFrom, transitionFrom, frameFrom}
 use Rattle.definition.specs.Cov.{CovPeriod}
 use Rattle.definition.specs.Mean.{Frame}
 use Rattle.definition.specs.Smooth.{Ns, backCovOf, backCov, noNs}
@@ -16,7 +16,7 @@ use Rattle.laws.specs.Lists.{tab-at, length-tab}
 use Rattle.laws.specs.Flat.{Flat, lookAt, looks}
 use Rattle.laws.specs.Passes.{over, Laid}
 use Rattle.laws.specs.Backward.{later, WroteFrom, from-none, later-none, later-step, from-next, from-all}
-use Rattle.dense.specs.Views.{vec, rect, mat}
+use Rattle.dense.specs.Views.{vec, rect}
 use Rattle.dense.proofs.Laws.{vec-zeros}
 use Rattle.element_back.specs.View.{nsIn}
 
@@ -61,17 +61,18 @@ module _ (y : Frame) (s₀ : Ns) (n p m dd : ℕ) (pc pi : List Float) (r : Flat
     pub going-all : Going i s o₀ o → i ≤ 0 → n * (m * m) ≤ length o₀ → Laid (n * (m * m)) (join (scanBack (backCov y) 0 s₀ ls .0)) o₀ o
     going-all g h room = let e : i ≡ 0 = omega arith in from-all (backCov y) (m * m) ls s₀ n o₀ o long room (rw e at (g .out))
 
--- the frame's period, with the design and T that the code has
-pub framed : (p m t : ℕ) (z zs tr design : List Float) (s : Ns) (l : CovPeriod) {b : List Float × Ns} → design ≡ designFrom p m z zs t → b ≡ backCovOf m tr design s l → b ≡ backCov (frameFrom p m z zs tr) t s l
+-- the frame's period, with the design and the T that the code has: the period's, and that of the period u before it
+pub framed : (p m t u : ℕ) (z zs tr trs design step : List Float) (s : Ns) (l : CovPeriod) {b : List Float × Ns} → design ≡ partFrom (p * m) z zs t → u ≡ t - 1 → step ≡ transitionFrom m tr trs u → b ≡ backCovOf m step design s l
+    → b ≡ backCov (frameFrom p m z zs tr trs) t s l
 unfolding frameFrom
-framed p m t z zs tr design s l q h = h ∙ ap (λ (d : List Float). backCovOf m tr d s l) q
+framed p m t u z zs tr trs design step s l ed eu es h = h ∙ ap₂ (λ (a d : List Float). backCovOf m a d s l) (es ∙ ap (transitionFrom m tr trs) eu) ed
 
--- ---- N0, N1 and N2 of zeros, and T loaded
+-- ---- N0, N1 and N2 of zeros
 
 none-yet : (m : ℕ) → m * m ≤ 64 → nsIn m (replicate 64 0ᶠ) (replicate 64 0ᶠ) (replicate 64 0ᶠ) ≡ noNs m
 unfolding noNs vec rect
 none-yet m h = rw (vec-zeros (m * m) 64 h) refl
 
-pub passed : (p m : ℕ) (k : ℕ) (z zs t tr : List Float) (ls : List CovPeriod) {o₀ o : List Float} → m * m ≤ 64 → mat m tr ≡ t → Laid k (join (scanBack (backCov (frameFrom p m z zs (mat m tr))) 0 (nsIn m (replicate 64 0ᶠ) (replicate 64 0ᶠ) (replicate 64 0ᶠ)) ls .0)) o₀ o
-    → Laid k (join (scanBack (backCov (frameFrom p m z zs t)) 0 (noNs m) ls .0)) o₀ o
-passed p m k z zs t tr ls h e l = rw (e, none-yet m h) at l
+pub passed : (p m k : ℕ) (z zs t ts : List Float) (ls : List CovPeriod) {o₀ o : List Float} → m * m ≤ 64 → Laid k (join (scanBack (backCov (frameFrom p m z zs t ts)) 0 (nsIn m (replicate 64 0ᶠ) (replicate 64 0ᶠ) (replicate 64 0ᶠ)) ls .0)) o₀ o
+    → Laid k (join (scanBack (backCov (frameFrom p m z zs t ts)) 0 (noNs m) ls .0)) o₀ o
+passed p m k z zs t ts ls h l = rw (none-yet m h) at l

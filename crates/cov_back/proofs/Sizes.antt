@@ -8,12 +8,12 @@ use lib.ListN.{length}
 use lib.Ieee.{Float}
 use mir.Val.{Fits}
 use mir.Syntax.{w64}
-use Rattle.definition.specs.Inputs.{designFrom}
+use Rattle.definition.specs.Inputs.{partFrom}
 use Rattle.laws.specs.Flat.{Flat, fewer}
 use Rattle.laws.specs.Passes.{block-in}
 use Rattle.laws.specs.Sizes.{eight}
 use Rattle.laws.specs.Blocks.{to-fits}
-use Rattle.model.specs.Design.{length-design}
+use Rattle.model.specs.Lists.{length-part}
 use Rattle.cov_back.specs.View.{Element, Period, Blocks, Periods, Ready}
 
 -- place i of block t
@@ -38,17 +38,17 @@ element-in {p} {m} {t} {i} h b =
     }
 
 -- period t of n
-pub period-in : (z zs : List Float) {design : List Float} {p m n listed pc pi t : ℕ} {r : Flat} → Periods p m n listed (length z) (length zs) pc pi r → t < n → design ≡ designFrom p m z zs t → Period p m t (length design) r
+pub period-in : (z zs : List Float) {design : List Float} {p m n tr trs pc pi t : ℕ} {r : Flat} → Periods p m n (length z) (length zs) tr trs pc pi r → t < n → design ≡ partFrom (p * m) z zs t → Period p m t (length design) r
 period-in z zs {p = p} {m} {n} {t = t} f h e =
     record {
       p8 = f .design .p8;
       m8 = f .design .m8;
       t4096 = lt-of-lt-of-le h (f .n4096);
-      rows = omega (arith, ap length e ∙ length-design z zs t (f .design));
+      rows = omega (arith, ap length e ∙ length-part z zs t (f .design .chosen));
       holds = fewer (block-in t n p h) (f .holds);
     }
 
-pub blocks-in : {p m n listed z zs pc pi t out : ℕ} {r : Flat} → Periods p m n listed z zs pc pi r → t < n → out ≡ m * m → Blocks m t pc pi out
+pub blocks-in : {p m n z zs tr trs pc pi t out : ℕ} {r : Flat} → Periods p m n z zs tr trs pc pi r → t < n → out ≡ m * m → Blocks m t pc pi out
 blocks-in {m = m} {n} {t = t} f h e =
     record {
       m8 = f .design .m8;
@@ -59,11 +59,12 @@ blocks-in {m = m} {n} {t = t} f h e =
     }
 
 -- the pass's inputs, for the loop
-pub periods : {p m n listed z zs t pc pi : ℕ} {r : Flat} → Ready p m n listed z zs t pc pi r → Periods p m n listed z zs pc pi r
+pub periods : {p m n z zs t ts pc pi : ℕ} {r : Flat} → Ready p m n z zs t ts pc pi r → Periods p m n z zs t ts pc pi r
 periods {p} {m} {n} g =
     record {
       n4096 = g .n4096;
       design = g .design;
+      transition = g .transition;
       holds = record { ks = g .ks; fs = g .fs; fi = g .fi; ms = rw mul-assoc (g .ms); mi = rw mul-assoc (g .mi) };
       pred = g .pred;
       inf = g .inf;

@@ -3,7 +3,7 @@ use mathlib.Core.Path.{_≡_}
 use Prim.Native.Nat.{ℕ, _+_, _*_, _≤_, _<_}
 use lib.ListN.{length}
 use Rattle.laws.specs.Flat.{Flat, Holds}
-use Rattle.model.specs.Design.{DesignFits}
+use Rattle.model.specs.Lists.{PartFits}
 
 -- ---- what has to be there
 
@@ -33,19 +33,20 @@ pub record Blocks (m t pc pi out : ℕ) : Type 0 where
   pub inf : t * (m * m) + m * m ≤ pi
   pub own : out ≡ m * m
 
--- all n periods: the design, the records, the predicted covariances
-pub record Periods (p m n listed z zs pc pi : ℕ) (r : Flat) : Type 0 where
+-- all n periods: the design, the transition, the records, the predicted covariances
+pub record Periods (p m n z zs t ts pc pi : ℕ) (r : Flat) : Type 0 where
   pub n4096 : n ≤ 4096
-  pub design : DesignFits p m z zs listed
+  pub design : PartFits p m z zs
+  pub transition : PartFits m m t ts
   pub holds : Holds m (n * p) r
   pub pred : n * (m * m) ≤ pc
   pub inf : n * (m * m) ≤ pi
 
--- what a call that is past refusals 1 and 2 has for the pass: the lengths of Z, the listed Z, T and the predicted covariances, and the records
-pub record Ready (p m n listed z zs t pc pi : ℕ) (r : Flat) : Type 0 where
+-- what a call that is past refusals 1 and 2 has for the pass: the lengths of Z, the listed Z, T, the listed T and the predicted covariances, and the records
+pub record Ready (p m n z zs t ts pc pi : ℕ) (r : Flat) : Type 0 where
   pub n4096 : n ≤ 4096
-  pub design : DesignFits p m z zs listed
-  pub transition : t ≡ m * m
+  pub design : PartFits p m z zs
+  pub transition : PartFits m m t ts
   pub pred : n * (m * m) ≤ pc
   pub inf : n * (m * m) ≤ pi
   pub ks : n * p ≤ length (r .kinds)

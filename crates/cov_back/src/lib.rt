@@ -302,7 +302,8 @@ fn period(
     step_all(n0, n1, n2, tr, m);
 }
 
-// All n periods, from the last to the first. Each is handed its own block of the smoothed covariances.
+// All n periods, from the last to the first. Each is handed its own block of the smoothed covariances, and the transition of the period before it, by
+// which it steps back: `tr` is the constant one, `trs` the list.
 fn back_loop<'a>(
     n0: &mut [f64; 64],
     n1: &mut [f64; 64],
@@ -310,7 +311,8 @@ fn back_loop<'a>(
     sm_cov: &mut [f64],
     z: &'a [f64],
     zs: &'a [f64],
-    tr: &[f64; 64],
+    tr: &'a [f64],
+    trs: &'a [f64],
     pred_cov: &[f64],
     pred_inf: &[f64],
     kinds: &[u8],
@@ -322,14 +324,14 @@ fn back_loop<'a>(
     p: usize,
     m: usize,
     n: usize,
-    listed: usize,
 )
-    requires { ⌜ Periods p m n listed (length (now z)) (length (now zs))
+    requires { ⌜ Periods p m n (length (now z)) (length (now zs)) (length (now tr)) (length (now trs))
         (length (now «pred_cov»)) (length (now «pred_inf»))
         (flatIn (now kinds) (now «f_star») (now «f_inf») (now «m_star») (now «m_inf»))
         × (n * (m * m) ≤ length (now «sm_cov»)) ⌝ }
     ensures { λ _. ⌜ Laid (n * (m * m))
-        (join (scanBack (backCov (frameFrom p m (now (z .entry)) (now (zs .entry)) (mat m (now (tr .entry))))) 0
+        (join (scanBack (backCov (frameFrom p m (now (z .entry)) (now (zs .entry))
+        (now (tr .entry)) (now (trs .entry)))) 0
         (nsIn m (now (n0 .entry)) (now (n1 .entry)) (now (n2 .entry)))
         (looks n p m «d_diffuse» (now («pred_cov» .entry)) (now («pred_inf» .entry))
         (flatIn (now (kinds .entry)) (now («f_star» .entry)) (now («f_inf» .entry))
@@ -337,10 +339,13 @@ fn back_loop<'a>(
         (now («sm_cov» .entry)) (now («sm_cov» .exit)) ⌝ }
 {
     let mm = m * m;
+    let mut step = dense::load64(tr);
     let mut t = n;
     while 0 < t {
         t = t - 1;
-        let design = model::design(z, zs, p, m, listed, t);
+        let design = model::lists::part(z, zs, p, m, t);
+        let earlier = element_back::before(t);
+        model::lists::transition(&mut step, tr, trs, m, earlier);
         let from = t * mm;
         let to = from + mm;
         period(
@@ -349,7 +354,7 @@ fn back_loop<'a>(
             n2,
             &mut sm_cov[from..to],
             design,
-            tr,
+            &step,
             pred_cov,
             pred_inf,
             kinds,
@@ -366,11 +371,12 @@ fn back_loop<'a>(
 }
 
 // The covariances' way back: the smoothed covariance of each of n periods, by the predicted ones and the decisions that the covariance pass left, of
-// which the first d_diffuse periods were diffuse. `listed` is how many designs the list has.
+// which the first d_diffuse periods were diffuse.
 pub fn cov_back<'a>(
     z: &'a [f64],
     zs: &'a [f64],
-    t: &[f64],
+    t: &'a [f64],
+    ts: &'a [f64],
     pred_cov: &[f64],
     pred_inf: &[f64],
     kinds: &[u8],
@@ -383,20 +389,19 @@ pub fn cov_back<'a>(
     p: usize,
     m: usize,
     n: usize,
-    listed: usize,
 )
-    requires { ⌜ Ready p m n listed (length (now z)) (length (now zs)) (length (now t))
+    requires { ⌜ Ready p m n (length (now z)) (length (now zs)) (length (now t)) (length (now ts))
         (length (now «pred_cov»)) (length (now «pred_inf»))
         (flatIn (now kinds) (now «f_star») (now «f_inf») (now «m_star») (now «m_inf»))
         × (n * (m * m) ≤ length (now «sm_cov»)) ⌝ }
     ensures { λ _. ⌜ Laid (n * (m * m))
-        (join (scanBack (backCov (frameFrom p m (now (z .entry)) (now (zs .entry)) (now (t .entry)))) 0 (noNs m)
+        (join (scanBack (backCov (frameFrom p m (now (z .entry)) (now (zs .entry))
+        (now (t .entry)) (now (ts .entry)))) 0 (noNs m)
         (looks n p m «d_diffuse» (now («pred_cov» .entry)) (now («pred_inf» .entry))
         (flatIn (now (kinds .entry)) (now («f_star» .entry)) (now («f_inf» .entry))
         (now («m_star» .entry)) (now («m_inf» .entry)))) .0))
         (now («sm_cov» .entry)) (now («sm_cov» .exit)) ⌝ }
 {
-    let tr = dense::load64(t);
     let mut n0 = [0.0; 64];
     let mut n1 = [0.0; 64];
     let mut n2 = [0.0; 64];
@@ -407,7 +412,8 @@ pub fn cov_back<'a>(
         sm_cov,
         z,
         zs,
-        &tr,
+        t,
+        ts,
         pred_cov,
         pred_inf,
         kinds,
@@ -419,6 +425,5 @@ pub fn cov_back<'a>(
         p,
         m,
         n,
-        listed,
     );
 }

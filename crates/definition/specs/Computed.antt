@@ -81,11 +81,11 @@ unfolding Smooth.lZeroAt Smooth.lZero Smooth.lOneAt Smooth.lOne Smooth.fOne Smoo
 ofSmooth = tt
 
 unfoldable ofInputs : Unit {0}
-unfolding Inputs.classOf Inputs.gapRows Inputs.designFrom Inputs.noiseOf Inputs.noise Inputs.systemFrom Inputs.frameFrom Inputs.systemOf Inputs.frameOf Inputs.flagsBefore Inputs.startInfAt Inputs.startInf Inputs.startRootAt Inputs.startRoot Inputs.startFrom Inputs.startOf
+unfolding Inputs.classOf Inputs.gapRows Inputs.partFrom Inputs.noiseOf Inputs.noise Inputs.systemFrom Inputs.frameFrom Inputs.systemOf Inputs.frameOf Inputs.flagsBefore Inputs.startInfAt Inputs.startInf Inputs.startRootAt Inputs.startRoot Inputs.startFrom Inputs.startOf
 ofInputs = tt
 
 unfoldable ofRefusals : Unit {0}
-unfolding Refusals.outside Refusals.designFits Refusals.inputsFit Refusals.badLength Refusals.outrun Refusals.listShort Refusals.badSystem Refusals.badStart Refusals.negativeAt Refusals.negative Refusals.notPsd Refusals.offAt Refusals.offRow Refusals.offDiagonal Refusals.shapeAt Refusals.shapeRow Refusals.shapeOf Refusals.startShape Refusals.drivenAt Refusals.drivenRow Refusals.mixedDriven Refusals.firstOf Refusals.tests Refusals.refusal
+unfolding Refusals.outside Refusals.partFits Refusals.inputsFit Refusals.badLength Refusals.outrun Refusals.listShort Refusals.badSystem Refusals.badStart Refusals.negativeAt Refusals.negative Refusals.notPsd Refusals.offAt Refusals.offRow Refusals.offDiagonal Refusals.shapeAt Refusals.shapeRow Refusals.shapeOf Refusals.startShape Refusals.drivenAt Refusals.drivenRow Refusals.mixedDriven Refusals.firstOf Refusals.tests Refusals.refusal
 ofRefusals = tt
 
 unfoldable ofReports : Unit {0}

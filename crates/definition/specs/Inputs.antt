@@ -12,7 +12,7 @@ use Rattle.definition.specs.Cov.{System, Cov}
 use Rattle.definition.specs.Mean.{Frame}
 
 -- the sizes; the design once (zOnce) or as a list (zList), and whether the call asks that the last one be used again where the list runs out
--- (repeats: refusal 14 reads it, the run does not); H, T, R, Q; the flags and P* of the start
+-- (repeats: refusal 14 reads it, the run does not); H; the transition once (tOnce) or as a list (tList); R, Q; the flags and P* of the start
 pub record Model : Type 0 where
   pub p : ℕ
   pub m : ℕ
@@ -22,7 +22,8 @@ pub record Model : Type 0 where
   pub zList : List Float
   pub repeats : Bool
   pub h : List Float
-  pub t : List Float
+  pub tOnce : List Float
+  pub tList : List Float
   pub rr : List Float
   pub q : List Float
   pub flags : List ℕ
@@ -57,13 +58,19 @@ isInfinity finite = false
 unfoldable pub gapRows : ℕ → ℕ → List Class → List (List Bool)
 gapRows n p ks = chunks n p (map isGap ks)
 
--- ---- the design of period t: the constant one, or entry t of the list, or the last once the list has run out
+-- ---- Z and T of period t: the constant one, or entry t of the list, whose entries have k numbers each, or the last once the list has run out. (A run
+-- goes past its list in a marked call, and there past the designs' alone: refusals 14 and 2.)
 
-unfoldable pub designFrom : ℕ → ℕ → List Float → List Float → ℕ → List Float
-designFrom p m zOnce zList t =
-    let k = p * m in
-    let part = take k (drop (min t (length zList / k - 1) * k) zList) in
-    cond (eqb (length zList) 0) zOnce part
+unfoldable pub partFrom : ℕ → List Float → List Float → ℕ → List Float
+partFrom k once list t =
+    let part = take k (drop (min t (length list / k - 1) * k) list) in
+    cond (eqb (length list) 0) once part
+
+abbrev pub designFrom : ℕ → ℕ → List Float → List Float → ℕ → List Float
+designFrom p m zOnce zList = partFrom (p * m) zOnce zList
+
+abbrev pub transitionFrom : ℕ → List Float → List Float → ℕ → List Float
+transitionFrom m tOnce tList = partFrom (m * m) tOnce tList
 
 -- ---- R Q R' as (R Q) R', symmetrised
 
@@ -75,18 +82,19 @@ noise x = noiseOf (x .m) (x .r) (x .rr) (x .q)
 
 -- ---- what the covariances go by, and the means
 
-unfoldable pub systemFrom : ℕ → ℕ → List Float → List Float → List Float → List Float → List Float → System
-systemFrom p m zOnce zList h t rqr =
-    record { p = p; m = m; designAt = designFrom p m zOnce zList; transitionAt = λ k. t; h = h; rqr = rqr }
+unfoldable pub systemFrom : ℕ → ℕ → List Float → List Float → List Float → List Float → List Float → List Float → System
+systemFrom p m zOnce zList h tOnce tList rqr =
+    record { p = p; m = m; designAt = designFrom p m zOnce zList; transitionAt = transitionFrom m tOnce tList; h = h; rqr = rqr }
 
-unfoldable pub frameFrom : ℕ → ℕ → List Float → List Float → List Float → Frame
-frameFrom p m zOnce zList t = record { m = m; designAt = designFrom p m zOnce zList; transitionAt = λ k. t }
+unfoldable pub frameFrom : ℕ → ℕ → List Float → List Float → List Float → List Float → Frame
+frameFrom p m zOnce zList tOnce tList =
+    record { m = m; designAt = designFrom p m zOnce zList; transitionAt = transitionFrom m tOnce tList }
 
 unfoldable pub systemOf : Model → System
-systemOf x = systemFrom (x .p) (x .m) (x .zOnce) (x .zList) (x .h) (x .t) (noise x)
+systemOf x = systemFrom (x .p) (x .m) (x .zOnce) (x .zList) (x .h) (x .tOnce) (x .tList) (noise x)
 
 unfoldable pub frameOf : Model → Frame
-frameOf x = frameFrom (x .p) (x .m) (x .zOnce) (x .zList) (x .t)
+frameOf x = frameFrom (x .p) (x .m) (x .zOnce) (x .zList) (x .tOnce) (x .tList)
 
 -- ---- the start: P* as given; P∞ is 1 on the diagonal at each flag; column j of its root belongs to the j-th flagged state (diffuse_root)
 

@@ -22,3 +22,4 @@ pub mod Edges
 pub mod Tracks
 pub mod RanOff
 pub mod Reach
+pub mod Transitions

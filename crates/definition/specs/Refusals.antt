@@ -9,7 +9,7 @@ use lib.Dec.{leb, ltb, eqb}
 use lib.Ieee.{Float, eq}
 use Rattle.definition.specs.Num.{_>ᶠ_, 0ᶠ, isZero, isFinite, at, ent}
 use Rattle.definition.specs.Run.{anyOf, anyTo}
-use Rattle.definition.specs.Inputs.{Model, Offsets, isFlagged, noise}
+use Rattle.definition.specs.Inputs.{Model, Offsets, isFlagged, noise, transitionFrom}
 
 -- 1 Dimension: p, m, r or n outside its range
 abbrev pub beyond : ℕ → ℕ → Bool
@@ -18,29 +18,29 @@ beyond top k = eqb k 0 || ltb top k
 unfoldable pub outside : ℕ → ℕ → ℕ → ℕ → Bool
 outside p m r n = beyond 8 p || beyond 8 m || beyond 8 r || beyond 4096 n
 
--- 2 Length. Exactly one design list is non-empty: the constant one, of p m numbers, or 1 to 4096 listed ones
-unfoldable pub designFits : ℕ → ℕ → ℕ → Bool
-designFits pm once list =
-    (eqb once pm && eqb list 0) || (eqb once 0 && eqb list (list / pm * pm) && not (eqb (list / pm) 0) && leb (list / pm) 4096)
+-- 2 Length. Of Z's two parts exactly one is non-empty, and so of T's: the constant one, of k numbers, or 1 to 4096 listed ones
+unfoldable pub partFits : ℕ → ℕ → ℕ → Bool
+partFits k once list =
+    (eqb once k && eqb list 0) || (eqb once 0 && eqb list (list / k * k) && not (eqb (list / k) 0) && leb (list / k) 4096)
 
--- the inputs' lengths: Z, Zs, H, T, R, Q, c, d, a1, P*, flags
+-- the inputs' lengths: Z, Zs, H, T, Ts, R, Q, c, d, a1, P*, flags
 unfoldable pub inputsFit : Model → Offsets → Bool
 inputsFit x o =
     let p = x .p in
     let m = x .m in
     let r = x .r in
-    designFits (p * m) (length (x .zOnce)) (length (x .zList)) && eqb (length (x .h)) (p * p) && eqb (length (x .t)) (m * m)
-    && eqb (length (x .rr)) (m * r) && eqb (length (x .q)) (r * r) && eqb (length (o .c)) m && eqb (length (o .d)) p
+    partFits (p * m) (length (x .zOnce)) (length (x .zList)) && eqb (length (x .h)) (p * p)
+    && partFits (m * m) (length (x .tOnce)) (length (x .tList)) && eqb (length (x .rr)) (m * r) && eqb (length (x .q)) (r * r) && eqb (length (o .c)) m && eqb (length (o .d)) p
     && eqb (length (o .a1)) m && eqb (length (x .pStar)) (m * m) && eqb (length (x .flags)) m
 
 -- `readings`: how many there are; `room`: each output is at least as long as needed
 unfoldable pub badLength : Model → Offsets → ℕ → Bool → Bool
 badLength x o readings room = not (inputsFit x o && eqb readings (x .n * x .p) && room)
 
--- 14 ListShort: a list, of so many numbers, that has fewer designs than the run has periods, and the call does not ask that the last be used again.
--- (A constant design has no list.)
+-- A list, of so many numbers, that has fewer entries, of k numbers each, than the run has periods. (What is constant has no list.) It is 2 Length of the
+-- list of transitions; and of the designs' 14 ListShort, where the call does not ask that the last be used again.
 unfoldable pub outrun : ℕ → ℕ → ℕ → Bool
-outrun pm list periods = not (eqb list 0) && ltb (list / pm) periods
+outrun k list periods = not (eqb list 0) && ltb (list / k) periods
 
 unfoldable pub listShort : Bool → ℕ → ℕ → ℕ → Bool
 listShort repeats pm list periods = not repeats && outrun pm list periods
@@ -52,8 +52,9 @@ unfit x = not (isFinite x)
 abbrev pub notFinite : List Float → Bool
 notFinite a = anyOf unfit a
 
-unfoldable pub badSystem : List Float → List Float → List Float → List Float → List Float → List Float → Bool
-badSystem zOnce zList h t rr q = notFinite zOnce || notFinite zList || notFinite h || notFinite t || notFinite rr || notFinite q
+unfoldable pub badSystem : List Float → List Float → List Float → List Float → List Float → List Float → List Float → Bool
+badSystem zOnce zList h tOnce tList rr q =
+    notFinite zOnce || notFinite zList || notFinite h || notFinite tOnce || notFinite tList || notFinite rr || notFinite q
 
 unfoldable pub badStart : List Float → List Float → List Float → List Float → Bool
 badStart c d a1 pStar = notFinite c || notFinite d || notFinite a1 || notFinite pStar
@@ -96,7 +97,7 @@ badFlag b = ltb 1 b
 unfoldable pub startShape : ℕ → List Float → List ℕ → List Float → Bool
 startShape m p flags a1 = anyOf badFlag flags || anyTo m (shapeOf m p flags a1)
 
--- 10 MixedDriven: T at (unflagged, flagged) is not 0
+-- 10 MixedDriven: the first T at (unflagged, flagged) is not 0
 unfoldable pub drivenAt : ℕ → List Float → List ℕ → ℕ → ℕ → Bool
 drivenAt m t flags i j = not (isFlagged flags i) && isFlagged flags j && not (isZero (ent m t i j))
 
@@ -121,14 +122,17 @@ ofSizes x = (1, outside (x .p) (x .m) (x .r) (x .n)) ∷ []
 abbrev pub ofLengths : Model → Offsets → ℕ → Bool → List (ℕ × Bool)
 ofLengths x o readings room = (2, badLength x o readings room) ∷ []
 
--- 14 ListShort, of a run of so many periods, its first one being the first of the list
+-- How far the lists reach, of a run of so many periods, its first one being the first of each list: 2 Length by T's, 14 ListShort by the designs'
 abbrev pub ofReach : Model → ℕ → List (ℕ × Bool)
-ofReach x periods = (14, listShort (x .repeats) (x .p * x .m) (length (x .zList)) periods) ∷ []
+ofReach x periods =
+    (2, outrun (x .m * x .m) (length (x .tList)) periods)
+    ∷ (14, listShort (x .repeats) (x .p * x .m) (length (x .zList)) periods)
+    ∷ []
 
 -- 3 NonFiniteSystem, 4 NotPsd, 5 QNotDiagonal
 abbrev pub ofSystem : Model → List (ℕ × Bool)
 ofSystem x =
-    (3, badSystem (x .zOnce) (x .zList) (x .h) (x .t) (x .rr) (x .q))
+    (3, badSystem (x .zOnce) (x .zList) (x .h) (x .tOnce) (x .tList) (x .rr) (x .q))
     ∷ (4, notPsd (x .p) (x .h) (x .r) (x .q))
     ∷ (5, offDiagonal (x .r) (x .q))
     ∷ []
@@ -148,13 +152,14 @@ ofReadings infinity = (9, infinity) ∷ []
 
 -- 10 MixedDriven, 11 NonFiniteNoise
 abbrev pub ofStep : Model → List (ℕ × Bool)
-ofStep x = (10, mixedDriven (x .m) (x .t) (x .flags)) ∷ (11, notFinite (noise x)) ∷ []
+ofStep x =
+    (10, mixedDriven (x .m) (transitionFrom (x .m) (x .tOnce) (x .tList) 0) (x .flags)) ∷ (11, notFinite (noise x)) ∷ []
 
 -- 3 to 11: what is looked up in the inputs themselves. Of the readings: whether one is infinite
 abbrev pub ofEntries : Model → Offsets → Bool → List (ℕ × Bool)
 ofEntries x o infinity = ofSystem x ++ ofStart x o ++ ofH x ++ ofReadings infinity ++ ofStep x
 
--- The filter's call and the smoother's: 14 right after 2.
+-- The filter's call and the smoother's: the lists' reach right after the lengths.
 unfoldable pub tests : Model → Offsets → ℕ → Bool → Bool → List (ℕ × Bool)
 tests x o readings infinity room = ofSizes x ++ ofLengths x o readings room ++ ofReach x (x .n) ++ ofEntries x o infinity
 

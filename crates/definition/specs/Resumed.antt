@@ -12,18 +12,18 @@ use borrow.Author.Tests.{ne-eqb}
 use Rattle.definition.specs.Run.{anyOf, scan, chunks, pairs}
 use Rattle.definition.specs.Cov.{Cov, CovPeriod, period, covRun}
 use Rattle.definition.specs.Mean.{meanRun}
-use Rattle.definition.specs.Inputs.{Model, Offsets, Class, isGap, isInfinity, noise, systemOf, frameOf, gapRows}
+use Rattle.definition.specs.Inputs.{Model, Offsets, Class, isGap, isInfinity, noise, transitionFrom, systemOf, frameOf, gapRows}
 use Rattle.definition.specs.Reports.{firstFrom, covIsOff, covReport, toldBefore}
 use Rattle.definition.specs.Refusals.{notFinite, mixedDriven, firstOf, ofLengths, ofReach, ofSystem, ofStart, ofH, ofReadings}
 use Rattle.definition.specs.Outcome.{Ending, turned, silent, answered, endingOf, after, noInformation}
 use Rattle.definition.specs.Carried.{Past, Carried, covFrom, meanFrom, plus, pastOn, meanOn, went}
 use Rattle.definition.specs.Stretch.{outsideStretch, badFrom, stretchTests, stretchRefusal, stretchEnding, saveStretch}
 
--- ---- two periods of one element are one period, and one more from there: its index, its design, its mean
+-- ---- two periods of one element are one period, and one more from there: its index, its design, its transition, its mean
 
 abbrev lone : ℕ → Model → Model
 lone n x =
-    record { p = 1; m = x .m; r = x .r; n = n; zOnce = x .zOnce; zList = x .zList; repeats = x .repeats; h = x .h; t = x .t; rr = x .rr; q = x .q; flags = x .flags; pStar = x .pStar }
+    record { p = 1; m = x .m; r = x .r; n = n; zOnce = x .zOnce; zList = x .zList; repeats = x .repeats; h = x .h; tOnce = x .tOnce; tList = x .tList; rr = x .rr; q = x .q; flags = x .flags; pStar = x .pStar }
 
 pub two-covs : (x : Model) (s : Past) (k l : Class)
     → covFrom (lone 2 x) s (k ∷ l ∷ [])
@@ -88,7 +88,7 @@ unfolding stretchRefusal stretchTests
 eleven-first x o readings infinity room bad done e =
     let low : (k : ℕ) → k < 15 → k ≡ 15 → ⊥ = λ k l q. omega arith in
     stands
-    (((1, outsideStretch (x .p) (x .m) (x .r) (x .n)) ∷ []) ++ ofLengths x o readings room ++ ofSystem x ++ ofStart x o ++ ofH x ++ ofReadings infinity ++ ((10, mixedDriven (x .m) (x .t) (x .flags)) ∷ []))
+    (((1, outsideStretch (x .p) (x .m) (x .r) (x .n)) ∷ []) ++ ofLengths x o readings room ++ ofSystem x ++ ofStart x o ++ ofH x ++ ofReadings infinity ++ ((10, mixedDriven (x .m) (transitionFrom (x .m) (x .tOnce) (x .tList) 0) (x .flags)) ∷ []))
     ((15, bad) ∷ ofReach x (done + x .n))
     (notFinite (noise x))
     e

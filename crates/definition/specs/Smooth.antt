@@ -1,6 +1,6 @@
 -- smoother.rs: the backward pass, Durbin and Koopman, 5.3 and 6.4.4, in the same two tracks. Elements last to first; its gains multiply by 1 / F.
 -- The Rust goes back through both tracks in one loop; neither reads the other, so the order of each one's operations is the Rust's.
-use Prim.Native.Nat.{ℕ, _*_}
+use Prim.Native.Nat.{ℕ, _-_, _*_}
 use mathlib.Core.Bool.{Bool, cond}
 use mathlib.Core.List.{List}
 use lib.Dec.{eqb}
@@ -157,9 +157,9 @@ backMeanOf m t design r c =
     let e = elementsR m design r (pairs (c .0 .decisions) (c .1 .vs)) in
     (backA m (c .0 .diffuse) (c .0 .pred) (c .0 .predInf) (c .1 .pred) e, stepRs m t e)
 
--- document 01: the step from t to t - 1 takes the T of period t
+-- Durbin and Koopman: the step from t to t - 1 takes the T of t - 1, the one that led into t. (At 0 nothing reads the step, whichever T it takes.)
 abbrev pub backTransition : Frame → ℕ → List Float
-backTransition y t = y .transitionAt t
+backTransition y t = y .transitionAt (t - 1)
 
 abbrev pub backCov : Frame → ℕ → Ns → CovPeriod → List Float × Ns
 backCov y t n c = backCovOf (y .m) (backTransition y t) (y .designAt t) n c

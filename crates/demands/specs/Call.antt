@@ -28,6 +28,7 @@ pub record Call : Type 0 where
   pub repeats : ℕ
   pub h : List ℕ
   pub t : List ℕ
+  pub ts : List ℕ
   pub rr : List ℕ
   pub q : List ℕ
   pub c : List ℕ
@@ -72,7 +73,8 @@ modelOf k =
       zList = doubles (k .zs);
       repeats = not (eqb (k .repeats) 0);
       h = doubles (k .h);
-      t = doubles (k .t);
+      tOnce = doubles (k .t);
+      tList = doubles (k .ts);
       rr = doubles (k .rr);
       q = doubles (k .q);
       flags = k .flags;

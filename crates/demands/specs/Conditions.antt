@@ -1,4 +1,5 @@
--- Document 01's table of refusals, "The twelve refusals", and document 02's 14, right after 2: each condition as a statement about what is lent.
+-- Document 01's table of refusals, "The twelve refusals", and document 02's, of lists that are too short: T's reach, which is 2, and 14, right after
+-- 2. Each condition is a statement about what is lent.
 use mathlib.Core.Path.{_≡_}
 use Prim.Native.Nat.{ℕ, _*_, _/_, _≤_, _<_}
 use mathlib.Core.List.{List, [], _∷_, _++_, map}
@@ -6,7 +7,7 @@ use lib.Dec.{T}
 use lib.ListN.{length, getD}
 use lib.Ieee.{Float, nan, lt, eq}
 use Rattle.definition.specs.Num.{0ᶠ, isZero, isFinite, isInfinite, at, ent}
-use Rattle.definition.specs.Inputs.{Model, Offsets, classOf, noise}
+use Rattle.definition.specs.Inputs.{Model, Offsets, classOf, noise, transitionFrom}
 use Rattle.definition.specs.Parts.{CovPart, MeanPart}
 use Rattle.definition.specs.Outcome.{CovParts, MeanParts, Counts, kindsNeed, covNeed, meanNeed, smoothedCovNeed, smoothedMeanNeed, covOf, countsOf}
 use Rattle.laws.specs.Says.{_or_, Below, Within}
@@ -31,21 +32,24 @@ OutOf top k = (k ≡ 0) or (top < k)
 abbrev pub Dimension : Model → Type 0
 Dimension x = OutOf 8 (x .p) or OutOf 8 (x .m) or OutOf 8 (x .r) or OutOf 4096 (x .n)
 
--- 2: a lent part has the wrong length, or the Z rule is broken. `room`: each output is at least as long as needed
-pub record Once (pm once list : ℕ) : Type 0 where
-  pub whole : once ≡ pm
+-- 2: a lent part has the wrong length, or the rule of Z's two parts, or of T's, is broken. `room`: each output is at least as long as needed
+pub record Once (k once list : ℕ) : Type 0 where
+  pub whole : once ≡ k
   pub none : list ≡ 0
 
-pub record Listed (pm once list : ℕ) : Type 0 where
+pub record Listed (k once list : ℕ) : Type 0 where
   pub none : once ≡ 0
-  pub whole : list ≡ list / pm * pm
-  pub some : list / pm ≡ 0 → ⊥
-  pub few : list / pm ≤ 4096
+  pub whole : list ≡ list / k * k
+  pub some : list / k ≡ 0 → ⊥
+  pub few : list / k ≤ 4096
+
+abbrev pub EitherPart : ℕ → List Float → List Float → Type 0
+EitherPart k once list = Once k (length once) (length list) or Listed k (length once) (length list)
 
 pub record Lengths (x : Model) (o : Offsets) (y : List Float) (Room : Type 0) : Type 0 where
-  pub z : Once (x .p * x .m) (length (x .zOnce)) (length (x .zList)) or Listed (x .p * x .m) (length (x .zOnce)) (length (x .zList))
+  pub z : EitherPart (x .p * x .m) (x .zOnce) (x .zList)
   pub h : length (x .h) ≡ x .p * x .p
-  pub t : length (x .t) ≡ x .m * x .m
+  pub t : EitherPart (x .m * x .m) (x .tOnce) (x .tList)
   pub rr : length (x .rr) ≡ x .m * x .r
   pub q : length (x .q) ≡ x .r * x .r
   pub c : length (o .c) ≡ x .m
@@ -56,15 +60,26 @@ pub record Lengths (x : Model) (o : Offsets) (y : List Float) (Room : Type 0) : 
   pub readings : length y ≡ x .n * x .p
   pub room : Room
 
--- 14: a list holds fewer designs than the run has periods, and the call does not ask that the last be used again
+-- a list is given, and has fewer entries, of k numbers each, than the run has periods
+abbrev pub Outrun : ℕ → List Float → ℕ → Type 0
+Outrun k list periods = (length list ≡ 0 → ⊥) × (length list / k < periods)
+
+-- 2 too: T's list has
+abbrev pub StepsShort : Model → ℕ → Type 0
+StepsShort x periods = Outrun (x .m * x .m) (x .tList) periods
+
+-- 14: the list of designs has, and the call does not ask that the last be used again
 abbrev pub ListShort : Model → ℕ → Type 0
-ListShort x periods = (T (x .repeats) → ⊥) × (length (x .zList) ≡ 0 → ⊥) × (length (x .zList) / (x .p * x .m) < periods)
+ListShort x periods = (T (x .repeats) → ⊥) × Outrun (x .p * x .m) (x .zList) periods
+
+abbrev pub SomeShort : Model → ℕ → Type 0
+SomeShort x periods = StepsShort x periods or ListShort x periods
 
 -- 3 and 6: an entry is not finite
 abbrev pub NonFiniteSystem : Model → Type 0
 NonFiniteSystem x =
     Some (x .zOnce) NotFinite or Some (x .zList) NotFinite or Some (x .h) NotFinite
-    or Some (x .t) NotFinite or Some (x .rr) NotFinite or Some (x .q) NotFinite
+    or Some (x .tOnce) NotFinite or Some (x .tList) NotFinite or Some (x .rr) NotFinite or Some (x .q) NotFinite
 
 abbrev pub NonFiniteStart : Model → Offsets → Type 0
 NonFiniteStart x o = Some (o .c) NotFinite or Some (o .d) NotFinite or Some (o .a1) NotFinite or Some (x .pStar) NotFinite
@@ -96,9 +111,12 @@ StartShape x o =
 abbrev pub InfiniteReading : List Float → Type 0
 InfiniteReading y = Some y (λ v. T (isInfinite v))
 
--- 10: T at (unflagged, flagged) is not 0
+-- 10: the first T at (unflagged, flagged) is not 0
+abbrev pub firstStep : Model → List Float
+firstStep x = transitionFrom (x .m) (x .tOnce) (x .tList) 0
+
 abbrev pub MixedDriven : Model → Type 0
-MixedDriven x = Below (x .m) (λ i. Below (x .m) (λ j. (Flagged x i → ⊥) × Flagged x j × NotZero (ent (x .m) (x .t) i j)))
+MixedDriven x = Below (x .m) (λ i. Below (x .m) (λ j. (Flagged x i → ⊥) × Flagged x j × NotZero (ent (x .m) (firstStep x) i j)))
 
 -- 11: R Q R', symmetrised, has a non-finite entry
 abbrev pub NonFiniteNoise : Model → Type 0
@@ -131,8 +149,11 @@ OfSizes x = (1, Dimension x) ∷ []
 abbrev pub OfLengths : Model → Offsets → List Float → Type 0 → List (ℕ × Type 0)
 OfLengths x o y Room = (2, Lengths x o y Room → ⊥) ∷ []
 
+abbrev pub OfSteps : Model → ℕ → List (ℕ × Type 0)
+OfSteps x periods = (2, StepsShort x periods) ∷ []
+
 abbrev pub OfReach : Model → ℕ → List (ℕ × Type 0)
-OfReach x periods = (14, ListShort x periods) ∷ []
+OfReach x periods = OfSteps x periods ++ ((14, ListShort x periods) ∷ [])
 
 abbrev pub OfSystem : Model → List (ℕ × Type 0)
 OfSystem x = (3, NonFiniteSystem x) ∷ (4, NotPsd x) ∷ (5, OffDiagonal (x .r) (x .q)) ∷ []

@@ -40,14 +40,18 @@ shorter p m r n k h e =
     let s = either-false (beyond 8 p || beyond 8 m || beyond 8 r) (ltb 4096 n) e in
     rw (s .0) (le-ltb 4096 k (omega (arith, ltb-false 4096 n (s .1))))
 
-reach-less : (repeats : Bool) (pm list n k : ℕ) → k ≤ n → listShort repeats pm list n ≡ false → listShort repeats pm list k ≡ false
-unfolding listShort outrun
-reach-less repeats pm list n k h e = go repeats (eqb list 0) e
+outrun-less : (k list n j : ℕ) → j ≤ n → outrun k list n ≡ false → outrun k list j ≡ false
+unfolding outrun
+outrun-less k list n j h e = go (eqb list 0) e
   where
-    go : (r none : Bool) → (not r && (not none && ltb (list / pm) n)) ≡ false → (not r && (not none && ltb (list / pm) k)) ≡ false
-    go true none e = refl
-    go false true e = refl
-    go false false e = le-ltb (list / pm) k (omega (arith, ltb-false (list / pm) n e))
+    go : (none : Bool) → (not none && ltb (list / k) n) ≡ false → (not none && ltb (list / k) j) ≡ false
+    go true e = refl
+    go false e = le-ltb (list / k) j (omega (arith, ltb-false (list / k) n e))
+
+reach-less : (repeats : Bool) (pm list n j : ℕ) → j ≤ n → listShort repeats pm list n ≡ false → listShort repeats pm list j ≡ false
+unfolding listShort
+reach-less true pm list n j h e = refl
+reach-less false pm list n j h e = outrun-less pm list n j h e
 
 shorter-sizes : (p m r n k : ℕ) (ns : List (List ℕ)) → badSizes p m r (n + k) ns ≡ false → badSizes p m r n ns ≡ false
 unfolding badSizes
@@ -175,7 +179,7 @@ module _ (x : Model) (o : Offsets) (w : From) (n k : ℕ) (last : Bool) (y y′ 
         let b : eqb (length (map classOf z)) (j * x .p) ≡ true = eq-eqb _ _ (length-map z classOf ∙ q) in
         rw (a, b)
 
-    -- all tests but 1, 2, 9, 15 and 14 are the uncut call's; and a list that reaches the uncut run's end reaches that of a part of it
+    -- all tests but 1, 2, 9, 15 and the lists' reach are the uncut call's; and a list that reaches the uncut run's end reaches that of a part of it
     part-free : (j : ℕ) (z : List Float) (room bad : Bool) (done : ℕ) → j ≤ n + k → done + j ≤ pastIn (lasting (n + k) x) w .done + (n + k) → length z ≡ j * x .p → anyOf isInfinity (map classOf z) ≡ false → room ≡ true → bad ≡ false → stretchRefusal (lasting j x) o (length (map classOf z)) (anyOf isInfinity (map classOf z)) room bad done ≡ 0
     unfolding noise
     part-free j z room bad done less within long finite roomy ok =
@@ -186,6 +190,7 @@ module _ (x : Model) (o : Offsets) (w : From) (n k : ℕ) (last : Bool) (y y′ 
           others = all .others;
           finite = finite;
           saved = ok;
+          steps = outrun-less (x .m * x .m) (length (x .tList)) _ _ within (all .steps);
           reach = reach-less (x .repeats) (x .p * x .m) (length (x .zList)) _ _ within (all .reach);
         })
 

@@ -19,6 +19,9 @@ pub mod StretchCall
 pub mod Stretches
 -- the marker of a list that runs out
 pub mod Marked
+-- which T a step takes, and a list of equal ones
+pub mod Steps
+pub mod Copies
 -- tables that ignore the offsets too
 pub mod Offsets
 -- what is mirrored, and what is not

@@ -2,17 +2,17 @@
 -- get past refusals 1 to 11 agree in the covariance half. That is all that demand 3 lists, refusal 12 with it: `Same` of Values spells it out.
 use mathlib.Core.Path.{_≡_, refl, sym, ap, _∙_, subst}
 use mathlib.Core.Logic.{_⊎_, inl, ⊎-elim}
-use Prim.Native.Nat.{ℕ, zero, suc, _+_, _<_}
+use Prim.Native.Nat.{ℕ, zero, suc, _+_, _*_, _<_}
 use native.Mathlib.Omega.{arith}
 use mathlib.Core.Bool.{Bool, true, false, cond}
 use mathlib.Core.List.{List, [], _∷_}
-use lib.ListN.{take}
+use lib.ListN.{length, take}
 use lib.Dec.{T, ltb, ltb→lt}
 use lib.Ieee.{Float}
 use lib.Ieee.Fits.{and-l, and-r}
 use borrow.Author.Tests.{ltb-false}
 use Rattle.definition.specs.Inputs.{Model, Offsets}
-use Rattle.definition.specs.Refusals.{firstOf, ofReach, tests, refusal}
+use Rattle.definition.specs.Refusals.{listShort, firstOf, tests, refusal}
 use Rattle.definition.specs.Outcome.{CovParts, MeanParts, CovOutcome, SmoothedCov, endingOf, numberOf, ending, covOutcome, outcome, outcomeAt, smoothOutcome, smoothOutcomeAt}
 use Rattle.definition.specs.Saved.{savedNeed}
 use Rattle.definition.specs.Stretch.{StretchOutcome, stretchTests, stretchRefusal, stretchEnding, covStretch, stretchOutcome}
@@ -55,12 +55,15 @@ left-of es quiet h a = left es h (before (firstOf es) a)
 
 -- of the filter's call 14 is left, which goes by the model alone; of a stretch 15 too
 module _ (x : Model) (o : Offsets) (readings : ℕ) (infinity room : Bool) where
-  admitted : (quiet : Bool) → Admitted (numberOf (endingOf (refusal x o readings infinity room) quiet)) → refusal x o readings infinity room ≡ firstOf (ofReach x (x .n))
+  abbrev ofDesigns : ℕ → List (ℕ × Bool)
+  ofDesigns periods = (14, listShort (x .repeats) (x .p * x .m) (length (x .zList)) periods) ∷ []
+
+  admitted : (quiet : Bool) → Admitted (numberOf (endingOf (refusal x o readings infinity room) quiet)) → refusal x o readings infinity room ≡ firstOf (ofDesigns (x .n))
   unfolding refusal tests
   admitted quiet = left-of (tests x o readings infinity room) quiet tt
 
   admitted-stretch : (bad : Bool) (done : ℕ) (quiet : Bool) → Admitted (numberOf (endingOf (stretchRefusal x o readings infinity room bad done) quiet))
-      → stretchRefusal x o readings infinity room bad done ≡ firstOf ((15, bad) ∷ ofReach x (done + x .n))
+      → stretchRefusal x o readings infinity room bad done ≡ firstOf ((15, bad) ∷ ofDesigns (done + x .n))
   unfolding stretchRefusal stretchTests
   admitted-stretch bad done quiet = left-of (stretchTests x o readings infinity room bad done) quiet tt
 

@@ -17,10 +17,10 @@ use Rattle.definition.specs.Refusals.{outside, badLength, outrun, listShort, ba
 use Rattle.definition.specs.Parts.{CovPart, MeanPart}
 use Rattle.definition.specs.Outcome.{CovParts, MeanParts, CovOutcome, MeanOutcome, SmoothedCov, SmoothedMean, Ending, turned, silent, endingOf, numberOf, ending, after, kindsNeed, covNeed, meanNeed, smoothedCovNeed, smoothedMeanNeed, roomy, roomySmoothed, noInformation, covOutcome, meanOutcome, outcome, outcomeAt, smoothedCov, smoothedMean, smoothOutcome, smoothOutcomeAt}
 use Rattle.laws.specs.Any.{infinite-classes}
-use Rattle.laws.specs.Accepted.{InputsFit, positive, says-inputs, says-roomy}
+use Rattle.laws.specs.Accepted.{Chosen, InputsFit, positive, says-inputs, says-roomy}
 use Rattle.laws.specs.Numbered.{numbered, orElse, joined, not-twelve}
 use Rattle.laws.specs.Says.{Says, says-itself, says-as, says-of, says-not, says-and, says-or, says-eq, says-le, says-lt, says-below, says-within}
-use Rattle.demands.specs.Conditions.{NotFinite, Negative, Some, OutOf, Dimension, Lengths, ListShort, NonFiniteSystem, NonFiniteStart, NotPsd, OffDiagonal, Flagged, Misshapen, StartShape, InfiniteReading, MixedDriven, ran, NoInformation, Room, RoomSmooth, OfSizes, OfLengths, OfReach, OfSystem, OfStart, OfH, OfReadings, OfStep, OfRun, OfEntries, table, First}
+use Rattle.demands.specs.Conditions.{NotFinite, Negative, Some, OutOf, Dimension, EitherPart, Lengths, Outrun, ListShort, NonFiniteSystem, NonFiniteStart, NotPsd, OffDiagonal, Flagged, Misshapen, StartShape, InfiniteReading, firstStep, MixedDriven, ran, NoInformation, Room, RoomSmooth, OfSizes, OfLengths, OfSteps, OfReach, OfSystem, OfStart, OfH, OfReadings, OfStep, OfRun, OfEntries, table, First}
 
 -- ---- each test of the definition says its condition
 
@@ -34,6 +34,19 @@ says-dimension : (x : Model) → Says (outside (x .p) (x .m) (x .r) (x .n)) (Dim
 unfolding outside
 says-dimension x = says-or (says-or (says-or (says-out 8 (x .p)) (says-out 8 (x .m))) (says-out 8 (x .r))) (says-out 4096 (x .n))
 
+-- Z's two parts, and T's
+to-either : (k : ℕ) (once list : List Float) → Chosen k (length once) (length list) → EitherPart k once list
+to-either k once list =
+    ⊎-elim
+    (λ d. inl (record { whole = d .one; none = d .none }))
+    (λ d. inr (record { none = d .none; whole = d .whole; some = λ e. omega (arith, d .some); few = d .most }))
+
+from-either : (k : ℕ) (once list : List Float) → EitherPart k once list → Chosen k (length once) (length list)
+from-either k once list =
+    ⊎-elim
+    (λ d. inl (record { one = d .whole; none = d .none }))
+    (λ d. inr (record { none = d .none; whole = d .whole; some = positive _ (d .some); most = d .few }))
+
 says-lengths : (x : Model) (o : Offsets) (y : List Float) (room : Bool) (Room : Type 0) → Says room Room → Says (badLength x o (length (map classOf y)) room) (Lengths x o y Room → ⊥)
 unfolding badLength
 says-lengths x o y room Room s =
@@ -42,9 +55,9 @@ says-lengths x o y room Room s =
     (λ h.
     let i = h .0 .0 in
     record {
-      z = ⊎-elim (λ d. inl (record { whole = d .one; none = d .none })) (λ d. inr (record { none = d .none; whole = d .whole; some = λ e. omega (arith, d .some); few = d .most })) (i .design);
+      z = to-either _ (x .zOnce) (x .zList) (i .design);
       h = i .h;
-      t = i .t;
+      t = to-either _ (x .tOnce) (x .tList) (i .transition);
       rr = i .rr;
       q = i .q;
       c = i .c;
@@ -58,9 +71,9 @@ says-lengths x o y room Room s =
     (λ h.
     let i : InputsFit x o =
     record {
-      design = ⊎-elim (λ d. inl (record { one = d .whole; none = d .none })) (λ d. inr (record { none = d .none; whole = d .whole; some = positive _ (d .some); most = d .few })) (h .z);
+      design = from-either _ (x .zOnce) (x .zList) (h .z);
       h = h .h;
-      t = h .t;
+      transition = from-either _ (x .tOnce) (x .tList) (h .t);
       rr = h .rr;
       q = h .q;
       c = h .c;
@@ -72,24 +85,27 @@ says-lengths x o y room Room s =
     ((i, length-map y classOf ∙ h .readings), h .room))
     (says-and (says-and (says-inputs x o) (says-eq (length (map classOf y)) (x .n * x .p))) s))
 
+pub says-outrun : (k : ℕ) (list : List Float) (periods : ℕ) → Says (outrun k (length list) periods) (Outrun k list periods)
+unfolding outrun
+says-outrun k list periods = says-and (says-not (says-eq (length list) 0)) (says-lt (length list / k) periods)
+
+pub not-outrun : (k : ℕ) (list : List Float) (periods : ℕ) → (Outrun k list periods → ⊥) → outrun k (length list) periods ≡ false
+not-outrun k list periods h = is-false _ (says-not (says-outrun k list periods) .from h)
+
 pub says-short : (x : Model) (periods : ℕ) → Says (listShort (x .repeats) (x .p * x .m) (length (x .zList)) periods) (ListShort x periods)
-unfolding listShort outrun
-says-short x periods =
-    says-as
-    (λ h. (h .0, h .1 .0, h .1 .1))
-    (λ h. (h .0, (h .1, h .2)))
-    (says-and
-    (says-not (says-itself (x .repeats)))
-    (says-and (says-not (says-eq (length (x .zList)) 0)) (says-lt (length (x .zList) / (x .p * x .m)) periods)))
+unfolding listShort
+says-short x periods = says-and (says-not (says-itself (x .repeats))) (says-outrun (x .p * x .m) (x .zList) periods)
 
 pub not-short : (x : Model) (periods : ℕ) → (ListShort x periods → ⊥) → listShort (x .repeats) (x .p * x .m) (length (x .zList)) periods ≡ false
 not-short x periods h = is-false _ (says-not (says-short x periods) .from h)
 
-says-system : (x : Model) → Says (badSystem (x .zOnce) (x .zList) (x .h) (x .t) (x .rr) (x .q)) (NonFiniteSystem x)
+says-system : (x : Model) → Says (badSystem (x .zOnce) (x .zList) (x .h) (x .tOnce) (x .tList) (x .rr) (x .q)) (NonFiniteSystem x)
 unfolding badSystem
 says-system x =
     says-or
-    (says-or (says-or (says-or (says-or (says-finite (x .zOnce)) (says-finite (x .zList))) (says-finite (x .h))) (says-finite (x .t))) (says-finite (x .rr)))
+    (says-or
+    (says-or (says-or (says-or (says-or (says-finite (x .zOnce)) (says-finite (x .zList))) (says-finite (x .h))) (says-finite (x .tOnce))) (says-finite (x .tList)))
+    (says-finite (x .rr)))
     (says-finite (x .q))
 
 says-start : (x : Model) (o : Offsets) → Says (badStart (o .c) (o .d) (o .a1) (x .pStar)) (NonFiniteStart x o)
@@ -133,7 +149,7 @@ says-shape x o =
 says-infinite : (y : List Float) → Says (anyOf isInfinity (map classOf y)) (InfiniteReading y)
 says-infinite y = says-of (infinite-classes y) (says-within (λ v. says-itself (isInfinite v)) y nan)
 
-says-driven : (x : Model) → Says (mixedDriven (x .m) (x .t) (x .flags)) (MixedDriven x)
+says-driven : (x : Model) → Says (mixedDriven (x .m) (firstStep x) (x .flags)) (MixedDriven x)
 unfolding mixedDriven drivenRow drivenAt
 says-driven x =
     says-below
@@ -143,7 +159,7 @@ says-driven x =
     says-as
     (λ h. (h .0 .0, h .0 .1, h .1))
     (λ h. ((h .0, h .1), h .2))
-    (says-and (says-and (says-not (says-flagged x i)) (says-flagged x j)) (says-not (says-itself (isZero (ent (x .m) (x .t) i j))))))
+    (says-and (says-and (says-not (says-flagged x i)) (says-flagged x j)) (says-not (says-itself (isZero (ent (x .m) (firstStep x) i j))))))
     (x .m))
     (x .m)
 
@@ -207,8 +223,11 @@ pub reads-lengths : (x : Model) (o : Offsets) (y : List Float) (room : Bool) (Ro
     → Reads (ofLengths x o (length (map classOf y)) room) (OfLengths x o y Room)
 reads-lengths x o y room Room s = record { rows = ((refl, says-lengths x o y room Room s), tt) }
 
+pub reads-steps : (x : Model) (periods : ℕ) → Reads ((2, outrun (x .m * x .m) (length (x .tList)) periods) ∷ []) (OfSteps x periods)
+reads-steps x periods = record { rows = ((refl, says-outrun (x .m * x .m) (x .tList) periods), tt) }
+
 pub reads-reach : (x : Model) (periods : ℕ) → Reads (ofReach x periods) (OfReach x periods)
-reads-reach x periods = record { rows = ((refl, says-short x periods), tt) }
+reads-reach x periods = record { rows = (reads-steps x periods .rows .0, ((refl, says-short x periods), tt)) }
 
 pub reads-system : (x : Model) → Reads (ofSystem x) (OfSystem x)
 reads-system x = record { rows = ((refl, says-system x), ((refl, says-psd x), ((refl, says-off (x .r) (x .q)), tt))) }

@@ -1,5 +1,5 @@
 -- A stretch's table of refusals, document 02's: each condition as a statement about what the caller lends, in its order. 2 to 11 are the filter's
--- call's, and so is 14, over the periods done and the stretch's.
+-- call's, and so are T's reach (2) and 14, over the periods done and the stretch's.
 use mathlib.Core.Path.{_≡_}
 use Prim.Native.Nat.{ℕ, _+_, _*_, _≤_, _<_}
 use mathlib.Core.Bool.{Bool}
@@ -61,7 +61,7 @@ counted x w y = pastOn x (pastIn x w) (map classOf y) .counts
 abbrev pub StretchSilent : Model → From → Bool → List Float → Type 0
 StretchSilent x w last y = T last × ((0 < counted x w y .heard) × (counted x w y .news ≡ 0))
 
--- ---- the table: 15 after 11, then 14, and 12 at the end
+-- ---- the table: 15 after 11, then the lists' reach, 2 and 14, and 12 at the end
 
 abbrev pub stretchTable : Model → Offsets → From → Bool → List Float → Type 0 → List (ℕ × Type 0)
 stretchTable x o w last y Room =

@@ -1,6 +1,6 @@
 -- The refusals of a stretch, as a table of conditions on what the caller hands over: it refuses with the number of the first that applies, 15 after
--- 11, then 14, and 12 at the end (`refuses`); 12 blanks what the stretch lent and saves nothing (`blanked`); the others leave every lent part as it
--- was (`keeps`). The last stretch saves nothing (`last-keeps`); none writes past a saved run's length (`tail-keeps`).
+-- 11, then the lists' reach, 2 and 14, and 12 at the end (`refuses`); 12 blanks what the stretch lent and saves nothing (`blanked`); the others leave
+-- every lent part as it was (`keeps`). The last stretch saves nothing (`last-keeps`); none writes past a saved run's length (`tail-keeps`).
 use mathlib.Core.Path.{_≡_, refl, ap, _∙_}
 use mathlib.Core.Logic.{inl, inr, ⊎-elim, _↔_}
 use Prim.Native.Nat.{ℕ, _+_, _*_, _<_}

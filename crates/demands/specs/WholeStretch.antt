@@ -1,9 +1,9 @@
--- A stretch that begins, is the last and has a period is the filter's call (`whole`), unless its list of designs is short. The filter's call tells
--- that right after 2, a stretch after 15: so of a short list and a refusal from 3 to 11 the one tells 14, the other that refusal. Either way both are
--- turned away (`reaches`, `reaches-stretch`).
+-- A stretch that begins, is the last and has a period is the filter's call (`whole`), unless its list of designs or of transitions is short. The
+-- filter's call tells that right after 2, a stretch after 15: so of a short list and a refusal from 3 to 11 the one tells 14 or 2, the other that
+-- refusal. Either way both are turned away (`reaches`, `reaches-stretch`).
 use mathlib.Core.Path.{_≡_, refl, ap, ap₂, _∙_, subst}
-use mathlib.Core.Logic.{_⊎_}
-use Prim.Native.Nat.{ℕ, _+_, _<_}
+use mathlib.Core.Logic.{_⊎_, inl, inr, ⊎-elim}
+use Prim.Native.Nat.{ℕ, _+_, _*_, _<_}
 use native.Mathlib.Nat.{zero-add}
 use native.Mathlib.Omega.{arith}
 use mathlib.Core.Bool.{Bool, true, false, _&&_}
@@ -22,8 +22,8 @@ use Rattle.definition.specs.Stretch.{From, StretchOutcome, pastIn, meanIn, mean
 use Rattle.laws.specs.Numbered.{first-none, not-twelve}
 use Rattle.laws.specs.Kept.{begun}
 use Rattle.laws.specs.AcceptedStretch.{passes, not-turned, free}
-use Rattle.demands.specs.Conditions.{ListShort}
-use Rattle.demands.specs.Refusals.{says-short, not-short}
+use Rattle.demands.specs.Conditions.{SomeShort}
+use Rattle.demands.specs.Refusals.{says-outrun, not-outrun, says-short, not-short}
 
 -- a run's start
 abbrev pub start : From
@@ -38,11 +38,12 @@ pub same-outside : (p m r n : ℕ) → 0 < n → outsideStretch p m r n ≡ outs
 unfolding outsideStretch outside
 same-outside p m r n h = let e : eqb n 0 ≡ false = ne-eqb n 0 (λ z. omega arith) in rw e
 
-pub same-refusal : (x : Model) (o : Offsets) (n : ℕ) (infinity room : Bool) → 0 < x .n → (ListShort x (x .n) → ⊥) → stretchRefusal x o n infinity room false 0 ≡ refusal x o n infinity room
+pub same-refusal : (x : Model) (o : Offsets) (n : ℕ) (infinity room : Bool) → 0 < x .n → (SomeShort x (x .n) → ⊥) → stretchRefusal x o n infinity room false 0 ≡ refusal x o n infinity room
 unfolding stretchRefusal stretchTests refusal tests firstOf
-same-refusal x o n infinity room h reaches = rw (zero-add (x .n), not-short x (x .n) reaches, same-outside (x .p) (x .m) (x .r) (x .n) h) refl
+same-refusal x o n infinity room h reaches =
+    rw (zero-add (x .n), not-outrun (x .m * x .m) (x .tList) (x .n) (λ s. reaches (inl s)), not-short x (x .n) (λ s. reaches (inr s)), same-outside (x .p) (x .m) (x .r) (x .n) h) refl
 
-module _ (x : Model) (o : Offsets) (some : 0 < x .n) (reaches : ListShort x (x .n) → ⊥) where
+module _ (x : Model) (o : Offsets) (some : 0 < x .n) (reaches : SomeShort x (x .n) → ⊥) where
   same-counts : (ks : List Class) → pastOn x (begunPast x) ks .counts ≡ countsOf (covOf x ks .0) ks
   unfolding pastOn plus begunPast covFrom covOf
   same-counts ks = rw (zero-add (countsOf (covOf x ks .0) ks .dDiffuse), zero-add (countsOf (covOf x ks .0) ks .heard), zero-add (countsOf (covOf x ks .0) ks .news))
@@ -80,15 +81,18 @@ module _ (x : Model) (o : Offsets) (some : 0 < x .n) (reaches : ListShort x (x .
       made : (c c′ : CovOutcome) (s s′ : MeanOutcome) (v v′ : List ℕ) → c ≡ c′ → s ≡ s′ → v ≡ v′ → _≡_ {A = StretchOutcome} (record { cov = c; mean = s; save = v }) (record { cov = c′; mean = s′; save = v′ })
       made c c′ s s′ v v′ p q r = cc
 
--- ---- of a call that is not turned away the list is not short
+-- ---- of a call that is not turned away no list is short
 
 module _ (x : Model) (o : Offsets) (y : List Float) (b : CovParts) (b′ : MeanParts) where
-  pub reaches : (outcome x o y b b′ .0 .refused ≡ 0) ⊎ (outcome x o y b b′ .0 .refused ≡ 12) → ListShort x (x .n) → ⊥
+  pub reaches : (outcome x o y b b′ .0 .refused ≡ 0) ⊎ (outcome x o y b b′ .0 .refused ≡ 12) → SomeShort x (x .n) → ⊥
   unfolding outcome outcomeAt covOutcome ending refusal tests
   reaches e short =
       let none = first-none (tests x o (length (map classOf y)) (anyOf isInfinity (map classOf y)) (roomy x b b′)) tt (not-turned _ _ (not-twelve x o _ _ _) e) in
-      subst T (none .1 .1 .0) (says-short x (x .n) .from short)
+      ⊎-elim (λ s. subst T (none .1 .1 .0) (says-outrun (x .m * x .m) (x .tList) (x .n) .from s)) (λ s. subst T (none .1 .1 .1 .0) (says-short x (x .n) .from s)) short
 
   pub reaches-stretch : (w : From) (last : Bool) (save : List ℕ) → (stretchOutcome x o w last y b b′ save .cov .refused ≡ 0) ⊎ (stretchOutcome x o w last y b b′ save .cov .refused ≡ 12)
-      → ListShort x (pastIn x w .done + x .n) → ⊥
-  reaches-stretch w last save e short = subst T (passes x o _ _ _ _ _ (free x o w last y b b′ save e) .reach) (says-short x (pastIn x w .done + x .n) .from short)
+      → SomeShort x (pastIn x w .done + x .n) → ⊥
+  reaches-stretch w last save e short =
+      let past = passes x o _ _ _ _ _ (free x o w last y b b′ save e) in
+      let long = pastIn x w .done + x .n in
+      ⊎-elim (λ s. subst T (past .steps) (says-outrun (x .m * x .m) (x .tList) long .from s)) (λ s. subst T (past .reach) (says-short x long .from s)) short

@@ -1,7 +1,7 @@
 // smoother.rs, one element back through the covariances: N0, N1 and N2 from those after it; and L and K1, of which the means' way back takes entries
-// too. Gains here multiply by 1 / F.
+// too; and the period before one. Gains here multiply by 1 / F.
 ghost use mathlib.Core.Path.{_≡_};
-ghost use Prim.Native.Nat.{_≤_};
+ghost use Prim.Native.Nat.{_≤_, _-_};
 ghost use mathlib.Core.Bool.{Bool, cond};
 ghost use mathlib.Core.List.{List};
 ghost use lib.Ieee.{Float};
@@ -12,6 +12,13 @@ ghost use Rattle.dense.specs.Views.{vec, mat};
 ghost use Rattle.dense.specs.Places.{Within};
 ghost use Rattle.laws.specs.Flat.{decisionOf};
 ghost use Rattle.element_back.specs.View.{nsIn};
+
+// The period before t: the step back from t takes its T, which led into t. Nothing reads the step back from period 0, and it takes the T of 0.
+pub fn before(t: usize) -> usize
+    ensures { λ r. ⌜ r ≡ t - 1 ⌝ }
+{
+    if t == 0 { 0 } else { t - 1 }
+}
 
 // F1 = 1 / F∞. It is also 1 / F* of a usual element.
 pub fn f_one(f_inf: f64) -> f64

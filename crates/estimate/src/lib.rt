@@ -1,4 +1,5 @@
-// What the library makes of a sheet: its call, and the numbers of its answer that are shown. The outputs of 4096 periods stand on the stack, 2.1 MB.
+// What the library makes of a sheet: its call, and the numbers of its answer that are shown. The outputs of 4096 periods stand on the stack, and a T for
+// each, 2.4 MB.
 ghost use Prim.Native.Nat.{_≤_};
 use sheet::answers::Settings;
 
@@ -24,6 +25,9 @@ pub fn estimate(
     let mut m_inf = [0.0; 24576];
     let mut sm_mean = [0.0; 12288];
     let mut sm_cov = [0.0; 36864];
+    let t = clock::transition(s);
+    let mut list = [0.0; 36864];
+    clock::transitions(s, &mut list);
     let outcome = goxundar::smooth(
         2,
         3,
@@ -33,7 +37,8 @@ pub fn estimate(
         &[],
         false,
         &clock::noise(s),
-        &clock::transition(s),
+        clock::once(s, &t),
+        clock::listed(s, &list),
         &clock::identity(),
         &clock::disturbances(s),
         &[0.0; 3],

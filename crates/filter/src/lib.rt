@@ -16,7 +16,8 @@ pub fn run<'a>(
     zs: &'a [f64],
     repeats: bool,
     h: &[f64],
-    t: &[f64],
+    t: &'a [f64],
+    ts: &'a [f64],
     rr: &[f64],
     q: &[f64],
     rqr: &[f64; 64],
@@ -39,14 +40,14 @@ pub fn run<'a>(
     m_inf: &mut [f64],
 ) -> promise::Outcome
     requires { ⌜ FitOn
-        (modelOf p m r n (now z) (now zs) repeats (now h) (now t) (now rr) (now q) (now «p_star») (now flags))
+        (modelOf p m r n (now z) (now zs) repeats (now h) (now t) (now ts) (now rr) (now q) (now «p_star») (now flags))
         (offsetsOf (now c) (now d) (now a1)) (length (now y)) (now rqr)
         (covParts (now «pred_cov») (now «pred_inf») (now «filt_cov») (now kinds)
         (now «f_star») (now «f_inf») (now «m_star») (now «m_inf»))
         (meanParts (now «pred_mean») (now «filt_mean») (now v)) 0 0 nothing ⌝ }
     ensures { λ o. ⌜ Run
         (modelOf p m r n (now (z .entry)) (now (zs .entry)) repeats (now (h .entry)) (now (t .entry))
-        (now (rr .entry)) (now (q .entry)) (now («p_star» .entry)) (now (flags .entry)))
+        (now (ts .entry)) (now (rr .entry)) (now (q .entry)) (now («p_star» .entry)) (now (flags .entry)))
         (offsetsOf (now (c .entry)) (now (d .entry)) (now (a1 .entry))) (now (y .entry))
         (covParts (now («pred_cov» .entry)) (now («pred_inf» .entry)) (now («filt_cov» .entry)) (now (kinds .entry))
         (now («f_star» .entry)) (now («f_inf» .entry)) (now («m_star» .entry)) (now («m_inf» .entry)))
@@ -68,6 +69,7 @@ pub fn run<'a>(
         repeats,
         h,
         t,
+        ts,
         rr,
         q,
         rqr,
@@ -113,7 +115,8 @@ pub fn filter_univariate<'a>(
     zs: &'a [f64],
     repeats: bool,
     h: &[f64],
-    t: &[f64],
+    t: &'a [f64],
+    ts: &'a [f64],
     rr: &[f64],
     q: &[f64],
     c: &[f64],
@@ -136,7 +139,7 @@ pub fn filter_univariate<'a>(
 ) -> promise::Outcome
     ensures { λ o. ⌜ Filtered
         (given p m r n
-        (now (z .entry)) (now (zs .entry)) repeats (now (h .entry)) (now (t .entry)) (now (rr .entry)) (now (q .entry))
+        (now (z .entry)) (now (zs .entry)) repeats (now (h .entry)) (now (t .entry)) (now (ts .entry)) (now (rr .entry)) (now (q .entry))
         (now (c .entry)) (now (d .entry)) (now (a1 .entry)) (now («p_star» .entry)) (now (flags .entry)) (now (y .entry)))
         (lent
         (now («pred_mean» .entry)) (now («pred_cov» .entry)) (now («pred_inf» .entry))
@@ -178,6 +181,7 @@ pub fn filter_univariate<'a>(
         repeats,
         h,
         t,
+        ts,
         rr,
         q,
         c,
@@ -202,6 +206,7 @@ pub fn filter_univariate<'a>(
         repeats,
         h,
         t,
+        ts,
         rr,
         q,
         &rqr,

@@ -26,7 +26,7 @@ use Rattle.laws.specs.Passes.{Laid, count-le}
 use Rattle.laws.specs.ReadBack.{rows-back, kinds-count}
 use Rattle.laws.specs.Shapes.{Sized, run-whole, run-length}
 use Rattle.laws.specs.Told.{offAt, cov-told, mean-told}
-use Rattle.model.specs.Past.{design-fits, start-fits}
+use Rattle.model.specs.Past.{design-fits, transition-fits, start-fits}
 use Rattle.carried.specs.State.{StateFits, covIn, covFrom, meanFrom, meanKept}
 use Rattle.carried.specs.Beside.{mean-beside}
 use Rattle.cov.specs.Counts.{isKept}
@@ -42,13 +42,13 @@ use Rattle.forward.specs.View.{FitOn, Few, Ran, countedOn, reportedOn, c
 -- ---- what the passes may ask for
 
 module _ {x : Model} {o : Offsets} {y : ℕ} {rqr : List Float} {w : CovParts} {w′ : MeanParts} {size done : ℕ} {before : Answer} (f : FitOn x o y rqr w w′ size done before) where
-  pub cov-ready : {listed : ℕ} → listed ≡ length (x .zList) / (x .p * x .m) → covs.Ready (x .p) (x .m) (x .n) listed (length (x .zOnce)) (length (x .zList)) (length (x .h)) (length (x .t)) (length (x .pStar)) (length (x .flags)) y
-  cov-ready e =
+  pub cov-ready : covs.Ready (x .p) (x .m) (x .n) (length (x .zOnce)) (length (x .zList)) (length (x .h)) (length (x .tOnce)) (length (x .tList)) (length (x .pStar)) (length (x .flags)) y
+  cov-ready =
       record {
         n4096 = f .sizes .n4096;
-        design = design-fits (f .sizes) (f .inputs) e;
+        design = design-fits (f .sizes) (f .inputs);
         noise = f .inputs .h;
-        transition = f .inputs .t;
+        transition = transition-fits (f .sizes) (f .inputs);
         start = start-fits (f .sizes) (f .inputs);
         readings = f .readings;
       }
@@ -82,13 +82,13 @@ module _ {x : Model} {o : Offsets} {y : ℕ} {rqr : List Float} {w : CovParts} {
   unfolding kindsNeed
   records e = as-long (f .room .kinds) e
 
-  pub mean-ready : {listed : ℕ} (k : List ℕ) (a b c d : List Float) → listed ≡ length (x .zList) / (x .p * x .m) → length k ≡ length (w .kinds) → length a ≡ length (w .part fStar) → length b ≡ length (w .part fInf) → length c ≡ length (w .part mStar) → length d ≡ length (w .part mInf) → means.Ready (x .p) (x .m) (x .n) listed (length (x .zOnce)) (length (x .zList)) (length (x .t)) (length (o .c)) (length (o .d)) (length (o .a1)) y (flatIn k a b c d)
+  pub mean-ready : (k : List ℕ) (a b c d : List Float) → length k ≡ length (w .kinds) → length a ≡ length (w .part fStar) → length b ≡ length (w .part fInf) → length c ≡ length (w .part mStar) → length d ≡ length (w .part mInf) → means.Ready (x .p) (x .m) (x .n) (length (x .zOnce)) (length (x .zList)) (length (x .tOnce)) (length (x .tList)) (length (o .c)) (length (o .d)) (length (o .a1)) y (flatIn k a b c d)
   unfolding kindsNeed covNeed
-  mean-ready k a b c d e ek ea eb ec ed =
+  mean-ready k a b c d ek ea eb ec ed =
       record {
         n4096 = f .sizes .n4096;
-        design = design-fits (f .sizes) (f .inputs) e;
-        transition = f .inputs .t;
+        design = design-fits (f .sizes) (f .inputs);
+        transition = transition-fits (f .sizes) (f .inputs);
         shift = f .inputs .c;
         intercepts = f .inputs .d;
         start = f .inputs .a1;
@@ -133,7 +133,7 @@ news-are k r ks₀ ks l =
 module _ (x : Model) (y s : List Float) (live : Bool) where
   -- the covariance pass's run, by the R Q R' that it was handed
   abbrev covRan : List Float → List CovPeriod × Cov
-  covRan rqr = covRun (systemFrom (x .p) (x .m) (x .zOnce) (x .zList) (x .h) (x .t) (mat (x .m) rqr)) 0 (covFrom (x .m) s live (x .pStar) (x .flags)) (gapRows (x .n) (x .p) (map classOf y))
+  covRan rqr = covRun (systemFrom (x .p) (x .m) (x .zOnce) (x .zList) (x .h) (x .tOnce) (x .tList) (mat (x .m) rqr)) 0 (covFrom (x .m) s live (x .pStar) (x .flags)) (gapRows (x .n) (x .p) (map classOf y))
 
   abbrev run : List CovPeriod × Cov
   run = covOn x s live (map classOf y)
@@ -187,7 +187,7 @@ answer-is e f g h q = cc
 module _ (x : Model) (o : Offsets) (y rqr s s₁ s₂ : List Float) (live : Bool) (done : ℕ) (before : Answer) (end : Ended) (heard news cov-off mean-off : ℕ) (with-counts a : Answer) (pm₀ pm fm₀ fm vs₀ vs pc₀ pc pi₀ pi fc₀ fc : List Float) (ks₀ ks : List ℕ) (fs₀ fs fi₀ fi ms₀ ms mi₀ mi : List Float) where
   -- the mean pass's run, over the records that the covariance pass left
   abbrev meanRan : Float → List MeanPeriod × Mean
-  meanRan l = meanRun (frameFrom (x .p) (x .m) (x .zOnce) (x .zList) (x .t)) (record { c = o .c; d = o .d }) 0 (record { a = meanFrom (x .m) s₁ (o .a1); loglik = l }) (means.entries (x .n) (x .p) (x .m) (flatIn ks fs fi ms mi) y)
+  meanRan l = meanRun (frameFrom (x .p) (x .m) (x .zOnce) (x .zList) (x .tOnce) (x .tList)) (record { c = o .c; d = o .d }) 0 (record { a = meanFrom (x .m) s₁ (o .a1); loglik = l }) (means.entries (x .n) (x .p) (x .m) (flatIn ks fs fi ms mi) y)
 
   -- the answer that it goes on from
   abbrev counts : Answer
@@ -224,8 +224,8 @@ module _ (x : Model) (o : Offsets) (y rqr s s₁ s₂ : List Float) (live : Bool
   run-is st ly c l =
       let e = rows x y s live ly (c .kinds) (c .stars) (c .infs) (c .m-stars) (c .m-infs) in
       let b : meanFrom (x .m) s₁ (o .a1) ≡ meanFrom (x .m) s (o .a1) = ap (λ (z : List Float). meanFrom (x .m) z (o .a1)) (c .state) ∙ mean-beside (x .m) s _ _ _ _ (o .a1) st in
-      ap (λ (z : List Float). meanRun (frameFrom (x .p) (x .m) (x .zOnce) (x .zList) (x .t)) (record { c = o .c; d = o .d }) 0 (record { a = z; loglik = l }) (pairs (decisionRows (x .n) (x .p) (x .m) (flatIn ks fs fi ms mi)) (chunks (x .n) (x .p) y))) b
-      ∙ ap (λ (ds : List (List Decision)). meanRun (frameFrom (x .p) (x .m) (x .zOnce) (x .zList) (x .t)) (record { c = o .c; d = o .d }) 0 (record { a = meanFrom (x .m) s (o .a1); loglik = l }) (pairs ds (chunks (x .n) (x .p) y))) e
+      ap (λ (z : List Float). meanRun (frameFrom (x .p) (x .m) (x .zOnce) (x .zList) (x .tOnce) (x .tList)) (record { c = o .c; d = o .d }) 0 (record { a = z; loglik = l }) (pairs (decisionRows (x .n) (x .p) (x .m) (flatIn ks fs fi ms mi)) (chunks (x .n) (x .p) y))) b
+      ∙ ap (λ (ds : List (List Decision)). meanRun (frameFrom (x .p) (x .m) (x .zOnce) (x .zList) (x .tOnce) (x .tList)) (record { c = o .c; d = o .d }) 0 (record { a = meanFrom (x .m) s (o .a1); loglik = l }) (pairs ds (chunks (x .n) (x .p) y))) e
 
   pub few-diffuse : FitOn x o (length y) rqr (covParts pc₀ pi₀ fc₀ ks₀ fs₀ fi₀ ms₀ mi₀) (meanParts pm₀ fm₀ vs₀) (length s) done before → CovPassed (covRan x y s live rqr) → end .diffuse ≤ x .n
   few-diffuse f cp =

@@ -58,7 +58,8 @@ pub fn run<'a>(
     zs: &'a [f64],
     repeats: bool,
     h: &[f64],
-    t: &[f64],
+    t: &'a [f64],
+    ts: &'a [f64],
     rr: &[f64],
     q: &[f64],
     rqr: &[f64; 64],
@@ -85,14 +86,14 @@ pub fn run<'a>(
     before: promise::Answer,
 ) -> End
     requires { ⌜ FitOn
-        (modelOf p m r n (now z) (now zs) repeats (now h) (now t) (now rr) (now q) (now «p_star») (now flags))
+        (modelOf p m r n (now z) (now zs) repeats (now h) (now t) (now ts) (now rr) (now q) (now «p_star») (now flags))
         (offsetsOf (now c) (now d) (now a1)) (length (now y)) (now rqr)
         (covParts (now «pred_cov») (now «pred_inf») (now «filt_cov») (now kinds)
         (now «f_star») (now «f_inf») (now «m_star») (now «m_inf»))
         (meanParts (now «pred_mean») (now «filt_mean») (now v)) (length (now state)) done before ⌝ }
     ensures { λ e. ⌜ Ran
         (modelOf p m r n (now (z .entry)) (now (zs .entry)) repeats (now (h .entry)) (now (t .entry))
-        (now (rr .entry)) (now (q .entry)) (now («p_star» .entry)) (now (flags .entry)))
+        (now (ts .entry)) (now (rr .entry)) (now (q .entry)) (now («p_star» .entry)) (now (flags .entry)))
         (offsetsOf (now (c .entry)) (now (d .entry)) (now (a1 .entry))) (now (y .entry))
         (now (state .entry)) live done before e (now (state .exit))
         (covParts (now («pred_cov» .entry)) (now («pred_inf» .entry)) (now («filt_cov» .entry)) (now (kinds .entry))
@@ -102,12 +103,12 @@ pub fn run<'a>(
         (meanParts (now («pred_mean» .entry)) (now («filt_mean» .entry)) (now (v .entry)))
         (meanParts (now («pred_mean» .exit)) (now («filt_mean» .exit)) (now (v .exit))) ⌝ }
 {
-    let listed = model::listed(zs, p, m);
     let ended = cov::cov_pass(
         z,
         zs,
         h,
         t,
+        ts,
         rqr,
         p_star,
         flags,
@@ -125,7 +126,6 @@ pub fn run<'a>(
         p,
         m,
         n,
-        listed,
     );
     let heard = cov::counts::heard(y);
     let news = cov::counts::news(kinds, n * p);
@@ -135,6 +135,7 @@ pub fn run<'a>(
         z,
         zs,
         t,
+        ts,
         c,
         d,
         a1,
@@ -151,7 +152,6 @@ pub fn run<'a>(
         p,
         m,
         n,
-        listed,
     );
     let mean_off = reports::means(pred_mean, filt_mean, m, n, done);
     End {

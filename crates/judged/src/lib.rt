@@ -32,7 +32,8 @@ pub fn run<'a>(
     zs: &'a [f64],
     repeats: bool,
     h: &[f64],
-    t: &[f64],
+    t: &'a [f64],
+    ts: &'a [f64],
     rr: &[f64],
     q: &[f64],
     rqr: &[f64; 64],
@@ -60,14 +61,14 @@ pub fn run<'a>(
     last: bool,
 ) -> Judged
     requires { ⌜ FitOn
-        (modelOf p m r n (now z) (now zs) repeats (now h) (now t) (now rr) (now q) (now «p_star») (now flags))
+        (modelOf p m r n (now z) (now zs) repeats (now h) (now t) (now ts) (now rr) (now q) (now «p_star») (now flags))
         (offsetsOf (now c) (now d) (now a1)) (length (now y)) (now rqr)
         (covParts (now «pred_cov») (now «pred_inf») (now «filt_cov») (now kinds)
         (now «f_star») (now «f_inf») (now «m_star») (now «m_inf»))
         (meanParts (now «pred_mean») (now «filt_mean») (now v)) (length (now state)) done before ⌝ }
     ensures { λ e. ⌜ Went
         (modelOf p m r n (now (z .entry)) (now (zs .entry)) repeats (now (h .entry)) (now (t .entry))
-        (now (rr .entry)) (now (q .entry)) (now («p_star» .entry)) (now (flags .entry)))
+        (now (ts .entry)) (now (rr .entry)) (now (q .entry)) (now («p_star» .entry)) (now (flags .entry)))
         (offsetsOf (now (c .entry)) (now (d .entry)) (now (a1 .entry))) (now (y .entry))
         (now (state .entry)) live done before last e (now (state .exit))
         (covParts (now («pred_cov» .entry)) (now («pred_inf» .entry)) (now («filt_cov» .entry)) (now (kinds .entry))
@@ -87,6 +88,7 @@ pub fn run<'a>(
         repeats,
         h,
         t,
+        ts,
         rr,
         q,
         rqr,

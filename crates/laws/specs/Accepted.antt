@@ -10,7 +10,7 @@ use lib.Dec.{T, leb, ltb, eqb}
 use lib.Ieee.{Float}
 use borrow.Author.Tests.{ltb-false, eqb-true, eqb-false, not-false}
 use Rattle.definition.specs.Inputs.{Model, Offsets}
-use Rattle.definition.specs.Refusals.{beyond, outside, designFits, inputsFit, badLength, firstOf, ofSizes, ofLengths, ofReach, ofEntries, refusal, tests}
+use Rattle.definition.specs.Refusals.{beyond, outside, partFits, inputsFit, badLength, firstOf, ofSizes, ofLengths, ofReach, ofEntries, refusal, tests}
 use Rattle.definition.specs.Parts.{CovPart, predCov, predInf, filtCov, fStar, fInf, mStar, mInf, MeanPart, predMean, filtMean, innovations}
 use Rattle.definition.specs.Outcome.{CovParts, MeanParts, kindsNeed, covNeed, meanNeed, smoothedCovNeed, smoothedMeanNeed, roomy, roomySmoothed}
 use Rattle.laws.specs.Any.{either-false, both-true}
@@ -50,34 +50,34 @@ in-range p m r n e =
 
 -- ---- the inputs' lengths
 
--- one design of pm numbers, or a list of them
-pub record Listed (pm once list : ℕ) : Type 0 where
+-- Z, and T: one of k numbers, or a list of them
+pub record Listed (k once list : ℕ) : Type 0 where
   pub none : once ≡ 0
-  pub whole : list ≡ list / pm * pm
-  pub some : 0 < list / pm
-  pub most : list / pm ≤ 4096
+  pub whole : list ≡ list / k * k
+  pub some : 0 < list / k
+  pub most : list / k ≤ 4096
 
-pub record Constant (pm once list : ℕ) : Type 0 where
-  pub one : once ≡ pm
+pub record Constant (k once list : ℕ) : Type 0 where
+  pub one : once ≡ k
   pub none : list ≡ 0
 
-abbrev pub Designs : ℕ → ℕ → ℕ → Type 0
-Designs pm once list = Constant pm once list ⊎ Listed pm once list
+abbrev pub Chosen : ℕ → ℕ → ℕ → Type 0
+Chosen k once list = Constant k once list ⊎ Listed k once list
 
-says-designs : (pm once list : ℕ) → Says (designFits pm once list) (Designs pm once list)
-unfolding designFits
-says-designs pm once list =
+says-chosen : (k once list : ℕ) → Says (partFits k once list) (Chosen k once list)
+unfolding partFits
+says-chosen k once list =
     says-or
-    (says-as (λ h. record { one = h .0; none = h .1 }) (λ h. (h .one, h .none)) (says-and (says-eq once pm) (says-eq list 0)))
+    (says-as (λ h. record { one = h .0; none = h .1 }) (λ h. (h .one, h .none)) (says-and (says-eq once k) (says-eq list 0)))
     (says-as
-    (λ h. record { none = h .0 .0 .0; whole = h .0 .0 .1; some = positive (list / pm) (h .0 .1); most = h .1 })
+    (λ h. record { none = h .0 .0 .0; whole = h .0 .0 .1; some = positive (list / k) (h .0 .1); most = h .1 })
     (λ h. (((h .none, h .whole), λ e. omega (arith, h .some)), h .most))
-    (says-and (says-and (says-and (says-eq once 0) (says-eq list (list / pm * pm))) (says-not (says-eq (list / pm) 0))) (says-le (list / pm) 4096)))
+    (says-and (says-and (says-and (says-eq once 0) (says-eq list (list / k * k))) (says-not (says-eq (list / k) 0))) (says-le (list / k) 4096)))
 
 pub record InputsFit (x : Model) (o : Offsets) : Type 0 where
-  pub design : Designs (x .p * x .m) (length (x .zOnce)) (length (x .zList))
+  pub design : Chosen (x .p * x .m) (length (x .zOnce)) (length (x .zList))
   pub h : length (x .h) ≡ x .p * x .p
-  pub t : length (x .t) ≡ x .m * x .m
+  pub transition : Chosen (x .m * x .m) (length (x .tOnce)) (length (x .tList))
   pub rr : length (x .rr) ≡ x .m * x .r
   pub q : length (x .q) ≡ x .r * x .r
   pub c : length (o .c) ≡ x .m
@@ -95,7 +95,7 @@ says-inputs x o =
     record {
       design = h .0 .0 .0 .0 .0 .0 .0 .0 .0;
       h = h .0 .0 .0 .0 .0 .0 .0 .0 .1;
-      t = h .0 .0 .0 .0 .0 .0 .0 .1;
+      transition = h .0 .0 .0 .0 .0 .0 .0 .1;
       rr = h .0 .0 .0 .0 .0 .0 .1;
       q = h .0 .0 .0 .0 .0 .1;
       c = h .0 .0 .0 .0 .1;
@@ -104,7 +104,7 @@ says-inputs x o =
       pStar = h .0 .1;
       flags = h .1;
     })
-    (λ h. (((((((((h .design, h .h), h .t), h .rr), h .q), h .c), h .d), h .a1), h .pStar), h .flags))
+    (λ h. (((((((((h .design, h .h), h .transition), h .rr), h .q), h .c), h .d), h .a1), h .pStar), h .flags))
     (says-and
     (says-and
     (says-and
@@ -113,8 +113,8 @@ says-inputs x o =
     (says-and
     (says-and
     (says-and
-    (says-and (says-designs (x .p * x .m) (length (x .zOnce)) (length (x .zList))) (is (length (x .h)) (x .p * x .p)))
-    (is (length (x .t)) (x .m * x .m)))
+    (says-and (says-chosen (x .p * x .m) (length (x .zOnce)) (length (x .zList))) (is (length (x .h)) (x .p * x .p)))
+    (says-chosen (x .m * x .m) (length (x .tOnce)) (length (x .tList))))
     (is (length (x .rr)) (x .m * x .r)))
     (is (length (x .q)) (x .r * x .r)))
     (is (length (o .c)) (x .m)))

@@ -16,7 +16,7 @@ use Rattle.definition.specs.Run.{scan, pairs, chunks, count, join, anyOf}
 use Rattle.definition.specs.Cov.{covRun}
 use Rattle.definition.specs.Mean.{meanRun}
 use Rattle.definition.specs.Inputs.{Model, Offsets, classOf, isInfinity, gapRows}
-use Rattle.definition.specs.Refusals.{beyond, outside, inputsFit, badLength, listShort, firstOf, ofSystem, ofStart, ofH, ofStep}
+use Rattle.definition.specs.Refusals.{beyond, outside, inputsFit, badLength, outrun, listShort, firstOf, ofSystem, ofStart, ofH, ofStep}
 use Rattle.definition.specs.Reports.{firstFrom, covReport, meanReport}
 use Rattle.definition.specs.Outcome.{CovParts, MeanParts, Ending, answered, endingOf, numberOf, after, countsOf, noInformation}
 use Rattle.definition.specs.Carried.{begunPast, begunMean, covFrom, meanFrom, plus, pastOn, meanOn, meanOffOn, went, Carried}
@@ -47,6 +47,7 @@ pub record Passed (x : Model) (o : Offsets) (n : ℕ) (infinity room bad : Bool)
   pub others : Fails (fixed x o)
   pub finite : infinity ≡ false
   pub saved : bad ≡ false
+  pub steps : outrun (x .m * x .m) (length (x .tList)) (done + x .n) ≡ false
   pub reach : listShort (x .repeats) (x .p * x .m) (length (x .zList)) (done + x .n) ≡ false
 
 first-zero : (es : List (ℕ × Bool)) → Fails es → firstOf es ≡ 0
@@ -67,7 +68,8 @@ module _ (x : Model) (o : Offsets) (n : ℕ) (infinity room bad : Bool) (done : 
         others = (b .0, (b .1 .0, (b .1 .1 .0, (b .1 .1 .1 .0, (b .1 .1 .1 .1 .0, (b .1 .1 .1 .1 .1 .0, (c .1 .0, (c .1 .1 .0, tt))))))));
         finite = c .0;
         saved = c .1 .1 .1 .0;
-        reach = c .1 .1 .1 .1 .0;
+        steps = c .1 .1 .1 .1 .0;
+        reach = c .1 .1 .1 .1 .1 .0;
       }
 
   pub none-applies : Passed x o n infinity room bad done → stretchRefusal x o n infinity room bad done ≡ 0
@@ -76,7 +78,7 @@ module _ (x : Model) (o : Offsets) (n : ℕ) (infinity room bad : Bool) (done : 
       let b = a .others in
       let c = b .1 .1 .1 .1 .1 in
       first-zero (stretchTests x o n infinity room bad done)
-      (a .sizes, (a .lengths, (b .0, (b .1 .0, (b .1 .1 .0, (b .1 .1 .1 .0, (b .1 .1 .1 .1 .0, (c .0, (a .finite, (c .1 .0, (c .1 .1 .0, (a .saved, (a .reach, tt)))))))))))))
+      (a .sizes, (a .lengths, (b .0, (b .1 .0, (b .1 .1 .0, (b .1 .1 .1 .0, (b .1 .1 .1 .1 .0, (c .0, (a .finite, (c .1 .0, (c .1 .1 .0, (a .saved, (a .steps, (a .reach, tt))))))))))))))
 
   pub not-twelve : stretchRefusal x o n infinity room bad done ≡ 12 → ⊥
   unfolding stretchRefusal stretchTests

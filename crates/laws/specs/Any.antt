@@ -23,6 +23,10 @@ pub or-false : (a : Bool) → (a || false) ≡ a
 or-false true = refl
 or-false false = refl
 
+pub or-self : (a : Bool) → (a || a) ≡ a
+or-self true = refl
+or-self false = refl
+
 pub or-true : (a : Bool) → (a || true) ≡ true
 or-true true = refl
 or-true false = refl
@@ -75,6 +79,11 @@ module _ {A : Type 0} where
 
   pub of-end : (q : A → Bool) (l : List A) {k : ℕ} {found : Bool} → found ≡ anyOf q (take k l) → k ≤ length l → length l ≤ k → found ≡ anyOf q l
   of-end q l {k} {found} e a b = let s : k ≡ length l = omega arith in e ∙ ap (λ (i : ℕ). anyOf q (take i l)) s ∙ ap (anyOf q) (take-length l)
+
+  pub of-append : (q : A → Bool) (l r : List A) → anyOf q (l ++ r) ≡ (anyOf q l || anyOf q r)
+  unfolding anyOf
+  of-append q [] r = refl
+  of-append q (x ∷ l) r = ap (λ (b : Bool). q x || b) (of-append q l r) ∙ sym (or-assoc (q x) (anyOf q l) (anyOf q r))
 
   pub of-split : (q : A → Bool) (l r : List A) → anyOf q (l ++ r) ≡ false → (anyOf q l ≡ false) × (anyOf q r ≡ false)
   unfolding anyOf

@@ -23,7 +23,7 @@ use Rattle.laws.specs.Kept.{means-length}
 
 -- the same model, over k periods
 abbrev pub lasting : ℕ → Model → Model
-lasting k x = record { p = x .p; m = x .m; r = x .r; n = k; zOnce = x .zOnce; zList = x .zList; repeats = x .repeats; h = x .h; t = x .t; rr = x .rr; q = x .q; flags = x .flags; pStar = x .pStar }
+lasting k x = record { p = x .p; m = x .m; r = x .r; n = k; zOnce = x .zOnce; zList = x .zList; repeats = x .repeats; h = x .h; tOnce = x .tOnce; tList = x .tList; rr = x .rr; q = x .q; flags = x .flags; pStar = x .pStar }
 
 -- ---- the counts
 

@@ -1,6 +1,6 @@
--- A list of designs counts from the run's first period. A stretch that begins after `done` periods may be lent the later part of the list, and count
--- from 0: so the passes need no index of their first period.
-use mathlib.Core.Path.{_≡_, refl, sym, ap, _∙_}
+-- A list of designs, or of transitions, counts from the run's first period. A stretch that begins after `done` periods may be lent the later part of the
+-- list, and count from 0: so the passes need no index of their first period.
+use mathlib.Core.Path.{_≡_, refl, sym, ap, ap₂, _∙_}
 use Prim.Native.Nat.{ℕ, zero, suc, _+_, _-_, _*_, _/_, _≤_, _<_, min}
 use native.Mathlib.Nat.{add-zero, add-suc, add-mul, min-eq-left, min-eq-right, min-le-right, min-zero, mul-div-left, mul-pos}
 use native.Mathlib.Omega.{arith}
@@ -14,8 +14,8 @@ use borrow.Author.Tests.{eq-eqb, ne-eqb}
 use Rattle.definition.specs.Run.{scan}
 use Rattle.definition.specs.Cov.{Cov, Decision, periodOf, period, covRun}
 use Rattle.definition.specs.Mean.{Mean, Shift, meanPeriodOf, meanPeriod, meanRun}
-use Rattle.definition.specs.Inputs.{designFrom, systemFrom, frameFrom}
-use Rattle.laws.specs.Accepted.{Designs, Constant, Listed}
+use Rattle.definition.specs.Inputs.{partFrom, systemFrom, frameFrom}
+use Rattle.laws.specs.Accepted.{Chosen, Constant, Listed}
 
 -- the later part of a list, after `done` periods: all of it but the entries before the one that period `done` takes
 unfoldable pub laterFrom : ℕ → ℕ → List Float → List Float
@@ -32,7 +32,7 @@ module _ {A B S : Type 0} (f g : ℕ → S → A → B × S) (d : ℕ) (same : (
       let ih′ : scan f (suc (d + t)) (g t s x .1) xs ≡ scan g (suc t) (g t s x .1) xs = rw add-suc at ih in
       rw (same t s x, ih′) refl
 
--- ---- the designs
+-- ---- the entries of a list
 
 together : (done t l : ℕ) → 0 < l → min done (l - 1) + min t (l - min done (l - 1) - 1) ≡ min (done + t) (l - 1)
 together done t l h = by (order done (l - 1))
@@ -58,7 +58,7 @@ later-none : (k done : ℕ) (zs : List Float) → length zs ≡ 0 → length (la
 unfolding laterFrom
 later-none k done zs e = simp length-drop (omega arith)
 
--- the length of the later part, and its count of designs
+-- the length of the later part, and its count of entries
 module _ (k done : ℕ) (zs : List Float) {once : ℕ} (w : Listed k once (length zs)) where
   abbrev count : ℕ
   count = length zs / k
@@ -78,47 +78,55 @@ module _ (k done : ℕ) (zs : List Float) {once : ℕ} (w : Listed k once (lengt
   later-count : 0 < k → length (laterFrom k done zs) / k ≡ count - before
   later-count some = ap (λ (i : ℕ). i / k) later-long ∙ mul-div-left (count - before) some
 
--- the later part of a list of designs is one
+-- the later part of a list is a list
 later-listed : (k done : ℕ) (zs : List Float) {once : ℕ} → 0 < k → Listed k once (length zs) → Listed k once (length (laterFrom k done zs))
 later-listed k done zs some w =
     let e = later-count k done zs w some in
     let low = before-lt k done zs w in
     record { none = w .none; whole = later-long k done zs w ∙ ap (λ (i : ℕ). i * k) (sym e); some = rw e (omega arith); most = rw e (omega (arith, w .most)) }
 
-pub later-designs : (k done : ℕ) (z zs : List Float) → 0 < k → Designs k (length z) (length zs) → Designs k (length z) (length (laterFrom k done zs))
-later-designs k done z zs some (inl c) = inl (record { one = c .one; none = later-none k done zs (c .none) })
-later-designs k done z zs some (inr w) = inr (later-listed k done zs some w)
+pub later-chosen : (k done : ℕ) (z zs : List Float) → 0 < k → Chosen k (length z) (length zs) → Chosen k (length z) (length (laterFrom k done zs))
+later-chosen k done z zs some (inl c) = inl (record { one = c .one; none = later-none k done zs (c .none) })
+later-chosen k done z zs some (inr w) = inr (later-listed k done zs some w)
 
 listed-some : {k once list : ℕ} → 0 < k → Listed k once list → list ≡ 0 → ⊥
 listed-some some w e = omega (arith, w .whole, mul-pos (w .some) some)
 
-module _ (p m done : ℕ) (z zs : List Float) (some : 0 < p * m) where
-  abbrev k : ℕ
-  k = p * m
-
-  list-later : Listed (p * m) (length z) (length zs) → (t : ℕ) → designFrom p m z zs (done + t) ≡ designFrom p m z (laterFrom (p * m) done zs) t
-  unfolding designFrom laterFrom
+module _ (k done : ℕ) (once list : List Float) (some : 0 < k) where
+  list-later : Listed k (length once) (length list) → (t : ℕ) → partFrom k once list (done + t) ≡ partFrom k once (laterFrom k done list) t
+  unfolding partFrom laterFrom
   list-later w t =
-      let l = length zs / k in
+      let l = length list / k in
       let s = min done (l - 1) in
-      rw (ne-eqb _ _ (listed-some some w), ne-eqb _ _ (listed-some some (later-listed k done zs some w)), later-count k done zs w some)
-      (ap (take k) (sym (drop-drop (min t (l - s - 1) * k) (s * k) zs ∙ ap (λ (i : ℕ). drop i zs) (sym (add-mul s (min t (l - s - 1)) k) ∙ ap (λ (i : ℕ). i * k) (together done t l (w .some))))))
+      rw (ne-eqb _ _ (listed-some some w), ne-eqb _ _ (listed-some some (later-listed k done list some w)), later-count k done list w some)
+      (ap (take k) (sym (drop-drop (min t (l - s - 1) * k) (s * k) list ∙ ap (λ (i : ℕ). drop i list) (sym (add-mul s (min t (l - s - 1)) k) ∙ ap (λ (i : ℕ). i * k) (together done t l (w .some))))))
 
-  constant-later : Constant (p * m) (length z) (length zs) → (t : ℕ) → designFrom p m z zs (done + t) ≡ designFrom p m z (laterFrom (p * m) done zs) t
-  unfolding designFrom laterFrom
-  constant-later w t = rw (eq-eqb _ _ (w .none), eq-eqb _ _ (later-none k done zs (w .none))) refl
+  constant-later : Constant k (length once) (length list) → (t : ℕ) → partFrom k once list (done + t) ≡ partFrom k once (laterFrom k done list) t
+  unfolding partFrom laterFrom
+  constant-later w t = rw (eq-eqb _ _ (w .none), eq-eqb _ _ (later-none k done list (w .none))) refl
 
-  pub design-later : Designs (p * m) (length z) (length zs) → (t : ℕ) → designFrom p m z zs (done + t) ≡ designFrom p m z (laterFrom (p * m) done zs) t
-  design-later w t = ⊎-elim (λ (c : Constant (p * m) (length z) (length zs)). constant-later c t) (λ (c : Listed (p * m) (length z) (length zs)). list-later c t) w
+  pub part-later : Chosen k (length once) (length list) → (t : ℕ) → partFrom k once list (done + t) ≡ partFrom k once (laterFrom k done list) t
+  part-later w t = ⊎-elim (λ (c : Constant k (length once) (length list)). constant-later c t) (λ (c : Listed k (length once) (length list)). list-later c t) w
 
-  -- ---- both tracks, after `done` periods
+-- ---- both tracks, after `done` periods
 
-  pub cov-later : (h tr rqr : List Float) (c : Cov) (gs : List (List Bool)) → Designs (p * m) (length z) (length zs) → covRun (systemFrom p m z zs h tr rqr) done c gs ≡ covRun (systemFrom p m z (laterFrom (p * m) done zs) h tr rqr) 0 c gs
+module _ (p m done : ℕ) (z zs t ts : List Float) (pm0 : 0 < p * m) (mm0 : 0 < m * m) (designs : Chosen (p * m) (length z) (length zs)) (steps : Chosen (m * m) (length t) (length ts)) where
+  abbrev zs′ : List Float
+  zs′ = laterFrom (p * m) done zs
+
+  abbrev ts′ : List Float
+  ts′ = laterFrom (m * m) done ts
+
+  pub cov-later : (h rqr : List Float) (c : Cov) (gs : List (List Bool)) → covRun (systemFrom p m z zs h t ts rqr) done c gs ≡ covRun (systemFrom p m z zs′ h t ts′ rqr) 0 c gs
   unfolding covRun systemFrom
-  cov-later h tr rqr c gs w =
-      rw add-zero at (scan-later (period (systemFrom p m z zs h tr rqr)) (period (systemFrom p m z (laterFrom (p * m) done zs) h tr rqr)) done (λ t c g. ap (λ (d : List Float). periodOf p m h tr rqr d c g) (design-later w t)) 0 c gs)
+  cov-later h rqr c gs =
+      rw add-zero at
+      (scan-later (period (systemFrom p m z zs h t ts rqr)) (period (systemFrom p m z zs′ h t ts′ rqr)) done
+      (λ i c g. ap₂ (λ (d s : List Float). periodOf p m h s rqr d c g) (part-later (p * m) done z zs pm0 designs i) (part-later (m * m) done t ts mm0 steps i)) 0 c gs)
 
-  pub mean-later : (tr : List Float) (x : Shift) (s : Mean) (es : List (List Decision × List Float)) → Designs (p * m) (length z) (length zs) → meanRun (frameFrom p m z zs tr) x done s es ≡ meanRun (frameFrom p m z (laterFrom (p * m) done zs) tr) x 0 s es
+  pub mean-later : (x : Shift) (s : Mean) (es : List (List Decision × List Float)) → meanRun (frameFrom p m z zs t ts) x done s es ≡ meanRun (frameFrom p m z zs′ t ts′) x 0 s es
   unfolding meanRun frameFrom
-  mean-later tr x s es w =
-      rw add-zero at (scan-later (meanPeriod (frameFrom p m z zs tr) x) (meanPeriod (frameFrom p m z (laterFrom (p * m) done zs) tr) x) done (λ t s e. ap (λ (d : List Float). meanPeriodOf m tr (x .c) (x .d) d s e) (design-later w t)) 0 s es)
+  mean-later x s es =
+      rw add-zero at
+      (scan-later (meanPeriod (frameFrom p m z zs t ts) x) (meanPeriod (frameFrom p m z zs′ t ts′) x) done
+      (λ i s e. ap₂ (λ (d r : List Float). meanPeriodOf m r (x .c) (x .d) d s e) (part-later (p * m) done z zs pm0 designs i) (part-later (m * m) done t ts mm0 steps i)) 0 s es)

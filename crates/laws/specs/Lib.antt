@@ -27,6 +27,7 @@ pub mod ReadBack
 pub mod Long
 pub mod Shapes
 pub mod Looked
+pub mod Entries
 pub mod Reports
 pub mod RunsOff
 pub mod Told

@@ -18,12 +18,12 @@ use Rattle.definition.specs.Num.{_⊖_, _⊗_, _⊘_, _>ᶠ_, 0ᶠ, 1ᶠ, cance
 use Rattle.definition.specs.Dense.{dot, over, overAt, matVec, matTVec, matTVecAt, matTVecTerm, lessOf, outerSub, outerSubAt, product, productAt, productTerm, absQuadForm, absTo, absColumn, absTerm, row, rowAt}
 use Rattle.definition.specs.Run.{scan, count, chunks}
 use Rattle.definition.specs.Cov.{System, Cov, Fixed, Inner, Decision, skipped, usual, diffuse, Candidate, usually, usualTest, diffusely, diffuseTest, judge, candidate, verdict, apply, rootLess, fInfBy, fStarBy, elementOf, isLive, entered, ended, stepped, periodOf, period, covRun}
-use Rattle.definition.specs.Inputs.{Model, Offsets, Class, isGap, designFrom, systemOf, systemFrom, gapRows, isFlagged, flagsBefore, startRoot, startRootAt, startOf, startFrom}
+use Rattle.definition.specs.Inputs.{Model, Offsets, Class, isGap, partFrom, designFrom, systemOf, systemFrom, gapRows, isFlagged, flagsBefore, startRoot, startRootAt, startOf, startFrom}
 use Rattle.definition.specs.Refusals.{notFinite, badSystem}
 use Rattle.definition.specs.Carried.{Past, begunPast, covFrom, pastOn}
 use Rattle.laws.specs.Any.{either-false, both-true}
 use Rattle.laws.specs.All.{AllOf, all-true, each-all}
-use Rattle.laws.specs.Accepted.{Designs, InputsFit}
+use Rattle.laws.specs.Accepted.{Chosen, InputsFit}
 use Rattle.laws.specs.Lists.{matrix-at, vector-at, place-lt, chunks-each}
 use Rattle.laws.specs.Zeros.{Nil, zero-is, round-zero, times-zero, zero-times, sum-zero, nil-is-zero, finite-at}
 use Rattle.laws.specs.Signs.{Plain, round-plain, add-plain, lt-nan-right}
@@ -188,7 +188,7 @@ module _ {A B S : Type 0} (f : ℕ → S → A → B × S) (P : S → Type 0) (Q
   scan-below [] t s l q h = h
   scan-below (x ∷ xs) t s l q h = scan-below xs (suc t) (f t s x .1) (omega arith) (q .1) (step t s x (omega arith) (q .0) h)
 
--- every design's rows, and T, are finite
+-- every design's rows, and every T, are finite
 pub record Fine (y : System) : Type 0 where
   pub designs : (t i : ℕ) → i < y .p → Finite (y .m) (row (y .m) (y .designAt t) i)
   pub steps : (t i l : ℕ) → i < y .m → l < y .m → T (isFinite (ent (y .m) (y .transitionAt t) i l))
@@ -230,14 +230,13 @@ start-spare m flags i j hi hk hj = matrix-at m m i j (startRootAt flags) hi hj �
 
 -- ---- refusals 2 and 3 see to what is finite
 
--- entry i of the design of period t
-design-at : (p m : ℕ) (once list : List Float) (t i : ℕ) → notFinite once ≡ false → notFinite list ≡ false → Designs (p * m) (length once) (length list) → i < p * m → T (isFinite (getD (designFrom p m once list t) i nan))
-unfolding designFrom
-design-at p m once list t i a b (inl d) h =
+-- entry i of the design, or of the transition, of period t
+part-at : (k : ℕ) (once list : List Float) (t i : ℕ) → notFinite once ≡ false → notFinite list ≡ false → Chosen k (length once) (length list) → i < k → T (isFinite (getD (partFrom k once list t) i nan))
+unfolding partFrom
+part-at k once list t i a b (inl d) h =
     let e : eqb (length list) 0 ≡ true = eq-eqb (length list) 0 (d .none) in
     rw e (finite-at once i a (omega (arith, d .one)))
-design-at p m once list t i a b (inr d) h =
-    let k = p * m in
+part-at k once list t i a b (inr d) h =
     let n = length list / k in
     let s = min t (n - 1) in
     let low : suc s ≤ n = omega (arith, d .some) in
@@ -247,21 +246,21 @@ design-at p m once list t i a b (inr d) h =
     let e : eqb (length list) 0 ≡ false = ne-eqb (length list) 0 (λ z. omega arith) in
     rw (e, getD-take k (drop (s * k) list) i nan h, getD-drop (s * k) list i nan) (finite-at list (s * k + i) b in-list)
 
-pub fine-system : (x : Model) (o : Offsets) → InputsFit x o → badSystem (x .zOnce) (x .zList) (x .h) (x .t) (x .rr) (x .q) ≡ false → Fine (systemOf x)
+pub fine-system : (x : Model) (o : Offsets) → InputsFit x o → badSystem (x .zOnce) (x .zList) (x .h) (x .tOnce) (x .tList) (x .rr) (x .q) ≡ false → Fine (systemOf x)
 unfolding systemOf systemFrom badSystem row rowAt
 fine-system x o fit e =
     let a = either-false _ _ e in
     let b = either-false _ _ (a .0) in
-    let c = either-false _ _ (b .0) in
-    let d = either-false _ _ (c .0) in
+    let listed = either-false _ _ (b .0) in
+    let once = either-false _ _ (listed .0) in
+    let d = either-false _ _ (once .0) in
     let f = either-false (notFinite (x .zOnce)) (notFinite (x .zList)) (d .0) in
-    let steps : notFinite (x .t) ≡ false = c .1 in
     record {
       designs = λ t i hi j hj.
           let z = designFrom (x .p) (x .m) (x .zOnce) (x .zList) t in
           subst (λ (v : Float). T (isFinite v)) (sym (vector-at (x .m) j (rowAt (x .m) z i) hj))
-          (design-at (x .p) (x .m) (x .zOnce) (x .zList) t (i * x .m + j) (f .0) (f .1) (fit .design) (place-lt (x .p) (x .m) i j hi hj));
-      steps = λ t i l hi hl. finite-at (x .t) (i * x .m + l) steps (rw (fit .t) (place-lt (x .m) (x .m) i l hi hl));
+          (part-at (x .p * x .m) (x .zOnce) (x .zList) t (i * x .m + j) (f .0) (f .1) (fit .design) (place-lt (x .p) (x .m) i j hi hj));
+      steps = λ t i l hi hl. part-at (x .m * x .m) (x .tOnce) (x .tList) t (i * x .m + l) (once .1) (listed .1) (fit .transition) (place-lt (x .m) (x .m) i l hi hl);
     }
 
 -- a run's start has them, and every stretch that passes refusals 2 and 3 keeps them
@@ -269,7 +268,7 @@ pub begun-spare : (x : Model) → Spare (x .m) (count (eqb 1) (x .flags)) (begun
 unfolding begunPast startOf startFrom
 begun-spare x = start-spare (x .m) (x .flags)
 
-pub spare-kept : (x : Model) (o : Offsets) (s : Past) (ks : List Class) (k : ℕ) → InputsFit x o → badSystem (x .zOnce) (x .zList) (x .h) (x .t) (x .rr) (x .q) ≡ false → length ks ≡ x .n * x .p → Spare (x .m) k (s .cov .root) → Spare (x .m) k (pastOn x s ks .cov .root)
+pub spare-kept : (x : Model) (o : Offsets) (s : Past) (ks : List Class) (k : ℕ) → InputsFit x o → badSystem (x .zOnce) (x .zList) (x .h) (x .tOnce) (x .tList) (x .rr) (x .q) ≡ false → length ks ≡ x .n * x .p → Spare (x .m) k (s .cov .root) → Spare (x .m) k (pastOn x s ks .cov .root)
 unfolding pastOn covFrom gapRows systemOf systemFrom
 spare-kept x o s ks k fit e long spare =
     let gs = chunks (x .n) (x .p) (map isGap ks) in

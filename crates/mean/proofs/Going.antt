@@ -1,6 +1,6 @@
 -- The loop over the periods: what holds before period i, how a period keeps it, and what it comes to.
 use mathlib.Core.Path.{_≡_, refl, sym, ap, ap₂, _∙_}
-use Prim.Native.Nat.{ℕ, _+_, _≤_, _<_}
+use Prim.Native.Nat.{ℕ, _+_, _*_, _≤_, _<_}
 use native.Mathlib.Nat.{zero-add}
 use native.Mathlib.Omega.{arith}
 use mathlib.Core.List.{List, [], map}
@@ -11,16 +11,15 @@ use Rattle.definition.specs.Cov.{Decision}
 use Rattle.definition.specs.Mean.{Frame, Shift, Mean, MeanPeriod, meanPeriodOf, meanPeriod, meanRun}
 use Rattle.definition.specs.Parts.{predMean, filtMean, innovations, meanBlock}
 use Rattle.definition.specs.Outcome.{meanWritten}
-use Rattle.definition.specs.Inputs.{designFrom, frameFrom}
-use Rattle.laws.specs.Lists.{tab-at, length-tab, length-chunks, pairs-at}
+use Rattle.definition.specs.Inputs.{partFrom, transitionFrom, frameFrom}
+use Rattle.laws.specs.Lists.{tab-at, length-tab, length-chunks, pairs-at, length-pairs}
 use Rattle.laws.specs.Flat.{Flat, decisionsAt, decisionRows}
 use Rattle.laws.specs.Passes.{Wrote, wrote-none, wrote-next, wrote-all, state-next, state-all, chunk-at, block-in, over, lay-last}
-use Rattle.dense.specs.Views.{vec, mat}
+use Rattle.dense.specs.Views.{vec}
 use Rattle.dense.specs.Places.{Saved, saved}
 use Rattle.carried.specs.State.{meanKept}
 use Rattle.promise.specs.declared.Answer.{Answer}
 use Rattle.mean.specs.View.{meanIn, leftIn, withLoglik, entryAt, entries, Room, Looped, Passed}
-use Rattle.mean.proofs.Laws.{length-pairs}
 
 module _ (n p m : ℕ) (r : Flat) (ys : List Float) where
   entries-length : length (entries n p m r ys) ≡ n
@@ -96,10 +95,10 @@ module _ (y : Frame) (x : Shift) (s₀ : Mean) (p m n : ℕ) (r : Flat) (ys : Li
         }
 
 -- the frame's period, with the design and T that the code has
-pub framed : (p m t : ℕ) (z zs tr c d design : List Float) (s : Mean) (e : List Decision × List Float) {b : MeanPeriod × Mean} → design ≡ designFrom p m z zs t → b ≡ meanPeriodOf m tr c d design s e
-    → b ≡ meanPeriod (frameFrom p m z zs tr) (record { c = c; d = d }) t s e
+pub framed : (p m t : ℕ) (z zs tr trs c d design step : List Float) (s : Mean) (e : List Decision × List Float) {b : MeanPeriod × Mean} → design ≡ partFrom (p * m) z zs t → step ≡ transitionFrom m tr trs t
+    → b ≡ meanPeriodOf m step c d design s e → b ≡ meanPeriod (frameFrom p m z zs tr trs) (record { c = c; d = d }) t s e
 unfolding frameFrom
-framed p m t z zs tr c d design s e q h = h ∙ ap (λ (l : List Float). meanPeriodOf m tr c d l s e) q
+framed p m t z zs tr trs c d design step s e q k h = h ∙ ap₂ (λ (u l : List Float). meanPeriodOf m u c d l s e) k q
 
 -- place n written after the loop, through its part, and the state kept
 placed : {p m n k : ℕ} (r : List MeanPeriod × Mean) {w w′ : Answer} {a′ s s′ pm₀ pm′ fm₀ fm′ v₀ v′ : List Float} (b : List Float) → Looped p m n r w w′ a′ pm₀ pm′ fm₀ fm′ v₀ v′ → k ≡ m → Saved k a′ b → s′ ≡ meanKept m s (vec m a′) → Passed p m n r w w′ s s′ pm₀ (over n m pm′ b) fm₀ fm′ v₀ v′
@@ -113,8 +112,8 @@ placed {m = m} {n} r {a′ = a′} {s} {s′} {pm₀} {pm′} b g e q h =
       vs = g .vs;
     }
 
--- T, c and the first mean loaded before it
-pub passed : (p m n : ℕ) (z zs t c d a1 tr sh a : List Float) (es : List (List Decision × List Float)) {k : ℕ} {w w′ : Answer} {a′ s s′ pm₀ pm′ fm₀ fm′ v₀ v′ : List Float} (b : List Float)
-    → Looped p m n (meanRun (frameFrom p m z zs (mat m tr)) (record { c = vec m sh; d = d }) 0 (meanIn m a (w .loglik)) es) w w′ a′ pm₀ pm′ fm₀ fm′ v₀ v′ → mat m tr ≡ t → vec m sh ≡ c → vec m a ≡ a1 → k ≡ m → Saved k a′ b → s′ ≡ meanKept m s (vec m a′)
-    → Passed p m n (meanRun (frameFrom p m z zs t) (record { c = c; d = d }) 0 (record { a = a1; loglik = w .loglik }) es) w w′ s s′ pm₀ (over n m pm′ b) fm₀ fm′ v₀ v′
-passed p m n z zs t c d a1 tr sh a es b g et ec ea e q h = placed _ b (rw (et, ec, ea) at g) e q h
+-- c and the first mean loaded before it
+pub passed : (p m n : ℕ) (z zs t ts c d a1 sh a : List Float) (es : List (List Decision × List Float)) {k : ℕ} {w w′ : Answer} {a′ s s′ pm₀ pm′ fm₀ fm′ v₀ v′ : List Float} (b : List Float)
+    → Looped p m n (meanRun (frameFrom p m z zs t ts) (record { c = vec m sh; d = d }) 0 (meanIn m a (w .loglik)) es) w w′ a′ pm₀ pm′ fm₀ fm′ v₀ v′ → vec m sh ≡ c → vec m a ≡ a1 → k ≡ m → Saved k a′ b → s′ ≡ meanKept m s (vec m a′)
+    → Passed p m n (meanRun (frameFrom p m z zs t ts) (record { c = c; d = d }) 0 (record { a = a1; loglik = w .loglik }) es) w w′ s s′ pm₀ (over n m pm′ b) fm₀ fm′ v₀ v′
+passed p m n z zs t ts c d a1 sh a es b g ec ea e q h = placed _ b (rw (ec, ea) at g) e q h

@@ -1,18 +1,18 @@
 -- Laws of one element and of a period's elements: what is read off the flat parts, and the loop over the elements against the scan.
 use mathlib.Core.Path.{_≡_, refl, sym, ap, ap₂, _∙_}
-use Prim.Native.Nat.{ℕ, zero, suc, _+_, _-_, _*_, _≤_, _<_}
+use Prim.Native.Nat.{ℕ, _+_, _-_, _*_, _≤_, _<_}
 use native.Mathlib.Omega.{arith}
 use native.Mathlib.Numerals.{add-one}
-use mathlib.Core.List.{List, [], _∷_}
+use mathlib.Core.List.{List}
 use lib.ListN.{length, getD, take, drop, set, length-take, length-drop, length-set}
 use lib.Seq.{getD-take, getD-drop, take-suc-set, take-all}
 use lib.Ieee.{Float, nan}
 use Rattle.definition.specs.Num.{_⊕_, _⊗_, _⊘_, at, tabulate}
 use Rattle.definition.specs.Dense.{axpy, axpyAt, over, overAt, row}
-use Rattle.definition.specs.Run.{scan, pairs}
+use Rattle.definition.specs.Run.{scan}
 use Rattle.definition.specs.Cov.{Decision, skipped}
 use Rattle.definition.specs.Mean.{Mean, vOf, heed, usualTerm, diffuseTerm, hear, meanStep, meanEnded, meanPeriodOf}
-use Rattle.laws.specs.Lists.{tab-cong, vector-at, pairs-at, scan-next}
+use Rattle.laws.specs.Lists.{tab-cong, vector-at, pairs-at, length-pairs, scan-next}
 use Rattle.laws.specs.Flat.{Flat, decisionOf, readBack, decisionsAt, decisions-long, decision-at, blockAt, kind-diffuse}
 use Rattle.laws.specs.Backward.{part-block, part-row}
 use Rattle.dense.specs.Views.{vec}
@@ -69,13 +69,6 @@ v-written m design ds i s d x h e =
     ap₂ (λ (u : Float) (t : Mean). (u, t)) (ap (λ (b : FlatRecord). b .v) (e ∙ ap flatOf (h .is)) ∙ v-told m (row m design i) (at ds i) (s .a) x d) (h .after)
 
 -- ---- the elements of a period, in order
-
-pub length-pairs : {A B : Type 0} (n : ℕ) (xs : List A) (ys : List B) → length xs ≡ n → length ys ≡ n → length (pairs xs ys) ≡ n
-unfolding pairs
-length-pairs n [] ys e f = e
-length-pairs zero (x ∷ xs) ys e f = absurd (omega arith)
-length-pairs (suc n) (x ∷ xs) [] e f = absurd (omega arith)
-length-pairs (suc n) (x ∷ xs) (y ∷ ys) e f = ap suc (length-pairs n xs ys (omega arith) (omega arith))
 
 -- a scan whose outputs a loop writes one by one
 scan-wrote : {A B S : Type 0} (f : ℕ → S → A → B × S) (xs : List A) (i : ℕ) (s₀ s s′ : S) (d : A) (out : List B) (x : B) → i < length xs → i < length out → scan f 0 s₀ (take i xs) ≡ (take i out, s) → (x, s′) ≡ f i s (getD xs i d) → scan f 0 s₀ (take (i + 1) xs) ≡ (take (i + 1) (set out i x), s′)

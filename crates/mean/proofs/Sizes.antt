@@ -6,10 +6,10 @@ use native.Mathlib.Omega.{arith}
 use mathlib.Core.List.{List}
 use lib.ListN.{length}
 use lib.Ieee.{Float}
-use Rattle.definition.specs.Inputs.{designFrom}
+use Rattle.definition.specs.Inputs.{partFrom}
 use Rattle.laws.specs.Flat.{Flat, fewer}
 use Rattle.laws.specs.Passes.{block-in}
-use Rattle.model.specs.Design.{length-design}
+use Rattle.model.specs.Lists.{length-part}
 use Rattle.mean.specs.View.{Element, Period, Periods, Room, Ready, Rooms}
 
 -- element i of a period, by a record of its block
@@ -26,18 +26,19 @@ element-in {p} {m} {t} {i} k h b below =
     }
 
 -- period t of n
-pub period-in : (z zs : List Float) {design : List Float} {p m n listed d y v t : ℕ} {r : Flat} → Periods p m n listed (length z) (length zs) d y r → t < n → design ≡ designFrom p m z zs t → v ≡ p → Period p m t (length design) d y v r
+pub period-in : (z zs : List Float) {design : List Float} {p m n tr trs d y v t : ℕ} {r : Flat} → Periods p m n (length z) (length zs) tr trs d y r → t < n → design ≡ partFrom (p * m) z zs t → v ≡ p → Period p m t (length design) d y v r
 period-in z zs {p = p} {n = n} {t = t} g h e l =
     let b = block-in t n p h in
-    let long = ap length e ∙ length-design z zs t (g .design) in
+    let long = ap length e ∙ length-part z zs t (g .design .chosen) in
     record { p8 = g .design .p8; m8 = g .design .m8; rows = omega (arith, long); intercepts = g .intercepts; readings = omega (arith, g .readings); vs = l; holds = fewer b (g .holds) }
 
 -- the pass's inputs, for the loop
-pub periods : {p m n listed z zs t c d a1 y : ℕ} {r : Flat} → Ready p m n listed z zs t c d a1 y r → Periods p m n listed z zs d y r
+pub periods : {p m n z zs t ts c d a1 y : ℕ} {r : Flat} → Ready p m n z zs t ts c d a1 y r → Periods p m n z zs t ts d y r
 periods {p} {m} {n} g =
     record {
       n4096 = g .n4096;
       design = g .design;
+      transition = g .transition;
       intercepts = omega (arith, g .intercepts);
       readings = omega (arith, g .readings);
       holds = record { ks = g .ks; fs = g .fs; fi = g .fi; ms = rw mul-assoc (g .ms); mi = rw mul-assoc (g .mi) };

@@ -13,7 +13,7 @@ use Rattle.definition.specs.Outcome.{meanWritten}
 use Rattle.laws.specs.Flat.{Flat, Holds, decisionsAt, decisionRows}
 use Rattle.laws.specs.Passes.{Laid}
 use Rattle.dense.specs.Views.{vec}
-use Rattle.model.specs.Design.{DesignFits}
+use Rattle.model.specs.Lists.{PartFits}
 use Rattle.carried.specs.State.{meanKept}
 use Rattle.promise.specs.declared.Record.{Record}
 use Rattle.promise.specs.Records.{recordOf}
@@ -70,10 +70,11 @@ pub record Period (p m t : ℕ) (design d y v : ℕ) (r : Flat) : Type 0 where
   pub vs : v ≡ p
   pub holds : Holds m (t * p + p) r
 
--- all n periods: the design, p intercepts, the readings and the records
-pub record Periods (p m n listed : ℕ) (z zs d y : ℕ) (r : Flat) : Type 0 where
+-- all n periods: the design, the transition, p intercepts, the readings and the records
+pub record Periods (p m n : ℕ) (z zs t ts d y : ℕ) (r : Flat) : Type 0 where
   pub n4096 : n ≤ 4096
-  pub design : DesignFits p m z zs listed
+  pub design : PartFits p m z zs
+  pub transition : PartFits m m t ts
   pub intercepts : p ≤ d
   pub readings : n * p ≤ y
   pub holds : Holds m (n * p) r
@@ -84,11 +85,12 @@ pub record Room (p m n : ℕ) (pm′ fm′ v′ : ℕ) : Type 0 where
   pub fm : n * m ≤ fm′
   pub vs : n * p ≤ v′
 
--- what a call that is past refusals 1 and 2 has for the pass: the lengths of Z, the listed Z, T, c, d, a1 and y, and the records
-pub record Ready (p m n listed : ℕ) (z zs t c d a1 y : ℕ) (r : Flat) : Type 0 where
+-- what a call that is past refusals 1 and 2 has for the pass: the lengths of Z, the listed Z, T, the listed T, c, d, a1 and y, and the
+-- records
+pub record Ready (p m n : ℕ) (z zs t ts c d a1 y : ℕ) (r : Flat) : Type 0 where
   pub n4096 : n ≤ 4096
-  pub design : DesignFits p m z zs listed
-  pub transition : t ≡ m * m
+  pub design : PartFits p m z zs
+  pub transition : PartFits m m t ts
   pub shift : c ≡ m
   pub intercepts : d ≡ p
   pub start : a1 ≡ m

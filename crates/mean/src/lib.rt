@@ -259,7 +259,7 @@ fn mean_period(
     loglik
 }
 
-// All n periods, in order. Each is handed its own block of each output.
+// All n periods, in order. Each is handed its own block of each output, and its own transition: `tr` is the constant one, `trs` the list.
 fn mean_loop<'a>(
     a: &mut [f64; 8],
     pred_mean: &mut [f64],
@@ -268,7 +268,8 @@ fn mean_loop<'a>(
     answer: promise::Answer,
     z: &'a [f64],
     zs: &'a [f64],
-    tr: &[f64; 64],
+    tr: &'a [f64],
+    trs: &'a [f64],
     c: &[f64; 8],
     d: &[f64],
     y: &[f64],
@@ -280,12 +281,11 @@ fn mean_loop<'a>(
     p: usize,
     m: usize,
     n: usize,
-    listed: usize,
 ) -> promise::Answer
-    requires { ⌜ Periods p m n listed (length (now z)) (length (now zs)) (length (now d)) (length (now y))
+    requires { ⌜ Periods p m n (length (now z)) (length (now zs)) (length (now tr)) (length (now trs)) (length (now d)) (length (now y))
         (flatIn (now kinds) (now «f_star») (now «f_inf») (now «m_star») (now «m_inf»))
         × Room p m n (length (now «pred_mean»)) (length (now «filt_mean»)) (length (now v)) ⌝ }
-    ensures { λ r. ⌜ Looped p m n (meanRun (frameFrom p m (now (z .entry)) (now (zs .entry)) (mat m (now (tr .entry))))
+    ensures { λ r. ⌜ Looped p m n (meanRun (frameFrom p m (now (z .entry)) (now (zs .entry)) (now (tr .entry)) (now (trs .entry)))
         (record { c = vec m (now (c .entry)); d = now (d .entry) }) 0 (meanIn m (now (a .entry)) (answer .loglik))
         (entries n p m (flatIn (now (kinds .entry)) (now («f_star» .entry)) (now («f_inf» .entry))
         (now («m_star» .entry)) (now («m_inf» .entry))) (now (y .entry))))
@@ -293,8 +293,10 @@ fn mean_loop<'a>(
         (now («filt_mean» .entry)) (now («filt_mean» .exit)) (now (v .entry)) (now (v .exit)) ⌝ }
 {
     let mut answer = answer;
+    let mut step = dense::load64(tr);
     for t in 0..n {
-        let design = model::design(z, zs, p, m, listed, t);
+        let design = model::lists::part(z, zs, p, m, t);
+        model::lists::transition(&mut step, tr, trs, m, t);
         let from = t * m;
         let to = from + m;
         let start = t * p;
@@ -306,7 +308,7 @@ fn mean_loop<'a>(
             &mut v[start..end],
             answer.loglik,
             design,
-            tr,
+            &step,
             c,
             d,
             y,
@@ -325,12 +327,13 @@ fn mean_loop<'a>(
 
 // The mean pass: v, the predicted and the filtered means of n periods, place n of the predicted ones, and the log-likelihood, which goes on from the
 // answer's. The counts of the answer go through as they came. It begins at the mean of the state that is lent, and leaves there the one after the n
-// periods; an empty state: it begins at a1. `listed` is how many designs the list has.
+// periods; an empty state: it begins at a1.
 pub fn mean_pass<'a>(
     answer: promise::Answer,
     z: &'a [f64],
     zs: &'a [f64],
-    t: &[f64],
+    t: &'a [f64],
+    ts: &'a [f64],
     c: &[f64],
     d: &[f64],
     a1: &[f64],
@@ -347,14 +350,13 @@ pub fn mean_pass<'a>(
     p: usize,
     m: usize,
     n: usize,
-    listed: usize,
 ) -> promise::Answer
     requires { ⌜ StateFits m (length (now state))
-        × Ready p m n listed (length (now z)) (length (now zs)) (length (now t))
+        × Ready p m n (length (now z)) (length (now zs)) (length (now t)) (length (now ts))
         (length (now c)) (length (now d)) (length (now a1)) (length (now y))
         (flatIn (now kinds) (now «f_star») (now «f_inf») (now «m_star») (now «m_inf»))
         × Rooms p m n (length (now «pred_mean»)) (length (now «filt_mean»)) (length (now v)) ⌝ }
-    ensures { λ r. ⌜ Passed p m n (meanRun (frameFrom p m (now (z .entry)) (now (zs .entry)) (now (t .entry)))
+    ensures { λ r. ⌜ Passed p m n (meanRun (frameFrom p m (now (z .entry)) (now (zs .entry)) (now (t .entry)) (now (ts .entry)))
         (record { c = now (c .entry); d = now (d .entry) }) 0
         (record { a = meanFrom m (now (state .entry)) (now (a1 .entry)); loglik = answer .loglik })
         (entries n p m (flatIn (now (kinds .entry)) (now («f_star» .entry)) (now («f_inf» .entry))
@@ -362,7 +364,6 @@ pub fn mean_pass<'a>(
         answer r (now (state .entry)) (now (state .exit)) (now («pred_mean» .entry)) (now («pred_mean» .exit))
         (now («filt_mean» .entry)) (now («filt_mean» .exit)) (now (v .entry)) (now (v .exit)) ⌝ }
 {
-    let tr = dense::load64(t);
     let shift = dense::load8(c);
     let mut a = carried::mean_from(state, a1, m);
     let answer = mean_loop(
@@ -373,7 +374,8 @@ pub fn mean_pass<'a>(
         answer,
         z,
         zs,
-        &tr,
+        t,
+        ts,
         &shift,
         d,
         y,
@@ -385,7 +387,6 @@ pub fn mean_pass<'a>(
         p,
         m,
         n,
-        listed,
     );
     let from = n * m;
     let to = from + m;

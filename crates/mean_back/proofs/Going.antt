@@ -13,13 +13,12 @@ use Rattle.definition.specs.Run.{scanBack, join}
 use Rattle.definition.specs.Cov.{CovPeriod}
 use Rattle.definition.specs.Mean.{Frame, MeanPeriod}
 use Rattle.definition.specs.Smooth.{Rs, backA, backMeanOf, backMean, noRs}
-use Rattle.definition.specs.Inputs.{designFrom, frameFrom}
-use Rattle.laws.specs.Lists.{tab-at, length-tab, pairs-at}
+use Rattle.definition.specs.Inputs.{partFrom, transitionFrom, frameFrom}
+use Rattle.laws.specs.Lists.{tab-at, length-tab, pairs-at, length-pairs}
 use Rattle.laws.specs.Flat.{Flat, lookAt, looks, meanLookAt, meanLooks}
 use Rattle.laws.specs.Passes.{over, Laid}
 use Rattle.laws.specs.Backward.{later, WroteFrom, from-none, later-none, later-step, from-next, from-all}
-use Rattle.dense.specs.Views.{vec, mat}
-use Rattle.mean.proofs.Laws.{length-pairs}
+use Rattle.dense.specs.Views.{vec}
 use Rattle.mean_back.specs.View.{lookedAt, looked}
 
 -- a smoothed mean has m places
@@ -81,20 +80,21 @@ module _ (n p m dd : ℕ) (pm pc pi vs : List Float) (r : Flat) where
     pub going-all : {i : ℕ} {s : Rs} {o₀ o : List Float} → Going i s o₀ o → i ≤ 0 → n * m ≤ length o₀ → Laid (n * m) (join (scanBack (backMean y) 0 s₀ es .0)) o₀ o
     going-all {i} {s} {o₀} {o} g h room = let e : i ≡ 0 = omega arith in from-all (backMean y) m es s₀ n o₀ o looked-long room (rw e at (g .out))
 
--- the frame's period, with the design and T that the code has
-pub framed : (p m t : ℕ) (z zs tr design : List Float) (s : Rs) (c : CovPeriod × MeanPeriod) {b : List Float × Rs} → design ≡ designFrom p m z zs t → b ≡ backMeanOf m tr design s c → b ≡ backMean (frameFrom p m z zs tr) t s c
+-- the frame's period, with the design and the T that the code has: the period's, and that of the period u before it
+pub framed : (p m t u : ℕ) (z zs tr trs design step : List Float) (s : Rs) (c : CovPeriod × MeanPeriod) {b : List Float × Rs} → design ≡ partFrom (p * m) z zs t → u ≡ t - 1 → step ≡ transitionFrom m tr trs u → b ≡ backMeanOf m step design s c
+    → b ≡ backMean (frameFrom p m z zs tr trs) t s c
 unfolding frameFrom
-framed p m t z zs tr design s c q h = h ∙ ap (λ (l : List Float). backMeanOf m tr l s c) q
+framed p m t u z zs tr trs design step s c ed eu es h = h ∙ ap₂ (λ (a d : List Float). backMeanOf m a d s c) (es ∙ ap (transitionFrom m tr trs) eu) ed
 
-pub framed-m : (p m : ℕ) (z zs tr : List Float) → frameFrom p m z zs tr .m ≡ m
+pub framed-m : (p m : ℕ) (z zs tr trs : List Float) → frameFrom p m z zs tr trs .m ≡ m
 unfolding frameFrom
-framed-m p m z zs tr = refl
+framed-m p m z zs tr trs = refl
 
--- T loaded and r0 and r1 set to zeros before it
+-- r0 and r1 set to zeros
 pub started : (m : ℕ) (r0 r1 : List Float) → vec m r0 ≡ zeros m → vec m r1 ≡ zeros m → _≡_ {A = Rs} (record { r0 = vec m r0; r1 = vec m r1 }) (noRs m)
 unfolding noRs
 started m r0 r1 e h = cc
 
-pub passed : (n p m : ℕ) (z zs t tr : List Float) (es : List (CovPeriod × MeanPeriod)) (s : Rs) {o₀ o : List Float} → Laid (n * m) (join (scanBack (backMean (frameFrom p m z zs (mat m tr))) 0 s es .0)) o₀ o → mat m tr ≡ t → s ≡ noRs m
-    → Laid (n * m) (join (scanBack (backMean (frameFrom p m z zs t)) 0 (noRs m) es .0)) o₀ o
-passed n p m z zs t tr es s g et e = rw (et, e) at g
+pub passed : (n p m : ℕ) (z zs t ts : List Float) (es : List (CovPeriod × MeanPeriod)) (s : Rs) {o₀ o : List Float} → Laid (n * m) (join (scanBack (backMean (frameFrom p m z zs t ts)) 0 s es .0)) o₀ o → s ≡ noRs m
+    → Laid (n * m) (join (scanBack (backMean (frameFrom p m z zs t ts)) 0 (noRs m) es .0)) o₀ o
+passed n p m z zs t ts es s g e = rw e at g

@@ -13,12 +13,11 @@ use Rattle.definition.specs.Dense.{axpy, scaled, row, matVec, matTVec, matTVecT
 use Rattle.definition.specs.Run.{foldBack, pairs}
 use Rattle.definition.specs.Cov.{Decision, skipped, diffuse}
 use Rattle.definition.specs.Smooth.{Rs, lZero, lZeroAt, lOne, lOneAt, fOne, kOne, lUsual, lDiffuse, usualR, diffuseR, backR, backMeanElement, elementsR, backA, stepRs, backMeanOf}
-use Rattle.laws.specs.Lists.{tab-at, length-tab, matrix-at, pairs-at}
+use Rattle.laws.specs.Lists.{tab-at, length-tab, matrix-at, pairs-at, length-pairs}
 use Rattle.laws.specs.Flat.{Flat, readBack, decisionsAt, decisions-long, decision-at, blockAt, lookAt, meanLookAt}
 use Rattle.dense.proofs.Laws.{but-next, loaded-row}
 use Rattle.dense.specs.Views.{vec}
 use Rattle.laws.specs.Backward.{fold-none, fold-step, part-block}
-use Rattle.mean.proofs.Laws.{length-pairs}
 use Rattle.promise.specs.declared.Kind.the-variants.{Skipped, Usual, Diffuse}
 use Rattle.promise.specs.declared.Record.{Record}
 use Rattle.promise.specs.Records.{recordAt}

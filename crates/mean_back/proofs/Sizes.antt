@@ -5,11 +5,11 @@ use native.Mathlib.Omega.{arith}
 use mathlib.Core.List.{List}
 use lib.ListN.{length}
 use lib.Ieee.{Float}
-use Rattle.definition.specs.Inputs.{designFrom}
+use Rattle.definition.specs.Inputs.{partFrom}
 use Rattle.laws.specs.Flat.{Flat, fewer}
 use Rattle.laws.specs.Sizes.{square-le}
 use Rattle.laws.specs.Passes.{block-in}
-use Rattle.model.specs.Design.{length-design}
+use Rattle.model.specs.Lists.{length-part}
 use Rattle.mean_back.specs.View.{Square, Element, Period, Block, Periods}
 
 -- row i of a square part
@@ -33,8 +33,8 @@ element-in {p} {m} {t} {i} h b =
       diffuse = record { m8 = h .m8; row = omega (arith, h .rows); gain = omega (arith, h .holds .mi) };
     }
 
-module _ {p m n listed pm pc pi v : ℕ} {r : Flat} {sm : ℕ} {t : ℕ} (h : t < n) where
-  pub block-of : {z zs : ℕ} → Periods p m n listed z zs pm pc pi v r sm → Block m t pm pc pi
+module _ {p m n tr trs pm pc pi v : ℕ} {r : Flat} {sm : ℕ} {t : ℕ} (h : t < n) where
+  pub block-of : {z zs : ℕ} → Periods p m n z zs tr trs pm pc pi v r sm → Block m t pm pc pi
   block-of g =
       record {
         m8 = g .design .m8;
@@ -44,8 +44,8 @@ module _ {p m n listed pm pc pi v : ℕ} {r : Flat} {sm : ℕ} {t : ℕ} (h : t 
         infs = omega (arith, block-in t n (m * m) h, g .infs);
       }
 
-  pub period-of : (z zs : List Float) {design : List Float} → Periods p m n listed (length z) (length zs) pm pc pi v r sm → design ≡ designFrom p m z zs t → Period p m t (length design) v r
+  pub period-of : (z zs : List Float) {design : List Float} → Periods p m n (length z) (length zs) tr trs pm pc pi v r sm → design ≡ partFrom (p * m) z zs t → Period p m t (length design) v r
   period-of z zs g e =
       let b = block-in t n p h in
-      let long = ap length e ∙ length-design z zs t (g .design) in
+      let long = ap length e ∙ length-part z zs t (g .design .chosen) in
       record { p8 = g .design .p8; m8 = g .design .m8; rows = omega (arith, long); news = omega (arith, g .news); holds = fewer b (g .holds) }

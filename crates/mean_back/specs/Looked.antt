@@ -13,13 +13,12 @@ use Rattle.definition.specs.Parts.{predMean, innovations, meanBlock}
 use Rattle.definition.specs.Inputs.{Model, Offsets, Class, systemFrom, systemOf, frameFrom, frameOf, startOf}
 use Rattle.definition.specs.Outcome.{decisionsOf, covOf, meanOf, meanWritten}
 use Rattle.laws.specs.Flat.{meanLookOf, meanLooks}
-use Rattle.laws.specs.Lists.{Each, length-tab, length-scan, length-chunks, chunks-each}
+use Rattle.laws.specs.Lists.{Each, length-tab, length-scan, length-chunks, chunks-each, length-pairs}
 use Rattle.laws.specs.Passes.{Laid}
 use Rattle.laws.specs.All.{AllOf}
 use Rattle.laws.specs.ReadBack.{Whole}
 use Rattle.laws.specs.Shapes.{run-whole, run-length}
 use Rattle.laws.specs.Backward.{LongP, mean-looks-back}
-use Rattle.mean.proofs.Laws.{length-pairs}
 
 -- ---- a run over periods that decide on p elements and have p readings
 

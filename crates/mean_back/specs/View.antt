@@ -8,7 +8,7 @@ use Rattle.definition.specs.Run.{pairs}
 use Rattle.definition.specs.Cov.{CovPeriod}
 use Rattle.definition.specs.Mean.{MeanPeriod}
 use Rattle.laws.specs.Flat.{Flat, Holds, lookAt, looks, meanLookAt, meanLooks}
-use Rattle.model.specs.Design.{DesignFits}
+use Rattle.model.specs.Lists.{PartFits}
 
 -- ---- what a period looks at, and what n periods look at: the parts of the predicted means, of P, of P∞ and of v, and the records
 
@@ -70,18 +70,14 @@ pub record Block (m t : ℕ) (pm pc pi : ℕ) : Type 0 where
   pub covs : t * (m * m) + m * m ≤ pc
   pub infs : t * (m * m) + m * m ≤ pi
 
--- all n periods: the design, the predicted moments, v and the records; and room for their smoothed means
-pub record Periods (p m n listed : ℕ) (z zs pm pc pi v : ℕ) (r : Flat) (sm : ℕ) : Type 0 where
+-- all n periods: the design, the transition, the predicted moments, v and the records; and room for their smoothed means
+pub record Periods (p m n : ℕ) (z zs t ts pm pc pi v : ℕ) (r : Flat) (sm : ℕ) : Type 0 where
   pub n4096 : n ≤ 4096
-  pub design : DesignFits p m z zs listed
+  pub design : PartFits p m z zs
+  pub transition : PartFits m m t ts
   pub means : n * m ≤ pm
   pub covs : n * (m * m) ≤ pc
   pub infs : n * (m * m) ≤ pi
   pub news : n * p ≤ v
   pub holds : Holds m (n * p) r
   pub room : n * m ≤ sm
-
--- and T
-pub record Ready (p m n listed : ℕ) (z zs t pm pc pi v : ℕ) (r : Flat) (sm : ℕ) : Type 0 where
-  pub transition : t ≡ m * m
-  pub periods : Periods p m n listed z zs pm pc pi v r sm

@@ -15,7 +15,7 @@ ghost use Rattle.laws.specs.Flat.{flatIn, readBack, decisionsAt, blockAt};
 ghost use Rattle.laws.specs.Passes.{Laid};
 ghost use Rattle.dense.specs.Views.{vec, mat};
 ghost use Rattle.element_back.specs.View.{rsIn};
-ghost use Rattle.mean_back.specs.View.{lookedAt, looked, Vectors, Square, Entry, Element, Period, Smoothed, Block, Periods, Ready};
+ghost use Rattle.mean_back.specs.View.{lookedAt, looked, Vectors, Square, Entry, Element, Period, Smoothed, Block, Periods};
 use promise::FlatRecord;
 use promise::Kind;
 
@@ -447,14 +447,16 @@ fn period_back(
     step_back(r0, r1, tr, m);
 }
 
-// All n periods, last to first. Each is handed its own block of the output.
+// All n periods, last to first. Each is handed its own block of the output, and the transition of the period before it, by which it steps back: `tr` is
+// the constant one, `trs` the list.
 fn loop_back<'a>(
     r0: &mut [f64; 8],
     r1: &mut [f64; 8],
     sm_mean: &mut [f64],
     z: &'a [f64],
     zs: &'a [f64],
-    tr: &[f64; 64],
+    tr: &'a [f64],
+    trs: &'a [f64],
     pred_mean: &[f64],
     pred_cov: &[f64],
     pred_inf: &[f64],
@@ -468,13 +470,13 @@ fn loop_back<'a>(
     p: usize,
     m: usize,
     n: usize,
-    listed: usize,
 )
-    requires { ⌜ Periods p m n listed (length (now z)) (length (now zs)) (length (now «pred_mean»))
-        (length (now «pred_cov»)) (length (now «pred_inf»)) (length (now v))
+    requires { ⌜ Periods p m n (length (now z)) (length (now zs)) (length (now tr)) (length (now trs))
+        (length (now «pred_mean»)) (length (now «pred_cov»)) (length (now «pred_inf»)) (length (now v))
         (flatIn (now kinds) (now «f_star») (now «f_inf») (now «m_star») (now «m_inf»)) (length (now «sm_mean»)) ⌝ }
     ensures { λ _. ⌜ Laid (n * m)
-        (join (scanBack (backMean (frameFrom p m (now (z .entry)) (now (zs .entry)) (mat m (now (tr .entry))))) 0
+        (join (scanBack (backMean (frameFrom p m (now (z .entry)) (now (zs .entry))
+        (now (tr .entry)) (now (trs .entry)))) 0
         (rsIn m (now (r0 .entry)) (now (r1 .entry)))
         (looked n p m «d_diffuse» (now («pred_mean» .entry)) (now («pred_cov» .entry))
         (now («pred_inf» .entry)) (now (v .entry))
@@ -482,10 +484,13 @@ fn loop_back<'a>(
         (now («m_star» .entry)) (now («m_inf» .entry)))) .0))
         (now («sm_mean» .entry)) (now («sm_mean» .exit)) ⌝ }
 {
+    let mut step = dense::load64(tr);
     let mut t = n;
     while 0 < t {
         t = t - 1;
-        let design = model::design(z, zs, p, m, listed, t);
+        let design = model::lists::part(z, zs, p, m, t);
+        let earlier = element_back::before(t);
+        model::lists::transition(&mut step, tr, trs, m, earlier);
         let from = t * m;
         let to = from + m;
         period_back(
@@ -493,7 +498,7 @@ fn loop_back<'a>(
             r1,
             &mut sm_mean[from..to],
             design,
-            tr,
+            &step,
             pred_mean,
             pred_cov,
             pred_inf,
@@ -511,11 +516,12 @@ fn loop_back<'a>(
     }
 }
 
-// The smoothed means of n periods, by what the two passes forward left. `listed` is how many designs the list has.
+// The smoothed means of n periods, by what the two passes forward left.
 pub fn mean_back<'a>(
     z: &'a [f64],
     zs: &'a [f64],
-    t: &[f64],
+    t: &'a [f64],
+    ts: &'a [f64],
     pred_mean: &[f64],
     pred_cov: &[f64],
     pred_inf: &[f64],
@@ -530,20 +536,19 @@ pub fn mean_back<'a>(
     p: usize,
     m: usize,
     n: usize,
-    listed: usize,
 )
-    requires { ⌜ Ready p m n listed (length (now z)) (length (now zs)) (length (now t)) (length (now «pred_mean»))
-        (length (now «pred_cov»)) (length (now «pred_inf»)) (length (now v))
+    requires { ⌜ Periods p m n (length (now z)) (length (now zs)) (length (now t)) (length (now ts))
+        (length (now «pred_mean»)) (length (now «pred_cov»)) (length (now «pred_inf»)) (length (now v))
         (flatIn (now kinds) (now «f_star») (now «f_inf») (now «m_star») (now «m_inf»)) (length (now «sm_mean»)) ⌝ }
     ensures { λ _. ⌜ Laid (n * m)
-        (join (scanBack (backMean (frameFrom p m (now (z .entry)) (now (zs .entry)) (now (t .entry)))) 0 (noRs m)
+        (join (scanBack (backMean (frameFrom p m (now (z .entry)) (now (zs .entry))
+        (now (t .entry)) (now (ts .entry)))) 0 (noRs m)
         (looked n p m «d_diffuse» (now («pred_mean» .entry)) (now («pred_cov» .entry))
         (now («pred_inf» .entry)) (now (v .entry))
         (flatIn (now (kinds .entry)) (now («f_star» .entry)) (now («f_inf» .entry))
         (now («m_star» .entry)) (now («m_inf» .entry)))) .0))
         (now («sm_mean» .entry)) (now («sm_mean» .exit)) ⌝ }
 {
-    let tr = dense::load64(t);
     let mut r0 = [0.0; 8];
     let mut r1 = [0.0; 8];
     loop_back(
@@ -552,7 +557,8 @@ pub fn mean_back<'a>(
         sm_mean,
         z,
         zs,
-        &tr,
+        t,
+        ts,
         pred_mean,
         pred_cov,
         pred_inf,
@@ -566,6 +572,5 @@ pub fn mean_back<'a>(
         p,
         m,
         n,
-        listed,
     );
 }

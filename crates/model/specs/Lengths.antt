@@ -7,14 +7,14 @@ use lib.ListN.{length}
 use lib.Dec.{eqb, leb}
 use lib.Ieee.{Float}
 use Rattle.definition.specs.Inputs.{Model, Offsets}
-use Rattle.definition.specs.Refusals.{outside, designFits, inputsFit, firstOf, tests, refusal}
+use Rattle.definition.specs.Refusals.{outside, partFits, inputsFit, firstOf, tests, refusal}
 use Rattle.definition.specs.Parts.{predCov, predInf, filtCov, fStar, fInf, mStar, mInf, predMean, filtMean, innovations}
 use Rattle.definition.specs.Outcome.{CovParts, MeanParts, kindsNeed, covNeed, meanNeed, smoothedCovNeed, smoothedMeanNeed, roomy, roomySmoothed}
 
--- of the inputs: Z, Zs, H, T, R, Q, c, d, a1, P*, the flags and the readings
-unfoldable pub lengthsFit : (p m r n z zs h t rr q c d a1 p* flags y : ℕ) → Bool
-lengthsFit p m r n z zs h t rr q c d a1 p* flags y =
-    designFits (p * m) z zs && eqb h (p * p) && eqb t (m * m) && eqb rr (m * r) && eqb q (r * r) && eqb c m && eqb d p
+-- of the inputs: Z, Zs, H, T, Ts, R, Q, c, d, a1, P*, the flags and the readings
+unfoldable pub lengthsFit : (p m r n z zs h t ts rr q c d a1 p* flags y : ℕ) → Bool
+lengthsFit p m r n z zs h t ts rr q c d a1 p* flags y =
+    partFits (p * m) z zs && eqb h (p * p) && partFits (m * m) t ts && eqb rr (m * r) && eqb q (r * r) && eqb c m && eqb d p
     && eqb a1 m
     && eqb p* (m * m)
     && eqb flags m
@@ -40,8 +40,8 @@ roomsSmoothed m n room sm sc = room && leb (n * (m * m)) sc && leb (n * m) sm
 
 pub lengths-fit : (x : Model) (o : Offsets) (y : ℕ)
     → (inputsFit x o && eqb y (x .n * x .p))
-    ≡ lengthsFit (x .p) (x .m) (x .r) (x .n) (length (x .zOnce)) (length (x .zList)) (length (x .h)) (length (x .t))
-    (length (x .rr)) (length (x .q)) (length (o .c)) (length (o .d)) (length (o .a1)) (length (x .pStar)) (length (x .flags)) y
+    ≡ lengthsFit (x .p) (x .m) (x .r) (x .n) (length (x .zOnce)) (length (x .zList)) (length (x .h)) (length (x .tOnce))
+    (length (x .tList)) (length (x .rr)) (length (x .q)) (length (o .c)) (length (o .d)) (length (o .a1)) (length (x .pStar)) (length (x .flags)) y
 unfolding inputsFit lengthsFit
 lengths-fit x o y = refl
 

@@ -1,5 +1,5 @@
 pub mod Lengths
-pub mod Design
+pub mod Lists
 pub mod Places
 pub mod Noise
 pub mod Start

@@ -1,6 +1,7 @@
 -- What the functions require of the lengths of the parts that they read.
 use mathlib.Core.Path.{_≡_}
 use Prim.Native.Nat.{ℕ, _*_, _≤_, _<_}
+use Rattle.model.specs.Lists.{PartFits}
 
 -- a square matrix of at most 8 by 8, with as many numbers as it needs
 pub record Square (k size : ℕ) : Type 0 where
@@ -43,7 +44,7 @@ pub record StartGiven (m size-a1 size-p* size-flags : ℕ) : Type 0 where
   pub a1 : size-a1 ≡ m
   pub flags : size-flags ≡ m
 
--- T of m by m, and a flag for each state
-pub record StepFits (m size-t size-flags : ℕ) : Type 0 where
-  pub t : Square m size-t
+-- T, and a flag for each state
+pub record StepFits (m once list size-flags : ℕ) : Type 0 where
+  pub t : PartFits m m once list
   pub flags : size-flags ≡ m

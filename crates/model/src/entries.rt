@@ -27,15 +27,24 @@ ghost use Rattle.model.specs.Places.{Square, Row, Place};
 
 // ---- lists
 
-// 3: an entry is NaN or an infinity, in a design, H, T, R or Q.
-pub fn bad_system(z: &[f64], zs: &[f64], h: &[f64], t: &[f64], rr: &[f64], q: &[f64]) -> bool
+// 3: an entry is NaN or an infinity, in a design, H, a transition, R or Q.
+pub fn bad_system(
+    z: &[f64],
+    zs: &[f64],
+    h: &[f64],
+    t: &[f64],
+    ts: &[f64],
+    rr: &[f64],
+    q: &[f64],
+) -> bool
     ensures { λ r. ⌜ r ≡ badSystem (now (z .entry)) (now (zs .entry)) (now (h .entry)) (now (t .entry))
-        (now (rr .entry)) (now (q .entry)) ⌝ }
+        (now (ts .entry)) (now (rr .entry)) (now (q .entry)) ⌝ }
 {
     dense::not_finite(z)
         | dense::not_finite(zs)
         | dense::not_finite(h)
         | dense::not_finite(t)
+        | dense::not_finite(ts)
         | dense::not_finite(rr)
         | dense::not_finite(q)
 }

@@ -1,8 +1,8 @@
-// The tests of refusals 1, 2 and 14: the sizes, the lengths of the lent parts, a list's reach.
+// The tests of refusals 1, 2 and 14: the sizes, the lengths of the lent parts, how far the lists reach.
 ghost use mathlib.Core.Path.{_≡_};
 ghost use mathlib.Core.Bool.{false};
 ghost use Prim.Native.Nat.{_<_};
-ghost use Rattle.definition.specs.Refusals.{beyond, outside, designFits, listShort};
+ghost use Rattle.definition.specs.Refusals.{beyond, outside, partFits, outrun, listShort};
 ghost use Rattle.definition.specs.Stretch.{outsideStretch};
 ghost use Rattle.laws.specs.Accepted.{InRange};
 ghost use Rattle.model.specs.Lengths.{lengthsFit, rooms, roomsSmoothed};
@@ -28,13 +28,13 @@ pub fn outside_stretch(p: usize, m: usize, r: usize, n: usize) -> bool
     beyond(8, p) | beyond(8, m) | beyond(8, r) | (4096 < n)
 }
 
-// The constant design of pm numbers, or 1 to 4096 listed ones.
-fn design_fits(pm: usize, once: usize, list: usize) -> bool
-    requires { ⌜ 0 < pm ⌝ }
-    ensures { λ r. ⌜ r ≡ designFits pm once list ⌝ }
+// Of Z, and of T: the constant one of k numbers, or 1 to 4096 listed ones.
+fn part_fits(k: usize, once: usize, list: usize) -> bool
+    requires { ⌜ 0 < k ⌝ }
+    ensures { λ r. ⌜ r ≡ partFits k once list ⌝ }
 {
-    let k = list / pm;
-    (once == pm) & (list == 0) | (once == 0) & (list == k * pm) & (k != 0) & (k <= 4096)
+    let n = list / k;
+    (once == k) & (list == 0) | (once == 0) & (list == n * k) & (n != 0) & (n <= 4096)
 }
 
 // 2, but for the outputs: each input has its length.
@@ -47,6 +47,7 @@ pub fn lengths_fit(
     zs: usize,
     h: usize,
     t: usize,
+    ts: usize,
     rr: usize,
     q: usize,
     c: usize,
@@ -57,12 +58,13 @@ pub fn lengths_fit(
     y: usize,
 ) -> bool
     requires { ⌜ InRange p m r n ⌝ }
-    ensures { λ b. ⌜ b ≡ lengthsFit p m r n z zs h t rr q c d a1 «p_star» flags y ⌝ }
+    ensures { λ b. ⌜ b ≡ lengthsFit p m r n z zs h t ts rr q c d a1 «p_star» flags y ⌝ }
 {
-    let design = design_fits(p * m, z, zs);
+    let design = part_fits(p * m, z, zs);
+    let transition = part_fits(m * m, t, ts);
     design
         & (h == p * p)
-        & (t == m * m)
+        & transition
         & (rr == m * r)
         & (q == r * r)
         & (c == m)
@@ -73,12 +75,20 @@ pub fn lengths_fit(
         & (y == n * p)
 }
 
-// 14: a list of so many numbers has fewer designs than there are periods, and the call does not ask that the last be used again.
-pub fn list_short(repeats: bool, pm: usize, list: usize, periods: usize) -> bool
-    requires { ⌜ 0 < pm ⌝ }
-    ensures { λ b. ⌜ b ≡ listShort repeats pm list periods ⌝ }
+// 2, of T: a list of so many numbers has fewer entries than there are periods.
+pub fn outrun(k: usize, list: usize, periods: usize) -> bool
+    requires { ⌜ 0 < k ⌝ }
+    ensures { λ b. ⌜ b ≡ outrun k list periods ⌝ }
 {
-    !repeats & ((list != 0) & (list / pm < periods))
+    (list != 0) & (list / k < periods)
+}
+
+// 14: the same of the designs, where the call does not ask that the last be used again.
+pub fn list_short(repeats: bool, k: usize, list: usize, periods: usize) -> bool
+    requires { ⌜ 0 < k ⌝ }
+    ensures { λ b. ⌜ b ≡ listShort repeats k list periods ⌝ }
+{
+    !repeats & outrun(k, list, periods)
 }
 
 // Each of the filter's outputs is as long as needed, for sizes in range.

@@ -1,21 +1,21 @@
-// model.rs: the checks of a call's inputs, with the noise R Q R'; the period's design, the start.
+// model.rs: the checks of a call's inputs, with the noise R Q R'; the period's design and transition, the start.
 ghost use mathlib.Core.Path.{_≡_};
 ghost use mathlib.Core.List.{map};
 ghost use Prim.Native.Nat.{_<_, _≤_, _-_, _*_, _/_, min};
 ghost use lib.ListN.{length, drop};
 ghost use Rattle.definition.specs.Run.{anyOf};
-ghost use Rattle.definition.specs.Inputs.{designFrom, noiseOf, startFrom, isInfinity, classOf};
+ghost use Rattle.definition.specs.Inputs.{noiseOf, startFrom, isInfinity, classOf};
 ghost use Rattle.definition.specs.Refusals.{firstOf, ofEntries, refusal};
 ghost use Rattle.laws.specs.Accepted.{InRange, InputsFit};
 ghost use Rattle.dense.specs.Views.{mat};
 ghost use Rattle.promise.specs.Lent.{modelOf, offsetsOf};
-ghost use Rattle.model.specs.Design.{DesignFits};
 ghost use Rattle.model.specs.Places.{StartFits};
 ghost use Rattle.model.specs.Start.{covOf};
 
 mod diffuse; // P∞ and its root
 mod entries; // the tests of refusals 3 to 10
 pub mod lengths; // the tests of refusals 1, 2 and 14
+pub mod lists; // the period's design and transition
 mod noise; // R Q R'
 pub mod refusals; // the refusals by segments
 
@@ -24,7 +24,7 @@ pub mod refusals; // the refusals by segments
 // Of inputs that have their lengths, the number of the first of refusals 3 to 11 that applies, by document 01's table; 0 for
 // none. The order is every call's. Where none applies rqr holds R Q R', which refusal 11 looks at and the run goes by.
 // n and the marker `repeats` are there for the contract, which speaks of the model.
-pub fn refusal_of_entries(
+pub fn refusal_of_entries<'a>(
     p: usize,
     m: usize,
     r: usize,
@@ -33,7 +33,8 @@ pub fn refusal_of_entries(
     zs: &[f64],
     repeats: bool,
     h: &[f64],
-    t: &[f64],
+    t: &'a [f64],
+    ts: &'a [f64],
     rr: &[f64],
     q: &[f64],
     c: &[f64],
@@ -45,16 +46,16 @@ pub fn refusal_of_entries(
     rqr: &mut [f64; 64],
 ) -> u8
     requires { ⌜ InRange p m r n × InputsFit
-        (modelOf p m r n (now z) (now zs) repeats (now h) (now t) (now rr) (now q) (now «p_star») (now flags))
+        (modelOf p m r n (now z) (now zs) repeats (now h) (now t) (now ts) (now rr) (now q) (now «p_star») (now flags))
         (offsetsOf (now c) (now d) (now a1)) ⌝ }
     ensures { λ k. ⌜ k ≡ firstOf (ofEntries
-        (modelOf p m r n (now (z .entry)) (now (zs .entry)) repeats (now (h .entry)) (now (t .entry)) (now (rr .entry))
-        (now (q .entry)) (now («p_star» .entry)) (now (flags .entry)))
+        (modelOf p m r n (now (z .entry)) (now (zs .entry)) repeats (now (h .entry)) (now (t .entry)) (now (ts .entry))
+        (now (rr .entry)) (now (q .entry)) (now («p_star» .entry)) (now (flags .entry)))
         (offsetsOf (now (c .entry)) (now (d .entry)) (now (a1 .entry)))
         (anyOf isInfinity (map classOf (now (y .entry)))))
         × (k ≡ 0 → mat m (now (rqr .exit)) ≡ noiseOf m r (now (rr .entry)) (now (q .entry))) ⌝ }
 {
-    let system = refusals::of_system(p, r, z, zs, h, t, rr, q);
+    let system = refusals::of_system(p, r, z, zs, h, t, ts, rr, q);
     if system != 0 {
         return system;
     }
@@ -70,12 +71,12 @@ pub fn refusal_of_entries(
     if readings != 0 {
         return readings;
     }
-    refusals::of_step(m, r, t, rr, q, flags, rqr)
+    refusals::of_step(m, r, t, ts, rr, q, flags, rqr)
 }
 
-// The first of refusals 1, 2, 14 and 3 to 11 that applies: the filter's call and the smoother's. `room` is what lengths::room, or
+// The first of refusals 1, 2, 2 by T's reach, 14 and 3 to 11 that applies: the filter's call and the smoother's. `room` is what lengths::room, or
 // lengths::room_smoothed, says of the outputs.
-pub fn refusal(
+pub fn refusal<'a>(
     p: usize,
     m: usize,
     r: usize,
@@ -84,7 +85,8 @@ pub fn refusal(
     zs: &[f64],
     repeats: bool,
     h: &[f64],
-    t: &[f64],
+    t: &'a [f64],
+    ts: &'a [f64],
     rr: &[f64],
     q: &[f64],
     c: &[f64],
@@ -97,8 +99,8 @@ pub fn refusal(
     rqr: &mut [f64; 64],
 ) -> u8
     ensures { λ k. ⌜ k ≡ refusal
-        (modelOf p m r n (now (z .entry)) (now (zs .entry)) repeats (now (h .entry)) (now (t .entry)) (now (rr .entry))
-        (now (q .entry)) (now («p_star» .entry)) (now (flags .entry)))
+        (modelOf p m r n (now (z .entry)) (now (zs .entry)) repeats (now (h .entry)) (now (t .entry)) (now (ts .entry))
+        (now (rr .entry)) (now (q .entry)) (now («p_star» .entry)) (now (flags .entry)))
         (offsetsOf (now (c .entry)) (now (d .entry)) (now (a1 .entry)))
         (length (now (y .entry))) (anyOf isInfinity (map classOf (now (y .entry)))) room
         × (k ≡ 0 → mat m (now (rqr .exit)) ≡ noiseOf m r (now (rr .entry)) (now (q .entry))) ⌝ }
@@ -117,6 +119,7 @@ pub fn refusal(
         repeats,
         h,
         t,
+        ts,
         rr,
         q,
         c,
@@ -130,7 +133,7 @@ pub fn refusal(
     if lengths != 0 {
         return lengths;
     }
-    let reach = refusals::of_reach(p, m, zs, repeats, n);
+    let reach = refusals::of_reach(p, m, zs, repeats, ts, n);
     if reach != 0 {
         return reach;
     }
@@ -144,6 +147,7 @@ pub fn refusal(
         repeats,
         h,
         t,
+        ts,
         rr,
         q,
         c,
@@ -154,62 +158,6 @@ pub fn refusal(
         y,
         rqr,
     )
-}
-
-// ---- the period's design
-
-// How many designs the list has: the only division, and no period makes it.
-pub fn listed(zs: &[f64], p: usize, m: usize) -> usize
-    requires { ⌜ (0 < p) × (p ≤ 8) × (0 < m) × (m ≤ 8) ⌝ }
-    ensures { λ r. ⌜ r ≡ length (now (zs .entry)) / (p * m) ⌝ }
-{
-    zs.len() / (p * m)
-}
-
-// Period t takes entry t, or the last once the list has run out.
-fn entry_of(listed: usize, t: usize) -> usize
-    requires { ⌜ 0 < listed ⌝ }
-    ensures { λ r. ⌜ r ≡ min t (listed - 1) ⌝ }
-{
-    if t < listed {
-        return t;
-    }
-    listed - 1
-}
-
-// The list without the entries that the first `done` periods have used up: what is left begins with the one that the next
-// period takes. Of an empty list nothing is left.
-pub fn later<'a>(zs: &'a [f64], p: usize, m: usize, done: usize) -> &'a [f64]
-    requires { ⌜ (0 < p) × (p ≤ 8) × (0 < m) × (m ≤ 8) ⌝ }
-    ensures { λ r. ⌜ now r ≡ drop (min done (length (now (zs .entry)) / (p * m) - 1) * (p * m)) (now (zs .entry)) ⌝ }
-{
-    let listed = listed(zs, p, m);
-    if listed == 0 {
-        return zs;
-    }
-    let from = entry_of(listed, done) * (p * m);
-    &zs[from..]
-}
-
-// The design of period t, handed out as a part of whichever was given.
-pub fn design<'a>(
-    z: &'a [f64],
-    zs: &'a [f64],
-    p: usize,
-    m: usize,
-    listed: usize,
-    t: usize,
-) -> &'a [f64]
-    requires { ⌜ DesignFits p m (length (now z)) (length (now zs)) listed ⌝ }
-    ensures { λ r. ⌜ now r ≡ designFrom p m (now (z .entry)) (now (zs .entry)) t ⌝ }
-{
-    if zs.len() == 0 {
-        return z;
-    }
-    let k = p * m;
-    let a = entry_of(listed, t) * k;
-    let e = a + k;
-    &zs[a..e]
 }
 
 // ---- the start

@@ -6,10 +6,11 @@ ghost use mathlib.Core.List.{[], _∷_, map};
 ghost use Prim.Native.Nat.{_<_, _≤_, _*_};
 ghost use lib.ListN.{length};
 ghost use Rattle.definition.specs.Run.{anyOf};
-ghost use Rattle.definition.specs.Inputs.{isInfinity, classOf, noiseOf};
+ghost use Rattle.definition.specs.Inputs.{isInfinity, classOf, noiseOf, transitionFrom};
 ghost use Rattle.definition.specs.Refusals.{
   outside,
   badLength,
+  outrun,
   listShort,
   badSystem,
   notPsd,
@@ -28,6 +29,7 @@ ghost use Rattle.model.specs.Places.{Square, SystemFits, StartGiven, Ste
 ghost use Rattle.model.specs.Noise.{NoiseGiven};
 use crate::entries;
 use crate::lengths;
+use crate::lists;
 use crate::noise;
 
 // 1 Dimension.
@@ -59,6 +61,7 @@ pub fn of_lengths(
     repeats: bool,
     h: &[f64],
     t: &[f64],
+    ts: &[f64],
     rr: &[f64],
     q: &[f64],
     c: &[f64],
@@ -73,8 +76,8 @@ pub fn of_lengths(
     ensures { λ k. ⌜ k ≡ firstOf ((
       2,
       badLength
-          (modelOf p m r n (now (z .entry)) (now (zs .entry)) repeats (now (h .entry)) (now (t .entry)) (now (rr .entry))
-          (now (q .entry)) (now («p_star» .entry)) (now (flags .entry)))
+          (modelOf p m r n (now (z .entry)) (now (zs .entry)) repeats (now (h .entry)) (now (t .entry)) (now (ts .entry))
+          (now (rr .entry)) (now (q .entry)) (now («p_star» .entry)) (now (flags .entry)))
           (offsetsOf (now (c .entry)) (now (d .entry)) (now (a1 .entry))) (length (now (y .entry))) room,
     ) ∷ []) ⌝ }
 {
@@ -87,6 +90,7 @@ pub fn of_lengths(
         zs.len(),
         h.len(),
         t.len(),
+        ts.len(),
         rr.len(),
         q.len(),
         c.len(),
@@ -99,16 +103,21 @@ pub fn of_lengths(
     if fit & room { 0 } else { 2 }
 }
 
-// 14 ListShort, of a run of so many periods.
-pub fn of_reach(p: usize, m: usize, zs: &[f64], repeats: bool, periods: usize) -> u8
+// How far the lists reach, of a run of so many periods: 2 Length by T's, 14 ListShort by the designs'.
+pub fn of_reach(p: usize, m: usize, zs: &[f64], repeats: bool, ts: &[f64], periods: usize) -> u8
     requires { ⌜ (0 < p) × (p ≤ 8) × (0 < m) × (m ≤ 8) ⌝ }
-    ensures { λ k. ⌜ k ≡ firstOf ((14, listShort repeats (p * m) (length (now (zs .entry))) periods) ∷ []) ⌝ }
+    ensures { λ k. ⌜ k ≡ firstOf (
+        (2, outrun (m * m) (length (now (ts .entry))) periods)
+        ∷ (14, listShort repeats (p * m) (length (now (zs .entry))) periods)
+        ∷ []) ⌝ }
 {
-    if lengths::list_short(repeats, p * m, zs.len(), periods) {
-        14
-    } else {
-        0
+    if lengths::outrun(m * m, ts.len(), periods) {
+        return 2;
     }
+    if lengths::list_short(repeats, p * m, zs.len(), periods) {
+        return 14;
+    }
+    0
 }
 
 // 3 NonFiniteSystem, 4 NotPsd, 5 QNotDiagonal.
@@ -119,20 +128,21 @@ pub fn of_system(
     zs: &[f64],
     h: &[f64],
     t: &[f64],
+    ts: &[f64],
     rr: &[f64],
     q: &[f64],
 ) -> u8
     requires { ⌜ SystemFits p r (length (now h)) (length (now q)) ⌝ }
     ensures { λ k. ⌜ k ≡ firstOf ((
       3,
-      badSystem (now (z .entry)) (now (zs .entry)) (now (h .entry)) (now (t .entry)) (now (rr .entry))
-          (now (q .entry)),
+      badSystem (now (z .entry)) (now (zs .entry)) (now (h .entry)) (now (t .entry)) (now (ts .entry))
+          (now (rr .entry)) (now (q .entry)),
     )
         ∷ (4, notPsd p (now (h .entry)) r (now (q .entry)))
         ∷ (5, offDiagonal r (now (q .entry)))
         ∷ []) ⌝ }
 {
-    if entries::bad_system(z, zs, h, t, rr, q) {
+    if entries::bad_system(z, zs, h, t, ts, rr, q) {
         return 3;
     }
     if entries::not_psd(h, q, p, r) {
@@ -176,24 +186,26 @@ pub fn of_readings(y: &[f64]) -> u8
     if entries::any_infinite(y) { 9 } else { 0 }
 }
 
-// 10 MixedDriven, 11 NonFiniteNoise. Where neither applies rqr holds R Q R'.
-pub fn of_step(
+// 10 MixedDriven, of the first T, 11 NonFiniteNoise. Where neither applies rqr holds R Q R'.
+pub fn of_step<'a>(
     m: usize,
     r: usize,
-    t: &[f64],
+    t: &'a [f64],
+    ts: &'a [f64],
     rr: &[f64],
     q: &[f64],
     flags: &[u8],
     rqr: &mut [f64; 64],
 ) -> u8
-    requires { ⌜ StepFits m (length (now t)) (length (now flags)) × NoiseGiven m r (now rr) (now q) ⌝ }
+    requires { ⌜ StepFits m (length (now t)) (length (now ts)) (length (now flags)) × NoiseGiven m r (now rr) (now q) ⌝ }
     ensures { λ k. ⌜ k ≡ firstOf (
-        (10, mixedDriven m (now (t .entry)) (now (flags .entry)))
+        (10, mixedDriven m (transitionFrom m (now (t .entry)) (now (ts .entry)) 0) (now (flags .entry)))
         ∷ (11, notFinite (noiseOf m r (now (rr .entry)) (now (q .entry))))
         ∷ [])
         × (k ≡ 0 → mat m (now (rqr .exit)) ≡ noiseOf m r (now (rr .entry)) (now (q .entry))) ⌝ }
 {
-    if entries::mixed_driven(t, flags, m) {
+    let first = lists::part(t, ts, m, m, 0);
+    if entries::mixed_driven(first, flags, m) {
         return 10;
     }
     if bad_noise(rqr, rr, q, m, r) {

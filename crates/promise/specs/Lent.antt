@@ -10,9 +10,9 @@ use Rattle.definition.specs.Stretch.{From}
 
 -- ---- the inputs, in the order of the calls' parameters
 
-abbrev pub modelOf : ℕ → ℕ → ℕ → ℕ → List Float → List Float → Bool → List Float → List Float → List Float → List Float → List Float → List ℕ → Model
-modelOf p m r n z zs repeats h t rr q p* flags =
-    record { p = p; m = m; r = r; n = n; zOnce = z; zList = zs; repeats = repeats; h = h; t = t; rr = rr; q = q; flags = flags; pStar = p* }
+abbrev pub modelOf : ℕ → ℕ → ℕ → ℕ → List Float → List Float → Bool → List Float → List Float → List Float → List Float → List Float → List Float → List ℕ → Model
+modelOf p m r n z zs repeats h t ts rr q p* flags =
+    record { p = p; m = m; r = r; n = n; zOnce = z; zList = zs; repeats = repeats; h = h; tOnce = t; tList = ts; rr = rr; q = q; flags = flags; pStar = p* }
 
 abbrev pub offsetsOf : List Float → List Float → List Float → Offsets
 offsetsOf c d a1 = record { c = c; d = d; a1 = a1 }
@@ -43,9 +43,9 @@ pub record Given : Type 0 where
   pub offsets : Offsets
   pub readings : List Float
 
-abbrev pub given : ℕ → ℕ → ℕ → ℕ → List Float → List Float → Bool → List Float → List Float → List Float → List Float → List Float → List Float → List Float → List Float → List ℕ → List Float → Given
-given p m r n z zs repeats h t rr q c d a1 p* flags y =
-    record { model = modelOf p m r n z zs repeats h t rr q p* flags; offsets = offsetsOf c d a1; readings = y }
+abbrev pub given : ℕ → ℕ → ℕ → ℕ → List Float → List Float → Bool → List Float → List Float → List Float → List Float → List Float → List Float → List Float → List Float → List Float → List ℕ → List Float → Given
+given p m r n z zs repeats h t ts rr q c d a1 p* flags y =
+    record { model = modelOf p m r n z zs repeats h t ts rr q p* flags; offsets = offsetsOf c d a1; readings = y }
 
 pub record Lent : Type 0 where
   pub cov : CovParts

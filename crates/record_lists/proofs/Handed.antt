@@ -85,7 +85,7 @@ abbrev Four : ℕ → Type 0 → Type 0
 Four k X = List ℕ × (List Float × (List Float × (List Float × Lists k X)))
 
 abbrev pub Lasts : ℕ → Type 0 → Type 0
-Lasts k X = Times 17 (Unit {0}) (Lists 5 (Four k X))
+Lasts k X = Times 18 (Unit {0}) (Lists 5 (Four k X))
 
 module _ (k : ℕ) (κs : Lfts 6) (qs : Shares 6) (a : Denots (Params k κs list-type)) where
   abbrev ins : Denots (inputs (κs .0))
@@ -114,13 +114,13 @@ module _ (k : ℕ) (κs : Lfts 6) (qs : Shares 6) (a : Denots (Params k κs list
   abbrev pub given-in : calls.Given
   given-in =
       calls.given (ins .0) (ins .1 .0) (ins .1 .1 .0) (ins .1 .1 .1 .0)
-      (ins .1 .1 .1 .1 .0 .now) (ins .1 .1 .1 .1 .1 .0 .now) (ins .1 .1 .1 .1 .1 .1 .0) (ins .1 .1 .1 .1 .1 .1 .1 .0 .now) (ins .1 .1 .1 .1 .1 .1 .1 .1 .0 .now) (ins .1 .1 .1 .1 .1 .1 .1 .1 .1 .0 .now) (ins .1 .1 .1 .1 .1 .1 .1 .1 .1 .1 .0 .now)
-      (ins .1 .1 .1 .1 .1 .1 .1 .1 .1 .1 .1 .0 .now) (ins .1 .1 .1 .1 .1 .1 .1 .1 .1 .1 .1 .1 .0 .now) (ins .1 .1 .1 .1 .1 .1 .1 .1 .1 .1 .1 .1 .1 .0 .now) (ins .1 .1 .1 .1 .1 .1 .1 .1 .1 .1 .1 .1 .1 .1 .0 .now) (ins .1 .1 .1 .1 .1 .1 .1 .1 .1 .1 .1 .1 .1 .1 .1 .0 .now) (ins .1 .1 .1 .1 .1 .1 .1 .1 .1 .1 .1 .1 .1 .1 .1 .1 .0 .now)
+      (ins .1 .1 .1 .1 .0 .now) (ins .1 .1 .1 .1 .1 .0 .now) (ins .1 .1 .1 .1 .1 .1 .0) (ins .1 .1 .1 .1 .1 .1 .1 .0 .now) (ins .1 .1 .1 .1 .1 .1 .1 .1 .0 .now) (ins .1 .1 .1 .1 .1 .1 .1 .1 .1 .0 .now) (ins .1 .1 .1 .1 .1 .1 .1 .1 .1 .1 .0 .now) (ins .1 .1 .1 .1 .1 .1 .1 .1 .1 .1 .1 .0 .now)
+      (ins .1 .1 .1 .1 .1 .1 .1 .1 .1 .1 .1 .1 .0 .now) (ins .1 .1 .1 .1 .1 .1 .1 .1 .1 .1 .1 .1 .1 .0 .now) (ins .1 .1 .1 .1 .1 .1 .1 .1 .1 .1 .1 .1 .1 .1 .0 .now) (ins .1 .1 .1 .1 .1 .1 .1 .1 .1 .1 .1 .1 .1 .1 .1 .0 .now) (ins .1 .1 .1 .1 .1 .1 .1 .1 .1 .1 .1 .1 .1 .1 .1 .1 .0 .now) (ins .1 .1 .1 .1 .1 .1 .1 .1 .1 .1 .1 .1 .1 .1 .1 .1 .1 .0 .now)
 
   -- ---- the machine values
 
   abbrev in-vals : Valss (inputs (κs .0))
-  in-vals = valss (inputs (κs .0)) (times 4 (uint-vals w64) (times 2 slice-vals (bool-vals, times 8 slice-vals (slice-vals, (slice-vals, tt))))) ins
+  in-vals = valss (inputs (κs .0)) (times 4 (uint-vals w64) (times 2 slice-vals (bool-vals, times 9 slice-vals (slice-vals, (slice-vals, tt))))) ins
 
   abbrev four-vals : (R : RattleType) → Denots (slices (κs .1 .0) k ++ (R ∷ [])) → List Val → Valss (from-four k κs R)
   four-vals R t u = (slice-vals (four .0), (slice-vals (four .1 .0), (slice-vals (four .1 .1 .0), (slice-vals (four .1 .1 .1 .0), and-vals (κs .1 .0) k R t u))))
@@ -206,7 +206,7 @@ module _ (k : ℕ) (κs : Lfts 6) (qs : Shares 6) (a : Denots (Params k κs list
 
     module _ (z : Lasts k (List Record × Unit {0})) where
       abbrev pub five-left : Lists 5 (Four k (List Record × Unit {0}))
-      five-left = z .1 .1 .1 .1 .1 .1 .1 .1 .1 .1 .1 .1 .1 .1 .1 .1 .1
+      five-left = z .1 .1 .1 .1 .1 .1 .1 .1 .1 .1 .1 .1 .1 .1 .1 .1 .1 .1
 
       abbrev pub four-left : Four k (List Record × Unit {0})
       four-left = five-left .1 .1 .1 .1 .1
@@ -242,7 +242,7 @@ module _ (k : ℕ) (κs : Lfts 6) (qs : Shares 6) (a : Denots (Params k κs list
       out-said e = lasts (κs .1 .0) 5 (Four k (List Record × Unit {0})) five five-left (four-said e)
 
       abbrev pub Said : Names → Fml
-      Said e = nothings 17 (out-said e)
+      Said e = nothings 18 (out-said e)
 
       -- what the walk has of its own parameters then
       abbrev four-had : Fml
@@ -251,7 +251,7 @@ module _ (k : ℕ) (κs : Lfts 6) (qs : Shares 6) (a : Denots (Params k κs list
           (fsep (finally f64 (four .1 .1 .1 .0 .name) (four-left .1 .1 .1 .0)) (had (κs .1 .0) k (List Record × Unit {0}) others others-left (nothings 1 ftrue)))))
 
       abbrev pub Shown : Fml
-      Shown = nothings 17 (had (κs .1 .0) 5 (Four k (List Record × Unit {0})) five five-left four-had)
+      Shown = nothings 18 (had (κs .1 .0) 5 (Four k (List Record × Unit {0})) five five-left four-had)
 
       abbrev pub Known : Outcome → Val → Val → Type 0
       Known o w v = Is O.the-row o (w ∷ []) × (Long × Is list-type list-left (v ∷ []))
@@ -259,7 +259,7 @@ module _ (k : ℕ) (κs : Lfts 6) (qs : Shares 6) (a : Denots (Params k κs list
       pub after-call : (b : ℕ) (e : Names) (o : Outcome) (w : Val) → ent 𝓤 (⋆ 𝓤 H A (‵ (Said e) ∷ (call-tokens e ⊛ ‵ (O.the-row .own o (w ∷ []))) ∷ Kept b e ∷ []))
           (H .⇛ (ex 𝓤 (λ (v : Val). guard 𝓤 (Known o w v) (sep 𝓤 (mean 𝓤 H A (Cell b v)) (mean 𝓤 H A (tokens ⊛ ‵ Shown))))))
       after-call b e o w =
-          qed W (‵ (Said e) ∷ (call-tokens e ⊛ ‵ (O.the-row .own o (w ∷ []))) ∷ Kept b e ∷ []) ∵ updating ! $ use1 W (‵ (out-said e)) (skip-nothings 𝓤 H A W 17 (out-said e)) $
+          qed W (‵ (Said e) ∷ (call-tokens e ⊛ ‵ (O.the-row .own o (w ∷ []))) ∷ Kept b e ∷ []) ∵ updating ! $ use1 W (‵ (out-said e)) (skip-nothings 𝓤 H A W 18 (out-said e)) $
           use1 W (given (AsLong (κs .1 .0) 5 (Four k (List Record × Unit {0})) five five-left (Unit {0})) (‵ (had (κs .1 .0) 5 (Four k (List Record × Unit {0})) five five-left ftrue) ⊛ ‵ (four-said e))) (finals 𝓤 H A W (κs .1 .0) 5 (Four k (List Record × Unit {0})) five five-left (four-said e)) $ learn ! (λ g. split ! $ move ! (1 ∷ []) $
           fsplit ! $ fsplit ! $ move ! (1 ∷ []) $ feqL ! (λ gk. move ! (1 ∷ []) $ fsplit ! $ fsplit ! $ move ! (1 ∷ []) $ feqL ! (λ gv. move ! (1 ∷ []) $
           fsplit ! $ fsplit ! $ move ! (1 ∷ []) $ feqL ! (λ gs. move ! (1 ∷ []) $ fsplit ! $ fsplit ! $ move ! (1 ∷ []) $ feqL ! (λ gi. move ! (1 ∷ []) $
@@ -278,7 +278,7 @@ module _ (k : ℕ) (κs : Lfts 6) (qs : Shares 6) (a : Denots (Params k κs list
           use2 W (‵ (had (κs .1 .0) k (List Record × Unit {0}) others others-left (nothings 1 ftrue))) (had-then 𝓤 H A W (κs .1 .0) k (List Record × Unit {0}) others others-left (nothings 1 ftrue)) $
           move ! (1 ∷ 0 ∷ []) $ fjoin ! $ move ! (1 ∷ 0 ∷ []) $ fjoin ! $ move ! (1 ∷ 0 ∷ []) $ fjoin ! $ move ! (1 ∷ 0 ∷ []) $ fjoin ! $ move ! (1 ∷ 0 ∷ []) $
           use2 W (‵ (had (κs .1 .0) 5 (Four k (List Record × Unit {0})) five five-left four-had)) (had-then 𝓤 H A W (κs .1 .0) 5 (Four k (List Record × Unit {0})) five five-left four-had) $
-          use1 W (‵ Shown) (put-nothings 𝓤 H A W 17 (had (κs .1 .0) 5 (Four k (List Record × Unit {0})) five five-left four-had)) $ done !))))))))))
+          use1 W (‵ Shown) (put-nothings 𝓤 H A W 18 (had (κs .1 .0) 5 (Four k (List Record × Unit {0})) five five-left four-had)) $ done !))))))))))
 
       -- ---- the walk's own last lists: of the list nothing is said
 
@@ -286,13 +286,13 @@ module _ (k : ℕ) (κs : Lfts 6) (qs : Shares 6) (a : Denots (Params k κs list
       four-last = (four-left .0, (four-left .1 .0, (four-left .1 .1 .0, (four-left .1 .1 .1 .0, with-end k (List Record × Unit {0}) (Unit {0} × Unit {0}) others-left (tt, tt)))))
 
       abbrev pub last-lists : Lasts k (Unit {0} × Unit {0})
-      last-lists = times 17 tt (with-end 5 (Four k (List Record × Unit {0})) (Four k (Unit {0} × Unit {0})) five-left four-last)
+      last-lists = times 18 tt (with-end 5 (Four k (List Record × Unit {0})) (Four k (Unit {0} × Unit {0})) five-left four-last)
 
-      pub fits : Long → Times 17 (Unit {0}) (AsLong (κs .1 .0) 5 (Four k (Unit {0} × Unit {0})) five (with-end 5 (Four k (List Record × Unit {0})) (Four k (Unit {0} × Unit {0})) five-left four-last)
+      pub fits : Long → Times 18 (Unit {0}) (AsLong (κs .1 .0) 5 (Four k (Unit {0} × Unit {0})) five (with-end 5 (Four k (List Record × Unit {0})) (Four k (Unit {0} × Unit {0})) five-left four-last)
           ((length (four-left .0) ≡ length (four .0 .now)) × ((length (four-left .1 .0) ≡ length (four .1 .0 .now)) × ((length (four-left .1 .1 .0) ≡ length (four .1 .1 .0 .now)) × ((length (four-left .1 .1 .1 .0) ≡ length (four .1 .1 .1 .0 .now))
           × AsLong (κs .1 .0) k (Unit {0} × Unit {0}) others (with-end k (List Record × Unit {0}) (Unit {0} × Unit {0}) others-left (tt, tt)) (Unit {0} × Unit {0}))))))
       fits g =
-          times 17 tt (as-long (κs .1 .0) 5 (Four k (List Record × Unit {0})) (Four k (Unit {0} × Unit {0})) _ five five-left four-last (g .five)
+          times 18 tt (as-long (κs .1 .0) 5 (Four k (List Record × Unit {0})) (Four k (Unit {0} × Unit {0})) _ five five-left four-last (g .five)
           (g .kinds, (g .v, (g .fs, (g .fi, as-long (κs .1 .0) k (List Record × Unit {0}) (Unit {0} × Unit {0}) (Unit {0} × Unit {0}) others others-left (tt, tt) (g .others) (tt, tt))))))
 
 -- ---- the list as a field of the result: each record as its values

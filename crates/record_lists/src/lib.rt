@@ -22,6 +22,7 @@ pub fn filter<'a, 'o>(
     repeats: bool,
     h: &'a [f64],
     t: &'a [f64],
+    ts: &'a [f64],
     rr: &'a [f64],
     q: &'a [f64],
     c: &'a [f64],
@@ -45,7 +46,7 @@ pub fn filter<'a, 'o>(
 ) -> Listed
     ensures { λ x. ⌜ FilteredRecords
         (given p m r n
-        (now (z .entry)) (now (zs .entry)) repeats (now (h .entry)) (now (t .entry)) (now (rr .entry)) (now (q .entry))
+        (now (z .entry)) (now (zs .entry)) repeats (now (h .entry)) (now (t .entry)) (now (ts .entry)) (now (rr .entry)) (now (q .entry))
         (now (c .entry)) (now (d .entry)) (now (a1 .entry)) (now («p_star» .entry)) (now (flags .entry)) (now (y .entry)))
         (lent
         (now («pred_mean» .entry)) (now («pred_cov» .entry)) (now («pred_inf» .entry))
@@ -72,6 +73,7 @@ pub fn filter<'a, 'o>(
         repeats,
         h,
         t,
+        ts,
         rr,
         q,
         c,
@@ -107,6 +109,7 @@ pub fn smooth<'a, 'o>(
     repeats: bool,
     h: &'a [f64],
     t: &'a [f64],
+    ts: &'a [f64],
     rr: &'a [f64],
     q: &'a [f64],
     c: &'a [f64],
@@ -132,7 +135,7 @@ pub fn smooth<'a, 'o>(
 ) -> Listed
     ensures { λ x. ⌜ SmoothedRecords
         (given p m r n
-        (now (z .entry)) (now (zs .entry)) repeats (now (h .entry)) (now (t .entry)) (now (rr .entry)) (now (q .entry))
+        (now (z .entry)) (now (zs .entry)) repeats (now (h .entry)) (now (t .entry)) (now (ts .entry)) (now (rr .entry)) (now (q .entry))
         (now (c .entry)) (now (d .entry)) (now (a1 .entry)) (now («p_star» .entry)) (now (flags .entry)) (now (y .entry)))
         (lentSmooth
         (now («pred_mean» .entry)) (now («pred_cov» .entry)) (now («pred_inf» .entry))
@@ -161,6 +164,7 @@ pub fn smooth<'a, 'o>(
         repeats,
         h,
         t,
+        ts,
         rr,
         q,
         c,

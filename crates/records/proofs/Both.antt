@@ -44,8 +44,8 @@ times zero o x = x
 times (suc n) o x = (o, times n o x)
 
 -- for each parameter up to the four, and what follows
-abbrev pub in-order {ℓ} : {N I M B O K L S J X : Type ℓ} → N → I → M → B → O → K → L → S → J → X → Times 4 N (Times 2 I (M × Times 8 I (B × (I × Times 5 O (K × (L × (S × (J × X))))))))
-in-order n i m b o k v s j x = times 4 n (times 2 i (m, times 8 i (b, (i, times 5 o (k, (v, (s, (j, x))))))))
+abbrev pub in-order {ℓ} : {N I M B O K L S J X : Type ℓ} → N → I → M → B → O → K → L → S → J → X → Times 4 N (Times 2 I (M × Times 9 I (B × (I × Times 5 O (K × (L × (S × (J × X))))))))
+in-order n i m b o k v s j x = times 4 n (times 2 i (m, times 9 i (b, (i, times 5 o (k, (v, (s, (j, x))))))))
 
 -- ---- the parameters' types. The lifetimes: the inputs', that of the outputs which are lent on for good, one for each of the four, the list's
 
@@ -54,7 +54,7 @@ inputs κ =
     usize ∷ usize ∷ usize ∷ usize
     ∷ ShrSlice (named 0) κ f64 ∷ ShrSlice (named 0) κ f64 ∷ bool
     ∷ ShrSlice (named 0) κ f64 ∷ ShrSlice (named 0) κ f64 ∷ ShrSlice (named 0) κ f64 ∷ ShrSlice (named 0) κ f64
-    ∷ ShrSlice (named 0) κ f64 ∷ ShrSlice (named 0) κ f64 ∷ ShrSlice (named 0) κ f64 ∷ ShrSlice (named 0) κ f64
+    ∷ ShrSlice (named 0) κ f64 ∷ ShrSlice (named 0) κ f64 ∷ ShrSlice (named 0) κ f64 ∷ ShrSlice (named 0) κ f64 ∷ ShrSlice (named 0) κ f64
     ∷ ShrSlice (named 0) κ u8 ∷ ShrSlice (named 0) κ f64 ∷ []
 
 module _ (k : ℕ) (κs : Lfts 7) where
@@ -91,7 +91,7 @@ module _ (k : ℕ) (κs : Lfts 7) where
 
 -- the last lists of the flat call's outputs
 abbrev pub Left : ℕ → Type 0
-Left k = Times 17 (Unit {0}) (Lists 5 (List ℕ × (List Float × (List Float × (List Float × Lists k (Unit {0} × Unit {0}))))))
+Left k = Times 18 (Unit {0}) (Lists 5 (List ℕ × (List Float × (List Float × (List Float × Lists k (Unit {0} × Unit {0}))))))
 
 -- ---- a call: its arguments a, and the parts by their names
 
@@ -119,14 +119,14 @@ module _ (k : ℕ) (κs : Lfts 7) (qs : Shares 7) (a : Denots (Params k κs)) wh
 
   abbrev pub model : Model
   model =
-      modelOf (ins .0) (ins .1 .0) (ins .1 .1 .0) (ins .1 .1 .1 .0) (ins .1 .1 .1 .1 .0 .now) (ins .1 .1 .1 .1 .1 .0 .now) (ins .1 .1 .1 .1 .1 .1 .0) (ins .1 .1 .1 .1 .1 .1 .1 .0 .now) (ins .1 .1 .1 .1 .1 .1 .1 .1 .0 .now)
-      (ins .1 .1 .1 .1 .1 .1 .1 .1 .1 .0 .now) (ins .1 .1 .1 .1 .1 .1 .1 .1 .1 .1 .0 .now) (ins .1 .1 .1 .1 .1 .1 .1 .1 .1 .1 .1 .1 .1 .1 .0 .now) (ins .1 .1 .1 .1 .1 .1 .1 .1 .1 .1 .1 .1 .1 .1 .1 .0 .now)
+      modelOf (ins .0) (ins .1 .0) (ins .1 .1 .0) (ins .1 .1 .1 .0) (ins .1 .1 .1 .1 .0 .now) (ins .1 .1 .1 .1 .1 .0 .now) (ins .1 .1 .1 .1 .1 .1 .0) (ins .1 .1 .1 .1 .1 .1 .1 .0 .now) (ins .1 .1 .1 .1 .1 .1 .1 .1 .0 .now) (ins .1 .1 .1 .1 .1 .1 .1 .1 .1 .0 .now)
+      (ins .1 .1 .1 .1 .1 .1 .1 .1 .1 .1 .0 .now) (ins .1 .1 .1 .1 .1 .1 .1 .1 .1 .1 .1 .0 .now) (ins .1 .1 .1 .1 .1 .1 .1 .1 .1 .1 .1 .1 .1 .1 .1 .0 .now) (ins .1 .1 .1 .1 .1 .1 .1 .1 .1 .1 .1 .1 .1 .1 .1 .1 .0 .now)
 
   abbrev pub offsets : Offsets
-  offsets = offsetsOf (ins .1 .1 .1 .1 .1 .1 .1 .1 .1 .1 .1 .0 .now) (ins .1 .1 .1 .1 .1 .1 .1 .1 .1 .1 .1 .1 .0 .now) (ins .1 .1 .1 .1 .1 .1 .1 .1 .1 .1 .1 .1 .1 .0 .now)
+  offsets = offsetsOf (ins .1 .1 .1 .1 .1 .1 .1 .1 .1 .1 .1 .1 .0 .now) (ins .1 .1 .1 .1 .1 .1 .1 .1 .1 .1 .1 .1 .1 .0 .now) (ins .1 .1 .1 .1 .1 .1 .1 .1 .1 .1 .1 .1 .1 .1 .0 .now)
 
   abbrev pub readings : List Float
-  readings = ins .1 .1 .1 .1 .1 .1 .1 .1 .1 .1 .1 .1 .1 .1 .1 .1 .0 .now
+  readings = ins .1 .1 .1 .1 .1 .1 .1 .1 .1 .1 .1 .1 .1 .1 .1 .1 .1 .0 .now
 
   abbrev pub cov-lent : List Float → List Float → CovParts
   cov-lent ms mi = covParts (five .1 .0 .now) (five .1 .1 .0 .now) (five .1 .1 .1 .1 .0 .now) (at-four .0 .now) (at-four .1 .1 .0 .now) (at-four .1 .1 .1 .0 .now) ms mi
@@ -137,7 +137,7 @@ module _ (k : ℕ) (κs : Lfts 7) (qs : Shares 7) (a : Denots (Params k κs)) wh
   -- ---- the machine values
 
   abbrev in-vals : Valss (inputs (κs .0))
-  in-vals = valss (inputs (κs .0)) (times 4 (uint-vals w64) (times 2 slice-vals (bool-vals, times 8 slice-vals (slice-vals, (slice-vals, tt))))) ins
+  in-vals = valss (inputs (κs .0)) (times 4 (uint-vals w64) (times 2 slice-vals (bool-vals, times 9 slice-vals (slice-vals, (slice-vals, tt))))) ins
 
   abbrev pub vals : Valss (Params k κs)
   vals =
@@ -148,16 +148,16 @@ module _ (k : ℕ) (κs : Lfts 7) (qs : Shares 7) (a : Denots (Params k κs)) wh
   module _ (are : Are (Params k κs) (Ises (Params k κs)) a vals) where
     -- ---- the four
     abbrev pub kinds : Lent u8
-    kinds = record { lft = κs .1 .1 .0; share = qs .1 .1 .0; b = at-four .0 .ptr .0; o = at-four .0 .ptr .1; name = at-four .0 .name; list = at-four .0 .now; room = are .1 .1 .1 .1 .1 .1 .1 .1 .1 .1 .1 .1 .1 .1 .1 .1 .1 .1 .1 .1 .1 .1 .0 .0 .1 }
+    kinds = record { lft = κs .1 .1 .0; share = qs .1 .1 .0; b = at-four .0 .ptr .0; o = at-four .0 .ptr .1; name = at-four .0 .name; list = at-four .0 .now; room = are .1 .1 .1 .1 .1 .1 .1 .1 .1 .1 .1 .1 .1 .1 .1 .1 .1 .1 .1 .1 .1 .1 .1 .0 .0 .1 }
 
     abbrev pub v : Lent f64
-    v = record { lft = κs .1 .1 .1 .0; share = qs .1 .1 .1 .0; b = at-four .1 .0 .ptr .0; o = at-four .1 .0 .ptr .1; name = at-four .1 .0 .name; list = at-four .1 .0 .now; room = are .1 .1 .1 .1 .1 .1 .1 .1 .1 .1 .1 .1 .1 .1 .1 .1 .1 .1 .1 .1 .1 .1 .1 .0 .0 .1 }
+    v = record { lft = κs .1 .1 .1 .0; share = qs .1 .1 .1 .0; b = at-four .1 .0 .ptr .0; o = at-four .1 .0 .ptr .1; name = at-four .1 .0 .name; list = at-four .1 .0 .now; room = are .1 .1 .1 .1 .1 .1 .1 .1 .1 .1 .1 .1 .1 .1 .1 .1 .1 .1 .1 .1 .1 .1 .1 .1 .0 .0 .1 }
 
     abbrev pub fs : Lent f64
-    fs = record { lft = κs .1 .1 .1 .1 .0; share = qs .1 .1 .1 .1 .0; b = at-four .1 .1 .0 .ptr .0; o = at-four .1 .1 .0 .ptr .1; name = at-four .1 .1 .0 .name; list = at-four .1 .1 .0 .now; room = are .1 .1 .1 .1 .1 .1 .1 .1 .1 .1 .1 .1 .1 .1 .1 .1 .1 .1 .1 .1 .1 .1 .1 .1 .0 .0 .1 }
+    fs = record { lft = κs .1 .1 .1 .1 .0; share = qs .1 .1 .1 .1 .0; b = at-four .1 .1 .0 .ptr .0; o = at-four .1 .1 .0 .ptr .1; name = at-four .1 .1 .0 .name; list = at-four .1 .1 .0 .now; room = are .1 .1 .1 .1 .1 .1 .1 .1 .1 .1 .1 .1 .1 .1 .1 .1 .1 .1 .1 .1 .1 .1 .1 .1 .1 .0 .0 .1 }
 
     abbrev pub fi : Lent f64
-    fi = record { lft = κs .1 .1 .1 .1 .1 .0; share = qs .1 .1 .1 .1 .1 .0; b = at-four .1 .1 .1 .0 .ptr .0; o = at-four .1 .1 .1 .0 .ptr .1; name = at-four .1 .1 .1 .0 .name; list = at-four .1 .1 .1 .0 .now; room = are .1 .1 .1 .1 .1 .1 .1 .1 .1 .1 .1 .1 .1 .1 .1 .1 .1 .1 .1 .1 .1 .1 .1 .1 .1 .0 .0 .1 }
+    fi = record { lft = κs .1 .1 .1 .1 .1 .0; share = qs .1 .1 .1 .1 .1 .0; b = at-four .1 .1 .1 .0 .ptr .0; o = at-four .1 .1 .1 .0 .ptr .1; name = at-four .1 .1 .1 .0 .name; list = at-four .1 .1 .1 .0 .now; room = are .1 .1 .1 .1 .1 .1 .1 .1 .1 .1 .1 .1 .1 .1 .1 .1 .1 .1 .1 .1 .1 .1 .1 .1 .1 .1 .0 .0 .1 }
 
     -- ---- what is handed to the flat call; e names the call's lifetime and what the four are lent under
 
@@ -242,7 +242,7 @@ module _ (k : ℕ) (κs : Lfts 7) (qs : Shares 7) (a : Denots (Params k κs)) wh
         Four = List ℕ × (List Float × (List Float × (List Float × Lists k (Unit {0} × Unit {0}))))
 
         abbrev pub five-left : Lists 5 Four
-        five-left = z .1 .1 .1 .1 .1 .1 .1 .1 .1 .1 .1 .1 .1 .1 .1 .1 .1
+        five-left = z .1 .1 .1 .1 .1 .1 .1 .1 .1 .1 .1 .1 .1 .1 .1 .1 .1 .1
 
         abbrev four-left : Four
         four-left = five-left .1 .1 .1 .1 .1
@@ -289,7 +289,7 @@ module _ (k : ℕ) (κs : Lfts 7) (qs : Shares 7) (a : Denots (Params k κs)) wh
 
         -- what the flat call says of its parameters
         abbrev pub Said : Names → Fml
-        Said e = nothings 17 (out-said e)
+        Said e = nothings 18 (out-said e)
 
         -- the four and the list, which go to `fill`, and the rest
         abbrev pub Ready : Item 𝓤
@@ -303,7 +303,7 @@ module _ (k : ℕ) (κs : Lfts 7) (qs : Shares 7) (a : Denots (Params k κs)) wh
         pub after-flat : (e : Names) (o : Outcome) (w : Val) → ent 𝓤 (⋆ 𝓤 H A (‵ (Said e) ∷ (flat-tokens e ⊛ ‵ (Row .own o (w ∷ []))) ∷ Held e)) (H .⇛ (guard 𝓤 (Is Row o (w ∷ []) × Long) (mean 𝓤 H A (Ready ⊛ Rest))))
         after-flat e o w =
             qed W (‵ (Said e) ∷ (flat-tokens e ⊛ ‵ (Row .own o (w ∷ []))) ∷ Held e) ∵ updating ! $
-            use1 W (‵ (out-said e)) (skip-nothings 𝓤 H A W 17 (out-said e)) $
+            use1 W (‵ (out-said e)) (skip-nothings 𝓤 H A W 18 (out-said e)) $
             use1 W (given (AsLong (κs .1 .0) 5 Four five five-left (Unit {0})) (‵ (had (κs .1 .0) 5 Four five five-left ftrue) ⊛ ‵ (four-said e))) (finals 𝓤 H A W (κs .1 .0) 5 Four five five-left (four-said e)) $ learn ! (λ g. split ! $ move ! (1 ∷ []) $
             fsplit ! $ fsplit ! $ move ! (1 ∷ []) $ feqL ! (λ gk. move ! (1 ∷ []) $ fsplit ! $ fsplit ! $ move ! (1 ∷ []) $ feqL ! (λ gv. move ! (1 ∷ []) $
             fsplit ! $ fsplit ! $ move ! (1 ∷ []) $ feqL ! (λ gs. move ! (1 ∷ []) $ fsplit ! $ fsplit ! $ move ! (1 ∷ []) $ feqL ! (λ gi. move ! (1 ∷ []) $
@@ -326,15 +326,15 @@ module _ (k : ℕ) (κs : Lfts 7) (qs : Shares 7) (a : Denots (Params k κs)) wh
           four-last = (zk, (zv, (zs, (zi, with-end k (Unit {0} × Unit {0}) (List Record × Unit {0}) others-left (zo, tt)))))
 
           -- the last lists of the parameters, and that each is as long as it was
-          abbrev pub last-lists : Times 17 (Unit {0}) (Lists 5 Lasts)
-          last-lists = times 17 tt (with-end 5 Four Lasts five-left four-last)
+          abbrev pub last-lists : Times 18 (Unit {0}) (Lists 5 Lasts)
+          last-lists = times 18 tt (with-end 5 Four Lasts five-left four-last)
 
           pub fits : Long → length zo ≡ length (out .now)
-              → Times 17 (Unit {0}) (AsLong (κs .1 .0) 5 Lasts five (with-end 5 Four Lasts five-left four-last)
+              → Times 18 (Unit {0}) (AsLong (κs .1 .0) 5 Lasts five (with-end 5 Four Lasts five-left four-last)
               ((length zk ≡ length (kinds .list)) × ((length zv ≡ length (v .list)) × ((length zs ≡ length (fs .list)) × ((length zi ≡ length (fi .list))
               × AsLong (κs .1 .0) k (List Record × Unit {0}) others (with-end k (Unit {0} × Unit {0}) (List Record × Unit {0}) others-left (zo, tt)) ((length zo ≡ length (out .now)) × Unit {0}))))))
           fits g l =
-              times 17 tt (as-long (κs .1 .0) 5 Four Lasts _ five five-left four-last (g .five)
+              times 18 tt (as-long (κs .1 .0) 5 Four Lasts _ five five-left four-last (g .five)
               (g .kinds, (g .v, (g .fs, (g .fi, as-long (κs .1 .0) k (Unit {0} × Unit {0}) (List Record × Unit {0}) _ others others-left (zo, tt) (g .others) (l, tt))))))
 
           abbrev pub Done : Item 𝓤
@@ -344,7 +344,7 @@ module _ (k : ℕ) (κs : Lfts 7) (qs : Shares 7) (a : Denots (Params k κs)) wh
           from-four-on = fsep (ownOf 2 kinds zk) (fsep (ownOf 3 v zv) (fsep (ownOf 4 fs zs) (fsep (ownOf 5 fi zi) (had (κs .1 .0) k (Unit {0} × Unit {0}) others others-left (fsep (finally T.the-row (out .name) zo) ftrue)))))
 
           abbrev pub Shown : Fml
-          Shown = nothings 17 (had (κs .1 .0) 5 Four five five-left from-four-on)
+          Shown = nothings 18 (had (κs .1 .0) 5 Four five five-left from-four-on)
 
           pub ending : ent 𝓤 (⋆ 𝓤 H A (Done ∷ Rest ∷ [])) (sep 𝓤 (mean 𝓤 H A tokens) (mean 𝓤 H A (‵ Shown)))
           ending =
@@ -357,4 +357,4 @@ module _ (k : ℕ) (κs : Lfts 7) (qs : Shares 7) (a : Denots (Params k κs)) wh
               use2 W (‵ (had (κs .1 .0) k (Unit {0} × Unit {0}) others others-left (fsep (finally T.the-row (out .name) zo) ftrue))) (had-then 𝓤 H A W (κs .1 .0) k (Unit {0} × Unit {0}) others others-left (fsep (finally T.the-row (out .name) zo) ftrue)) $
               move ! (2 ∷ 0 ∷ []) $ fjoin ! $ move ! (2 ∷ 0 ∷ []) $ fjoin ! $ move ! (2 ∷ 0 ∷ []) $ fjoin ! $ move ! (2 ∷ 0 ∷ []) $ fjoin ! $ move ! (1 ∷ 0 ∷ []) $
               use2 W (‵ (had (κs .1 .0) 5 Four five five-left from-four-on)) (had-then 𝓤 H A W (κs .1 .0) 5 Four five five-left from-four-on) $
-              use1 W (‵ Shown) (put-nothings 𝓤 H A W 17 (had (κs .1 .0) 5 Four five five-left from-four-on)) $ done !
+              use1 W (‵ Shown) (put-nothings 𝓤 H A W 18 (had (κs .1 .0) 5 Four five five-left from-four-on)) $ done !

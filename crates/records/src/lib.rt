@@ -56,6 +56,7 @@ fn flat<'a, 'o, 'l>(
     repeats: bool,
     h: &'a [f64],
     t: &'a [f64],
+    ts: &'a [f64],
     rr: &'a [f64],
     q: &'a [f64],
     c: &'a [f64],
@@ -77,7 +78,7 @@ fn flat<'a, 'o, 'l>(
     m_inf: &'o mut [f64],
     have: usize,
 ) -> promise::Outcome
-    ensures { λ o. ⌜ Promise (outcomeWithRecords (modelOf p m r n (now (z .entry)) (now (zs .entry)) repeats (now (h .entry)) (now (t .entry)) (now (rr .entry)) (now (q .entry)) (now («p_star» .entry)) (now (flags .entry)))
+    ensures { λ o. ⌜ Promise (outcomeWithRecords (modelOf p m r n (now (z .entry)) (now (zs .entry)) repeats (now (h .entry)) (now (t .entry)) (now (ts .entry)) (now (rr .entry)) (now (q .entry)) (now («p_star» .entry)) (now (flags .entry)))
         (offsetsOf (now (c .entry)) (now (d .entry)) (now (a1 .entry))) (now (y .entry))
         (covParts (now («pred_cov» .entry)) (now («pred_inf» .entry)) (now («filt_cov» .entry)) (now (kinds .entry)) (now («f_star» .entry)) (now («f_inf» .entry)) (now («m_star» .entry)) (now («m_inf» .entry)))
         (meanParts (now («pred_mean» .entry)) (now («filt_mean» .entry)) (now (v .entry))) have) o
@@ -97,6 +98,7 @@ fn flat<'a, 'o, 'l>(
         repeats,
         h,
         t,
+        ts,
         rr,
         q,
         c,
@@ -130,6 +132,7 @@ pub fn filter_records<'a, 'o>(
     repeats: bool,
     h: &'a [f64],
     t: &'a [f64],
+    ts: &'a [f64],
     rr: &'a [f64],
     q: &'a [f64],
     c: &'a [f64],
@@ -153,7 +156,7 @@ pub fn filter_records<'a, 'o>(
 ) -> promise::Outcome
     ensures { λ o. ⌜ FilteredRecords
         (given p m r n
-        (now (z .entry)) (now (zs .entry)) repeats (now (h .entry)) (now (t .entry)) (now (rr .entry)) (now (q .entry))
+        (now (z .entry)) (now (zs .entry)) repeats (now (h .entry)) (now (t .entry)) (now (ts .entry)) (now (rr .entry)) (now (q .entry))
         (now (c .entry)) (now (d .entry)) (now (a1 .entry)) (now («p_star» .entry)) (now (flags .entry)) (now (y .entry)))
         (lent
         (now («pred_mean» .entry)) (now («pred_cov» .entry)) (now («pred_inf» .entry))
@@ -180,6 +183,7 @@ pub fn filter_records<'a, 'o>(
         repeats,
         h,
         t,
+        ts,
         rr,
         q,
         c,

@@ -16,6 +16,7 @@ fn flat_smooth<'a, 'o, 'l>(
     repeats: bool,
     h: &'a [f64],
     t: &'a [f64],
+    ts: &'a [f64],
     rr: &'a [f64],
     q: &'a [f64],
     c: &'a [f64],
@@ -39,7 +40,7 @@ fn flat_smooth<'a, 'o, 'l>(
     sm_cov: &'o mut [f64],
     have: usize,
 ) -> promise::Outcome
-    ensures { λ o. ⌜ PromiseSmooth (smoothOutcomeWithRecords (modelOf p m r n (now (z .entry)) (now (zs .entry)) repeats (now (h .entry)) (now (t .entry)) (now (rr .entry)) (now (q .entry)) (now («p_star» .entry)) (now (flags .entry)))
+    ensures { λ o. ⌜ PromiseSmooth (smoothOutcomeWithRecords (modelOf p m r n (now (z .entry)) (now (zs .entry)) repeats (now (h .entry)) (now (t .entry)) (now (ts .entry)) (now (rr .entry)) (now (q .entry)) (now («p_star» .entry)) (now (flags .entry)))
         (offsetsOf (now (c .entry)) (now (d .entry)) (now (a1 .entry))) (now (y .entry))
         (covParts (now («pred_cov» .entry)) (now («pred_inf» .entry)) (now («filt_cov» .entry)) (now (kinds .entry)) (now («f_star» .entry)) (now («f_inf» .entry)) (now («m_star» .entry)) (now («m_inf» .entry)))
         (meanParts (now («pred_mean» .entry)) (now («filt_mean» .entry)) (now (v .entry))) (now («sm_mean» .entry)) (now («sm_cov» .entry)) have) o
@@ -59,6 +60,7 @@ fn flat_smooth<'a, 'o, 'l>(
         repeats,
         h,
         t,
+        ts,
         rr,
         q,
         c,
@@ -94,6 +96,7 @@ pub fn smooth_records<'a, 'o>(
     repeats: bool,
     h: &'a [f64],
     t: &'a [f64],
+    ts: &'a [f64],
     rr: &'a [f64],
     q: &'a [f64],
     c: &'a [f64],
@@ -119,7 +122,7 @@ pub fn smooth_records<'a, 'o>(
 ) -> promise::Outcome
     ensures { λ o. ⌜ SmoothedRecords
         (given p m r n
-        (now (z .entry)) (now (zs .entry)) repeats (now (h .entry)) (now (t .entry)) (now (rr .entry)) (now (q .entry))
+        (now (z .entry)) (now (zs .entry)) repeats (now (h .entry)) (now (t .entry)) (now (ts .entry)) (now (rr .entry)) (now (q .entry))
         (now (c .entry)) (now (d .entry)) (now (a1 .entry)) (now («p_star» .entry)) (now (flags .entry)) (now (y .entry)))
         (lentSmooth
         (now («pred_mean» .entry)) (now («pred_cov» .entry)) (now («pred_inf» .entry))
@@ -148,6 +151,7 @@ pub fn smooth_records<'a, 'o>(
         repeats,
         h,
         t,
+        ts,
         rr,
         q,
         c,

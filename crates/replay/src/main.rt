@@ -6,8 +6,8 @@ mod found;
 mod sides;
 mod words;
 
-// "GOXCASE3".
-const MAGIC: u64 = 0x474F_5843_4153_4533;
+// "GOXCASE4".
+const MAGIC: u64 = 0x474F_5843_4153_4534;
 
 // Reads from byte `from` up to byte `to`, if the buffer has them.
 fn read(case: &mut [u8], from: usize, to: usize) -> bool {
@@ -38,7 +38,7 @@ fn next(case: &mut [u8]) -> bool {
         return false;
     }
     let k = words::size(case, 0);
-    if k < 53 {
+    if k < 54 {
         return false;
     }
     if k > 8192 {

@@ -24,7 +24,7 @@ use promise::FlatRecord;
 
 // Input j, as a part of the case's doubles.
 fn input<'a>(numbers: &'a [f64], case: &[u8], j: usize) -> &'a [f64]
-    requires { ⌜ j < 12 ⌝ }
+    requires { ⌜ j < 13 ⌝ }
 {
     let s = stretch(case, j);
     let a = s.from;
@@ -37,7 +37,7 @@ fn input<'a>(numbers: &'a [f64], case: &[u8], j: usize) -> &'a [f64]
 
 // The flags, as a part of the case's bytes.
 fn flags<'a>(low: &'a [u8], case: &[u8]) -> &'a [u8] {
-    let s = stretch(case, 10);
+    let s = stretch(case, 11);
     let a = s.from;
     let b = s.to;
     if b > low.len() {
@@ -46,19 +46,19 @@ fn flags<'a>(low: &'a [u8], case: &[u8]) -> &'a [u8] {
     &low[a..b]
 }
 
-// The answer against the case's: words 34 to 39.
+// The answer against the case's: words 35 to 40.
 fn answer(case: &[u8], o: Outcome, refusal: u64) -> Found {
     let f = crate::found::nothing();
     match o {
         Outcome::Refused(k) => compare(f, 0, 0, refusal, k as u64),
         Outcome::Answered(a) => {
             let f = compare(f, 0, 0, refusal, 0);
-            let f = compare(f, 1, 0, word(case, 34), bits::pattern(a.loglik));
-            let f = compare(f, 2, 0, word(case, 35), a.d_diffuse as u64);
-            let f = compare(f, 3, 0, word(case, 36), a.heard as u64);
-            let f = compare(f, 4, 0, word(case, 37), a.news as u64);
-            let f = compare(f, 5, 0, word(case, 38), a.cov_off as u64);
-            compare(f, 6, 0, word(case, 39), a.mean_off as u64)
+            let f = compare(f, 1, 0, word(case, 35), bits::pattern(a.loglik));
+            let f = compare(f, 2, 0, word(case, 36), a.d_diffuse as u64);
+            let f = compare(f, 3, 0, word(case, 37), a.heard as u64);
+            let f = compare(f, 4, 0, word(case, 38), a.news as u64);
+            let f = compare(f, 5, 0, word(case, 39), a.cov_off as u64);
+            compare(f, 6, 0, word(case, 40), a.mean_off as u64)
         }
     }
 }
@@ -84,7 +84,7 @@ fn wanted(case: &[u8], s: Span, i: usize, pattern: u64, refusal: u64) -> u64
 fn output(f: Found, out: &[f64; 1024], case: &[u8], k: usize, refusal: u64) -> Found
     requires { ⌜ k < 13 ⌝ }
 {
-    let s = stretch(case, 12 + k);
+    let s = stretch(case, 13 + k);
     let n = lent(case, k);
     let mut f = f;
     for i in 0..n {
@@ -100,7 +100,7 @@ fn output(f: Found, out: &[f64; 1024], case: &[u8], k: usize, refusal: u64) -> F
 }
 
 fn kinds_output(f: Found, out: &[u8; 1024], case: &[u8], refusal: u64) -> Found {
-    let s = stretch(case, 17);
+    let s = stretch(case, 18);
     let n = lent(case, 5);
     let mut f = f;
     for i in 0..n {
@@ -177,10 +177,10 @@ fn record_at(
 
 // The list of records: every place.
 fn list_output(f: Found, list: [Record; 1024], case: &[u8], refusal: u64) -> Found {
-    let kinds = stretch(case, 17);
-    let v = stretch(case, 18);
-    let f_star = stretch(case, 19);
-    let f_inf = stretch(case, 20);
+    let kinds = stretch(case, 18);
+    let v = stretch(case, 19);
+    let f_star = stretch(case, 20);
+    let f_inf = stretch(case, 21);
     let mut f = f;
     for i in 0..1024 {
         let r = record::to_flat(list[i]);
@@ -262,8 +262,9 @@ pub fn filtered<'a>(case: &[u8], numbers: &'a [f64], low: &'a [u8]) -> Found {
         input(numbers, case, 7),
         input(numbers, case, 8),
         input(numbers, case, 9),
+        input(numbers, case, 10),
         flags(low, case),
-        input(numbers, case, 11),
+        input(numbers, case, 12),
         &mut pred_mean[..l0],
         &mut pred_cov[..l1],
         &mut pred_inf[..l2],
@@ -279,7 +280,7 @@ pub fn filtered<'a>(case: &[u8], numbers: &'a [f64], low: &'a [u8]) -> Found {
     );
     let o = x.outcome;
     let list = x.records;
-    let refusal = word(case, 32);
+    let refusal = word(case, 33);
     let f = answer(case, o, refusal);
     let f = moments(
         f,
@@ -349,8 +350,9 @@ pub fn smoothed<'a>(case: &[u8], numbers: &'a [f64], low: &'a [u8]) -> Found {
         input(numbers, case, 7),
         input(numbers, case, 8),
         input(numbers, case, 9),
+        input(numbers, case, 10),
         flags(low, case),
-        input(numbers, case, 11),
+        input(numbers, case, 12),
         &mut pred_mean[..l0],
         &mut pred_cov[..l1],
         &mut pred_inf[..l2],
@@ -368,7 +370,7 @@ pub fn smoothed<'a>(case: &[u8], numbers: &'a [f64], low: &'a [u8]) -> Found {
     );
     let o = x.outcome;
     let list = x.records;
-    let refusal = word(case, 33);
+    let refusal = word(case, 34);
     let f = answer(case, o, refusal);
     let f = moments(
         f,

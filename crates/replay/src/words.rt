@@ -6,9 +6,9 @@ ghost use lib.ListN.{length};
 // The most words of a case, and its head.
 const WORDS: usize = 8192;
 
-const HEAD: usize = 53;
+const HEAD: usize = 54;
 
-// The most places of a part: of the listed designs, and of any other.
+// The most places of a part: of the listed designs and the listed transitions, and of any other.
 const LISTED: usize = 4097;
 
 const LENT: usize = 1024;
@@ -60,15 +60,15 @@ pub fn lent(case: &[u8], k: usize) -> usize
     requires { ⌜ k < 13 ⌝ }
     ensures { λ r. ⌜ r ≤ 1024 ⌝ }
 {
-    least(size(case, 19 + k), LENT)
+    least(size(case, 20 + k), LENT)
 }
 
-// The places of part j that the file has: the twelve inputs, then what is written of the thirteen outputs.
+// The places of part j that the file has: the thirteen inputs, then what is written of the thirteen outputs.
 fn places(case: &[u8], j: usize) -> usize
-    requires { ⌜ j < 25 ⌝ }
+    requires { ⌜ j < 26 ⌝ }
     ensures { λ r. ⌜ r ≤ 4097 ⌝ }
 {
-    if j < 12 {
+    if j < 13 {
         return least(size(case, 7 + j), LISTED);
     }
     least(size(case, 28 + j), LISTED)
@@ -76,7 +76,7 @@ fn places(case: &[u8], j: usize) -> usize
 
 // Where part j begins.
 fn from(case: &[u8], j: usize) -> usize
-    requires { ⌜ j ≤ 25 ⌝ }
+    requires { ⌜ j ≤ 26 ⌝ }
     ensures { λ r. ⌜ r ≤ 8192 ⌝ }
 {
     let mut at = HEAD;
@@ -93,7 +93,7 @@ pub struct Span {
 
 // Part j; nothing where it runs past the end.
 pub fn stretch(case: &[u8], j: usize) -> Span
-    requires { ⌜ j < 25 ⌝ }
+    requires { ⌜ j < 26 ⌝ }
     ensures { λ r. ⌜ (r .from ≤ r .to) × (r .to ≤ 8192) ⌝ }
 {
     let a = from(case, j);

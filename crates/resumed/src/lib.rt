@@ -1,5 +1,5 @@
 // What the library makes of a sheet that is one stretch of a run: its call, which begins the run or goes on from the bytes of a saved one, and the
-// numbers of its answer that are shown. The outputs of 4096 periods stand on the stack, 1.7 MB.
+// numbers of its answer that are shown. The outputs of 4096 periods stand on the stack, and a T for each, 2.0 MB.
 ghost use Prim.Native.Nat.{_≤_};
 use sheet::answers::Settings;
 
@@ -41,6 +41,9 @@ pub fn estimate(
     let mut f_inf = [0.0; 8192];
     let mut m_star = [0.0; 24576];
     let mut m_inf = [0.0; 24576];
+    let t = clock::transition(s);
+    let mut list = [0.0; 36864];
+    clock::transitions(s, &mut list);
     let outcome = goxundar::stretch(
         2,
         3,
@@ -50,7 +53,8 @@ pub fn estimate(
         &[],
         false,
         &clock::noise(s),
-        &clock::transition(s),
+        clock::once(s, &t),
+        clock::listed(s, &list),
         &clock::identity(),
         &clock::disturbances(s),
         &[0.0; 3],

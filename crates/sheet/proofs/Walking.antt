@@ -59,11 +59,11 @@ laid-two a y u v h =
       long = length-set (set y a u) (a + 1) v ∙ l;
     }
 
-pub store-none : (table : Bool) (t : Tokens) (p : ℕ) (y : List Float) → t .first .kind < 9 → (p ≡ counted p t) × Laid (2 * p) (lineReadings table t) y y
+pub store-none : (table : Bool) (t : Tokens) (p : ℕ) (y : List Float) → t .first .kind < 10 → (p ≡ counted p t) × Laid (2 * p) (lineReadings table t) y y
 unfolding counted lineReadings
 store-none table t p y h = (simp (lt-ltb _ _ h), simp (lt-ltb _ _ h) (laid-none (2 * p) y))
 
-pub store-two : (table : Bool) (t : Tokens) (p : ℕ) (y : List Float) (u v : Float) → 9 ≤ t .first .kind → 2 * p + 1 < length y → u ≡ readingOf table (t .first) → v ≡ readingOf table (t .second)
+pub store-two : (table : Bool) (t : Tokens) (p : ℕ) (y : List Float) (u v : Float) → 10 ≤ t .first .kind → 2 * p + 1 < length y → u ≡ readingOf table (t .first) → v ≡ readingOf table (t .second)
     → (p + 1 ≡ counted p t) × Laid (2 * p) (lineReadings table t) y (set (set y (2 * p) u) (2 * p + 1) v)
 unfolding counted lineReadings
 store-two table t p y u v h k e f = (simp (le-ltb _ _ h), simp (le-ltb _ _ h, ← e, ← f) (laid-two (2 * p) y u v k))

@@ -9,11 +9,11 @@ use Rattle.decimal.specs.Reading.{isDigit, allDigits, valueFrom, numberOf, read
 use Rattle.decimal.specs.Words.{isBlank, keeps, runOf, wordAt}
 use Rattle.sheet.specs.declared.answers.Spread.{Spread}
 use Rattle.sheet.specs.declared.answers.Settings.{Settings}
-use Rattle.sheet.specs.declared.answers.Wanted.the-variants.{Line, Seconds, SdOrVariance, Size, UnknownOrValue, Thousandths, LineEnd, Check, OneCheck, Once, SettingsFirst, PeriodSetting, NoiseSetting, FewerPeriods}
+use Rattle.sheet.specs.declared.answers.Wanted.the-variants.{Line, Seconds, SdOrVariance, Size, UnknownOrValue, Thousandths, SeasonStart, LineEnd, Check, OneCheck, Once, SettingsFirst, PeriodSetting, NoiseSetting, FewerPeriods}
 use Rattle.sheet.specs.declared.answers.Sheet.the-variants.{Good}
 use Rattle.sheet.specs.Lines.{isEnd, runTo, onto, linesOf, contentOf}
 use Rattle.sheet.specs.Tokens.{equal, settingName, startsCheck, otherWord, plainWord, tokenBy, tokenOf, startNo, wordNo, tokenNo, tokensOf}
-use Rattle.sheet.specs.Faults.{endFault, isSeconds, periodFault, noiseFault, spreadFault, isValue, startFault, isKept, keepsFault, isGiven, wordsFault, settingFault, isCheck, secondFault, pairFault, checksFault, faultOf}
+use Rattle.sheet.specs.Faults.{endFault, isWithin, periodFault, noiseFault, spreadFault, isValue, startFault, keepsFault, seasonFault, isGiven, wordsFault, settingFault, isCheck, secondFault, pairFault, checksFault, faultOf}
 use Rattle.sheet.specs.Effects.{noSpread, noStart, settings, spreadBy, startBy, withNoise, settled, readingOf, lineReadings}
 use Rattle.sheet.specs.Sheets.{lineTokens, lineFault, counted, badAt, wrongLine, endOf, sheetFrom, readingsFrom, sheetOf, readingsOf}
 
@@ -26,12 +26,12 @@ given sd n = record { given = true; sd = sd; size = n }
 
 -- the settings of `base`
 abbrev baseSettings : Settings
-baseSettings = settings 1 1 0 (given true 2) noSpread noSpread noSpread noSpread (noStart false) (noStart false)
+baseSettings = settings 1 1 0 0 0 (given true 2) noSpread noSpread noSpread noSpread (noStart false) (noStart false)
 
 -- what is answered
 pub sheets :
-    -- "period 60\nnoise variance 4 5\nradio sd 1\nwander-offset sd 2\nwander-rate variance 3\nrate-keeps 980\nstart-offset unknown\nstart-rate -7 sd 8\n"
-    (sheetOf false (112 ∷ 101 ∷ 114 ∷ 105 ∷ 111 ∷ 100 ∷ 32 ∷ 54 ∷ 48 ∷ 10 ∷ 110 ∷ 111 ∷ 105 ∷ 115 ∷ 101 ∷ 32 ∷ 118 ∷ 97 ∷ 114 ∷ 105 ∷ 97 ∷ 110 ∷ 99 ∷ 101 ∷ 32 ∷ 52 ∷ 32 ∷ 53 ∷ 10 ∷ 114 ∷ 97 ∷ 100 ∷ 105 ∷ 111 ∷ 32 ∷ 115 ∷ 100 ∷ 32 ∷ 49 ∷ 10 ∷ 119 ∷ 97 ∷ 110 ∷ 100 ∷ 101 ∷ 114 ∷ 45 ∷ 111 ∷ 102 ∷ 102 ∷ 115 ∷ 101 ∷ 116 ∷ 32 ∷ 115 ∷ 100 ∷ 32 ∷ 50 ∷ 10 ∷ 119 ∷ 97 ∷ 110 ∷ 100 ∷ 101 ∷ 114 ∷ 45 ∷ 114 ∷ 97 ∷ 116 ∷ 101 ∷ 32 ∷ 118 ∷ 97 ∷ 114 ∷ 105 ∷ 97 ∷ 110 ∷ 99 ∷ 101 ∷ 32 ∷ 51 ∷ 10 ∷ 114 ∷ 97 ∷ 116 ∷ 101 ∷ 45 ∷ 107 ∷ 101 ∷ 101 ∷ 112 ∷ 115 ∷ 32 ∷ 57 ∷ 56 ∷ 48 ∷ 10 ∷ 115 ∷ 116 ∷ 97 ∷ 114 ∷ 116 ∷ 45 ∷ 111 ∷ 102 ∷ 102 ∷ 115 ∷ 101 ∷ 116 ∷ 32 ∷ 117 ∷ 110 ∷ 107 ∷ 110 ∷ 111 ∷ 119 ∷ 110 ∷ 10 ∷ 115 ∷ 116 ∷ 97 ∷ 114 ∷ 116 ∷ 45 ∷ 114 ∷ 97 ∷ 116 ∷ 101 ∷ 32 ∷ 45 ∷ 55 ∷ 32 ∷ 115 ∷ 100 ∷ 32 ∷ 56 ∷ 10 ∷ []) ≡ Good (settings 60 2 980 (given false 4) (given false 5) (given true 1) (given true 2) (given false 3) (noStart true) (record { given = true; known = true; minus = true; size = 7; spread = given true 8 })) 0)
+    -- "period 60\nnoise variance 4 5\nradio sd 1\nwander-offset sd 2\nwander-rate variance 3\nrate-keeps 980\nseason 113 950\nstart-offset unknown\nstart-rate -7 sd 8\n"
+    (sheetOf false (112 ∷ 101 ∷ 114 ∷ 105 ∷ 111 ∷ 100 ∷ 32 ∷ 54 ∷ 48 ∷ 10 ∷ 110 ∷ 111 ∷ 105 ∷ 115 ∷ 101 ∷ 32 ∷ 118 ∷ 97 ∷ 114 ∷ 105 ∷ 97 ∷ 110 ∷ 99 ∷ 101 ∷ 32 ∷ 52 ∷ 32 ∷ 53 ∷ 10 ∷ 114 ∷ 97 ∷ 100 ∷ 105 ∷ 111 ∷ 32 ∷ 115 ∷ 100 ∷ 32 ∷ 49 ∷ 10 ∷ 119 ∷ 97 ∷ 110 ∷ 100 ∷ 101 ∷ 114 ∷ 45 ∷ 111 ∷ 102 ∷ 102 ∷ 115 ∷ 101 ∷ 116 ∷ 32 ∷ 115 ∷ 100 ∷ 32 ∷ 50 ∷ 10 ∷ 119 ∷ 97 ∷ 110 ∷ 100 ∷ 101 ∷ 114 ∷ 45 ∷ 114 ∷ 97 ∷ 116 ∷ 101 ∷ 32 ∷ 118 ∷ 97 ∷ 114 ∷ 105 ∷ 97 ∷ 110 ∷ 99 ∷ 101 ∷ 32 ∷ 51 ∷ 10 ∷ 114 ∷ 97 ∷ 116 ∷ 101 ∷ 45 ∷ 107 ∷ 101 ∷ 101 ∷ 112 ∷ 115 ∷ 32 ∷ 57 ∷ 56 ∷ 48 ∷ 10 ∷ 115 ∷ 101 ∷ 97 ∷ 115 ∷ 111 ∷ 110 ∷ 32 ∷ 49 ∷ 49 ∷ 51 ∷ 32 ∷ 57 ∷ 53 ∷ 48 ∷ 10 ∷ 115 ∷ 116 ∷ 97 ∷ 114 ∷ 116 ∷ 45 ∷ 111 ∷ 102 ∷ 102 ∷ 115 ∷ 101 ∷ 116 ∷ 32 ∷ 117 ∷ 110 ∷ 107 ∷ 110 ∷ 111 ∷ 119 ∷ 110 ∷ 10 ∷ 115 ∷ 116 ∷ 97 ∷ 114 ∷ 116 ∷ 45 ∷ 114 ∷ 97 ∷ 116 ∷ 101 ∷ 32 ∷ 45 ∷ 55 ∷ 32 ∷ 115 ∷ 100 ∷ 32 ∷ 56 ∷ 10 ∷ []) ≡ Good (settings 60 2 980 113 950 (given false 4) (given false 5) (given true 1) (given true 2) (given false 3) (noStart true) (record { given = true; known = true; minus = true; size = 7; spread = given true 8 })) 0)
     -- "# a\r\nperiod 1 # b\r\n\nnoise\tsd 2\n -5"
     × (sheetOf false (35 ∷ 32 ∷ 97 ∷ 13 ∷ 10 ∷ 112 ∷ 101 ∷ 114 ∷ 105 ∷ 111 ∷ 100 ∷ 32 ∷ 49 ∷ 32 ∷ 35 ∷ 32 ∷ 98 ∷ 13 ∷ 10 ∷ 10 ∷ 110 ∷ 111 ∷ 105 ∷ 115 ∷ 101 ∷ 9 ∷ 115 ∷ 100 ∷ 32 ∷ 50 ∷ 10 ∷ 32 ∷ 45 ∷ 53 ∷ []) ≡ Good baseSettings 1)
     -- `base`, "7\n+\n-\n": in a table
@@ -56,6 +56,16 @@ pub sheets :
     × (sheetOf false (114 ∷ 97 ∷ 116 ∷ 101 ∷ 45 ∷ 107 ∷ 101 ∷ 101 ∷ 112 ∷ 115 ∷ 32 ∷ 48 ∷ []) ≡ badAt 1 11 12 Thousandths)
     -- "rate-keeps 980\nrate-keeps 980"
     × (sheetOf false (114 ∷ 97 ∷ 116 ∷ 101 ∷ 45 ∷ 107 ∷ 101 ∷ 101 ∷ 112 ∷ 115 ∷ 32 ∷ 57 ∷ 56 ∷ 48 ∷ 10 ∷ 114 ∷ 97 ∷ 116 ∷ 101 ∷ 45 ∷ 107 ∷ 101 ∷ 101 ∷ 112 ∷ 115 ∷ 32 ∷ 57 ∷ 56 ∷ 48 ∷ []) ≡ badAt 2 15 25 Once)
+    -- "season 1 950"
+    × (sheetOf false (115 ∷ 101 ∷ 97 ∷ 115 ∷ 111 ∷ 110 ∷ 32 ∷ 49 ∷ 32 ∷ 57 ∷ 53 ∷ 48 ∷ []) ≡ badAt 1 7 8 SeasonStart)
+    -- "season 4097 950"
+    × (sheetOf false (115 ∷ 101 ∷ 97 ∷ 115 ∷ 111 ∷ 110 ∷ 32 ∷ 52 ∷ 48 ∷ 57 ∷ 55 ∷ 32 ∷ 57 ∷ 53 ∷ 48 ∷ []) ≡ badAt 1 7 11 SeasonStart)
+    -- "season 2 0"
+    × (sheetOf false (115 ∷ 101 ∷ 97 ∷ 115 ∷ 111 ∷ 110 ∷ 32 ∷ 50 ∷ 32 ∷ 48 ∷ []) ≡ badAt 1 9 10 Thousandths)
+    -- "season 4096 950 9"
+    × (sheetOf false (115 ∷ 101 ∷ 97 ∷ 115 ∷ 111 ∷ 110 ∷ 32 ∷ 52 ∷ 48 ∷ 57 ∷ 54 ∷ 32 ∷ 57 ∷ 53 ∷ 48 ∷ 32 ∷ 57 ∷ []) ≡ badAt 1 16 17 LineEnd)
+    -- "season 9 8\nseason 9 8"
+    × (sheetOf false (115 ∷ 101 ∷ 97 ∷ 115 ∷ 111 ∷ 110 ∷ 32 ∷ 57 ∷ 32 ∷ 56 ∷ 10 ∷ 115 ∷ 101 ∷ 97 ∷ 115 ∷ 111 ∷ 110 ∷ 32 ∷ 57 ∷ 32 ∷ 56 ∷ []) ≡ badAt 2 11 17 Once)
     -- "period 1 2"
     × (sheetOf false (112 ∷ 101 ∷ 114 ∷ 105 ∷ 111 ∷ 100 ∷ 32 ∷ 49 ∷ 32 ∷ 50 ∷ []) ≡ badAt 1 9 10 LineEnd)
     -- "period 1\nperiod x": asked before its other words
@@ -76,8 +86,8 @@ pub sheets :
     × (sheetOf false [] ≡ badAt 1 0 0 PeriodSetting)
     -- "period 1\n": the end
     × (sheetOf false (112 ∷ 101 ∷ 114 ∷ 105 ∷ 111 ∷ 100 ∷ 32 ∷ 49 ∷ 10 ∷ []) ≡ badAt 2 9 9 NoiseSetting)
-unfolding sheetOf sheetFrom readingsFrom lineFault lineTokens counted wrongLine endOf isEnd runTo onto linesOf contentOf equal settingName startsCheck otherWord plainWord tokenBy tokenOf startNo wordNo tokenNo tokensOf endFault isSeconds periodFault noiseFault spreadFault isValue startFault isKept keepsFault isGiven wordsFault settingFault isCheck secondFault pairFault checksFault faultOf spreadBy startBy withNoise settled readingOf lineReadings isDigit allDigits valueFrom numberOf readOf stretch isBlank keeps runOf wordAt
-sheets = (refl, refl, refl, refl, refl, refl, refl, refl, refl, refl, refl, refl, refl, refl, refl, refl, refl, refl, refl, refl, refl, refl, refl)
+unfolding sheetOf sheetFrom readingsFrom lineFault lineTokens counted wrongLine endOf isEnd runTo onto linesOf contentOf equal settingName startsCheck otherWord plainWord tokenBy tokenOf startNo wordNo tokenNo tokensOf endFault isWithin periodFault noiseFault spreadFault isValue startFault keepsFault seasonFault isGiven wordsFault settingFault isCheck secondFault pairFault checksFault faultOf spreadBy startBy withNoise settled readingOf lineReadings isDigit allDigits valueFrom numberOf readOf stretch isBlank keeps runOf wordAt
+sheets = (refl, refl, refl, refl, refl, refl, refl, refl, refl, refl, refl, refl, refl, refl, refl, refl, refl, refl, refl, refl, refl, refl, refl, refl, refl, refl, refl, refl)
 
 -- what is stored
 pub readings :
@@ -89,5 +99,5 @@ pub readings :
     × (readingsOf true (base ++ (55 ∷ 10 ∷ 43 ∷ 10 ∷ 45 ∷ 10 ∷ [])) ≡ fin false 0 (pos 0) ∷ nan ∷ fin false 0 (pos 0) ∷ nan ∷ nan ∷ nan ∷ [])
     -- `base`, "5\nx\n6\n": up to the wrong line
     × (readingsOf false (base ++ (53 ∷ 10 ∷ 120 ∷ 10 ∷ 54 ∷ 10 ∷ [])) ≡ fin false 5 (pos 0) ∷ nan ∷ [])
-unfolding readingsOf sheetFrom readingsFrom lineFault lineTokens counted wrongLine endOf isEnd runTo onto linesOf contentOf equal settingName startsCheck otherWord plainWord tokenBy tokenOf startNo wordNo tokenNo tokensOf endFault isSeconds periodFault noiseFault spreadFault isValue startFault isKept keepsFault isGiven wordsFault settingFault isCheck secondFault pairFault checksFault faultOf spreadBy startBy withNoise settled readingOf lineReadings isDigit allDigits valueFrom numberOf readOf stretch isBlank keeps runOf wordAt neg ofInt
+unfolding readingsOf sheetFrom readingsFrom lineFault lineTokens counted wrongLine endOf isEnd runTo onto linesOf contentOf equal settingName startsCheck otherWord plainWord tokenBy tokenOf startNo wordNo tokenNo tokensOf endFault isWithin periodFault noiseFault spreadFault isValue startFault keepsFault seasonFault isGiven wordsFault settingFault isCheck secondFault pairFault checksFault faultOf spreadBy startBy withNoise settled readingOf lineReadings isDigit allDigits valueFrom numberOf readOf stretch isBlank keeps runOf wordAt neg ofInt
 readings = (refl, refl, refl, refl)

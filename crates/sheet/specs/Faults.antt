@@ -1,10 +1,10 @@
 -- What is wrong with a line, by its words' kinds: the first wrong word. Whether the line may stand there is asked before its other words are looked at.
 use mathlib.Core.Bool.{Bool, true, false, not, cond}
 use Prim.Native.Nat.{ℕ, _+_}
-use lib.Dec.{eqb, ltb}
+use lib.Dec.{eqb, leb, ltb}
 use Rattle.sheet.specs.declared.answers.Settings.{Settings}
 use Rattle.sheet.specs.declared.answers.Wanted.{Wanted}
-use Rattle.sheet.specs.declared.answers.Wanted.the-variants.{Line, Seconds, SdOrVariance, Size, UnknownOrValue, Thousandths, LineEnd, Check, OneCheck, Once, SettingsFirst, PeriodSetting, NoiseSetting, FewerPeriods}
+use Rattle.sheet.specs.declared.answers.Wanted.the-variants.{Line, Seconds, SdOrVariance, Size, UnknownOrValue, Thousandths, SeasonStart, LineEnd, Check, OneCheck, Once, SettingsFirst, PeriodSetting, NoiseSetting, FewerPeriods}
 use Rattle.sheet.specs.declared.parts.Token.{Token}
 use Rattle.sheet.specs.declared.parts.Tokens.{Tokens}
 use Rattle.sheet.specs.declared.parts.Fault.{Fault}
@@ -21,53 +21,54 @@ endFault t word = cond (eqb (t .kind) 0) right (wrongAt LineEnd word)
 
 -- ---- settings
 
--- 1 to 999999999
-unfoldable pub isSeconds : Token → Bool
-isSeconds t = cond (eqb (t .kind) 11) (cond (eqb (t .size) 0) false (ltb (t .size) 1000000000)) false
+-- a number from one to another
+unfoldable pub isWithin : ℕ → ℕ → Token → Bool
+isWithin least most t = cond (eqb (t .kind) 12) (cond (ltb (t .size) least) false (leb (t .size) most)) false
 
 -- period SECONDS
 unfoldable pub periodFault : Tokens → Fault
-periodFault t = cond (isSeconds (t .second)) (endFault (t .third) 2) (wrongAt Seconds 1)
+periodFault t = cond (isWithin 1 999999999 (t .second)) (endFault (t .third) 2) (wrongAt Seconds 1)
 
 -- noise sd A, noise sd A B; or variance
 unfoldable pub noiseFault : Tokens → Fault
 noiseFault t =
-    cond (eqb (t .second .kind) 14)
-    (cond (eqb (t .third .kind) 11)
+    cond (eqb (t .second .kind) 15)
+    (cond (eqb (t .third .kind) 12)
     (cond (eqb (t .fourth .kind) 0) right
-    (cond (eqb (t .fourth .kind) 11) (endFault (t .fifth) 4) (wrongAt Size 3)))
+    (cond (eqb (t .fourth .kind) 12) (endFault (t .fifth) 4) (wrongAt Size 3)))
     (wrongAt Size 2))
     (wrongAt SdOrVariance 1)
 
 -- sd A, or variance A, from word `at` on, and no more
 unfoldable pub spreadFault : Token → Token → Token → ℕ → Fault
-spreadFault a b c at = cond (eqb (a .kind) 14) (cond (eqb (b .kind) 11) (endFault c (at + 2)) (wrongAt Size (at + 1))) (wrongAt SdOrVariance at)
+spreadFault a b c at = cond (eqb (a .kind) 15) (cond (eqb (b .kind) 12) (endFault c (at + 2)) (wrongAt Size (at + 1))) (wrongAt SdOrVariance at)
 
 unfoldable pub isValue : Token → Bool
-isValue t = cond (eqb (t .kind) 11) true (eqb (t .kind) 12)
+isValue t = cond (eqb (t .kind) 12) true (eqb (t .kind) 13)
 
 -- unknown; or VALUE sd A; or VALUE variance A
 unfoldable pub startFault : Tokens → Fault
-startFault t = cond (eqb (t .second .kind) 15) (endFault (t .third) 2) (cond (isValue (t .second)) (spreadFault (t .third) (t .fourth) (t .fifth) 2) (wrongAt UnknownOrValue 1))
+startFault t = cond (eqb (t .second .kind) 16) (endFault (t .third) 2) (cond (isValue (t .second)) (spreadFault (t .third) (t .fourth) (t .fifth) 2) (wrongAt UnknownOrValue 1))
 
--- 1 to 999999999999999: no longer number is read
-unfoldable pub isKept : Token → Bool
-isKept t = cond (eqb (t .kind) 11) (not (eqb (t .size) 0)) false
+-- THOUSANDTHS as word `at`, and no more
+unfoldable pub keepsFault : Token → Token → ℕ → Fault
+keepsFault a b at = cond (isWithin 1 999999999999999 a) (endFault b (at + 1)) (wrongAt Thousandths at)
 
--- rate-keeps THOUSANDTHS
-unfoldable pub keepsFault : Tokens → Fault
-keepsFault t = cond (isKept (t .second)) (endFault (t .third) 2) (wrongAt Thousandths 1)
+-- season PERIOD THOUSANDTHS
+unfoldable pub seasonFault : Tokens → Fault
+seasonFault t = cond (isWithin 2 4096 (t .second)) (keepsFault (t .third) (t .fourth) 2) (wrongAt SeasonStart 1)
 
 unfoldable pub isGiven : Settings → ℕ → Bool
 isGiven s kind =
     cond (eqb kind 1) (not (eqb (s .period) 0))
     (cond (eqb kind 2) (not (eqb (s .inputs) 0))
     (cond (eqb kind 8) (not (eqb (s .«rate_keeps») 0))
+    (cond (eqb kind 9) (not (eqb (s .season) 0))
     (cond (eqb kind 3) (s .radio .given)
     (cond (eqb kind 4) (s .«wander_offset» .given)
     (cond (eqb kind 5) (s .«wander_rate» .given)
     (cond (eqb kind 6) (s .offset .given)
-    (s .rate .given)))))))
+    (s .rate .given))))))))
 
 unfoldable pub wordsFault : Tokens → Fault
 wordsFault t =
@@ -75,7 +76,8 @@ wordsFault t =
     (cond (eqb (t .first .kind) 2) (noiseFault t)
     (cond (ltb (t .first .kind) 6) (spreadFault (t .second) (t .third) (t .fourth) 1)
     (cond (ltb (t .first .kind) 8) (startFault t)
-    (keepsFault t))))
+    (cond (eqb (t .first .kind) 8) (keepsFault (t .second) (t .third) 1)
+    (seasonFault t)))))
 
 -- after so many periods
 unfoldable pub settingFault : Settings → ℕ → Tokens → Fault
@@ -85,7 +87,7 @@ settingFault s periods t = cond (ltb 0 periods) (wrongAt SettingsFirst 0) (cond 
 
 -- a minus alone or a number; a plus alone in a table
 unfoldable pub isCheck : Bool → Token → Bool
-isCheck table t = cond (ltb (t .kind) 9) false (cond (eqb (t .kind) 10) table (ltb (t .kind) 13))
+isCheck table t = cond (ltb (t .kind) 10) false (cond (eqb (t .kind) 11) table (ltb (t .kind) 14))
 
 -- after the first check: nothing, or one more where noise is for two inputs
 unfoldable pub secondFault : Bool → ℕ → Tokens → Fault
@@ -105,6 +107,6 @@ checksFault table period inputs periods t = cond (eqb period 0) (wrongAt PeriodS
 unfoldable pub faultOf : Bool → Settings → ℕ → Tokens → Fault
 faultOf table s periods t =
     cond (eqb (t .first .kind) 0) right
-    (cond (ltb (t .first .kind) 9) (settingFault s periods t)
-    (cond (ltb (t .first .kind) 14) (checksFault table (s .period) (s .inputs) periods t)
+    (cond (ltb (t .first .kind) 10) (settingFault s periods t)
+    (cond (ltb (t .first .kind) 15) (checksFault table (s .period) (s .inputs) periods t)
     (wrongAt Line 0)))

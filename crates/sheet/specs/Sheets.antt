@@ -26,7 +26,7 @@ lineFault table s periods l = faultOf table s periods (lineTokens l)
 
 -- one period more after a line with checks
 unfoldable pub counted : ℕ → Tokens → ℕ
-counted periods t = cond (ltb (t .first .kind) 9) periods (periods + 1)
+counted periods t = cond (ltb (t .first .kind) 10) periods (periods + 1)
 
 abbrev pub badAt : ℕ → ℕ → ℕ → Wanted → Sheet
 badAt line from to wanted = Bad (record { line = line; from = from; to = to; wanted = wanted })

@@ -35,8 +35,8 @@ equal-is (x ∷ xs) (y ∷ ys) e = go (equal-is xs ys) (eqb x y) refl e
     go i true q e = ap₂ (λ (b : ℕ) (bs : List ℕ). b ∷ bs) (eqb-true x y q) (i e)
     go i false q e = absurd (true≢false (sym e))
 
--- ---- the kinds: 0 no word; 1 to 8 the settings; 9 a minus alone; 10 a plus alone; 11 a whole number; 12 one with a minus; 13 any other word that starts
--- with a digit, a minus or a plus; 14 sd (size 1) and variance (size 0); 15 unknown; 16 any other
+-- ---- the kinds: 0 no word; 1 to 9 the settings; 10 a minus alone; 11 a plus alone; 12 a whole number; 13 one with a minus; 14 any other word that starts
+-- with a digit, a minus or a plus; 15 sd (size 1) and variance (size 0); 16 unknown; 17 any other
 abbrev pub word : ℕ → ℕ → Token
 word kind size = record { kind = kind; size = size }
 
@@ -72,6 +72,10 @@ startRateName = 115 ∷ 116 ∷ 97 ∷ 114 ∷ 116 ∷ 45 ∷ 114 ∷ 97 ∷ 116
 abbrev pub rateKeepsName : List ℕ
 rateKeepsName = 114 ∷ 97 ∷ 116 ∷ 101 ∷ 45 ∷ 107 ∷ 101 ∷ 101 ∷ 112 ∷ 115 ∷ []
 
+-- "season"
+abbrev pub seasonName : List ℕ
+seasonName = 115 ∷ 101 ∷ 97 ∷ 115 ∷ 111 ∷ 110 ∷ []
+
 -- "sd"
 abbrev pub sdName : List ℕ
 sdName = 115 ∷ 100 ∷ []
@@ -95,7 +99,8 @@ settingName w =
     (cond (equal w startOffsetName) 6
     (cond (equal w startRateName) 7
     (cond (equal w rateKeepsName) 8
-    0)))))))
+    (cond (equal w seasonName) 9
+    0))))))))
 
 unfoldable pub startsCheck : List ℕ → Bool
 startsCheck [] = false
@@ -103,13 +108,13 @@ startsCheck (b ∷ bs) = cond (eqb b 43) true (cond (eqb b 45) true (isDigit b))
 
 unfoldable pub otherWord : List ℕ → Token
 otherWord w =
-    cond (equal w sdName) (word 14 1)
-    (cond (equal w varianceName) (word 14 0)
-    (cond (equal w unknownName) (word 15 0)
-    (cond (equal w (45 ∷ [])) (word 9 0)
-    (cond (equal w (43 ∷ [])) (word 10 0)
-    (cond (startsCheck w) (word 13 0)
-    (word 16 0))))))
+    cond (equal w sdName) (word 15 1)
+    (cond (equal w varianceName) (word 15 0)
+    (cond (equal w unknownName) (word 16 0)
+    (cond (equal w (45 ∷ [])) (word 10 0)
+    (cond (equal w (43 ∷ [])) (word 11 0)
+    (cond (startsCheck w) (word 14 0)
+    (word 17 0))))))
 
 -- a word that is no number
 unfoldable pub plainWord : List ℕ → Token
@@ -117,9 +122,9 @@ plainWord w = cond (eqb (settingName w) 0) (otherWord w) (word (settingName w) 0
 
 -- by what it reads as. A number that is too long starts with a digit or a minus.
 unfoldable pub tokenBy : Read → List ℕ → Token
-tokenBy (Whole minus n) w = word (cond minus 12 11) n
+tokenBy (Whole minus n) w = word (cond minus 13 12) n
 tokenBy Empty w = word 0 0
-tokenBy TooLong w = word 13 0
+tokenBy TooLong w = word 14 0
 tokenBy NotANumber w = plainWord w
 
 unfoldable pub tokenOf : List ℕ → Token

@@ -16,12 +16,15 @@ pub struct Start {
     pub spread: Spread,
 }
 
-// Period 0, inputs 0, rate_keeps 0: not given.
+// Period 0, inputs 0, rate_keeps 0, season 0: not given.
 pub struct Settings {
     pub period: u64,
     pub inputs: u64,
     // How many thousandths of the rate the next period keeps.
     pub rate_keeps: u64,
+    // The run's first period, from 1, of which the next keeps so many instead.
+    pub season: u64,
+    pub season_keeps: u64,
     pub noise: Spread,
     pub noise_2: Spread,
     pub radio: Spread,
@@ -39,6 +42,7 @@ pub enum Wanted {
     Size,
     UnknownOrValue,
     Thousandths,
+    SeasonStart,
     LineEnd,
     Check,
     OneCheck,

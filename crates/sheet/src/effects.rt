@@ -9,6 +9,7 @@ use crate::kinds::PERIOD;
 use crate::kinds::PLANNED;
 use crate::kinds::RADIO;
 use crate::kinds::RATE_KEEPS;
+use crate::kinds::SEASON;
 use crate::kinds::START_OFFSET;
 use crate::kinds::START_RATE;
 use crate::kinds::UNKNOWN;
@@ -50,6 +51,8 @@ pub fn none_given() -> Settings
         period: 0,
         inputs: 0,
         rate_keeps: 0,
+        season: 0,
+        season_keeps: 0,
         noise: spread,
         noise_2: spread,
         radio: spread,
@@ -141,6 +144,11 @@ pub fn after(s: Settings, t: Tokens) -> Settings
     }
     if kind == RATE_KEEPS {
         n.rate_keeps = t.second.size;
+        return n;
+    }
+    if kind == SEASON {
+        n.season = t.second.size;
+        n.season_keeps = t.third.size;
         return n;
     }
     n

@@ -11,6 +11,7 @@ use crate::kinds::PERIOD;
 use crate::kinds::PLANNED;
 use crate::kinds::RADIO;
 use crate::kinds::RATE_KEEPS;
+use crate::kinds::SEASON;
 use crate::kinds::SPREAD;
 use crate::kinds::START_OFFSET;
 use crate::kinds::UNKNOWN;
@@ -21,7 +22,7 @@ use crate::parts::Token;
 use crate::parts::Tokens;
 ghost use mathlib.Core.Path.{_≡_};
 ghost use Prim.Native.Nat.{_<_};
-ghost use Rattle.sheet.specs.Faults.{right, wrongAt, endFault, isSeconds, periodFault, noiseFault, spreadFault, isValue, startFault, isKept, keepsFault, isGiven, wordsFault, settingFault, isCheck, secondFault, pairFault, checksFault, faultOf};
+ghost use Rattle.sheet.specs.Faults.{right, wrongAt, endFault, isWithin, periodFault, noiseFault, spreadFault, isValue, startFault, keepsFault, seasonFault, isGiven, wordsFault, settingFault, isCheck, secondFault, pairFault, checksFault, faultOf};
 
 fn fine() -> Fault
     ensures { λ r. ⌜ r ≡ right ⌝ }
@@ -52,22 +53,23 @@ fn end(t: Token, word: u8) -> Fault
     wrong(Wanted::LineEnd, word)
 }
 
-fn is_seconds(t: Token) -> bool
-    ensures { λ r. ⌜ r ≡ isSeconds t ⌝ }
+// Whether a word is a number from one to another.
+fn is_within(t: Token, least: u64, most: u64) -> bool
+    ensures { λ r. ⌜ r ≡ isWithin least most t ⌝ }
 {
     if t.kind != NUMBER {
         return false;
     }
-    if t.size == 0 {
+    if t.size < least {
         return false;
     }
-    t.size < 1000000000
+    t.size <= most
 }
 
 fn period(t: Tokens) -> Fault
     ensures { λ r. ⌜ r ≡ periodFault t ⌝ }
 {
-    if is_seconds(t.second) {
+    if is_within(t.second, 1, 999999999) {
         return end(t.third, 2);
     }
     wrong(Wanted::Seconds, 1)
@@ -126,23 +128,26 @@ fn start(t: Tokens) -> Fault
     wrong(Wanted::UnknownOrValue, 1)
 }
 
-// 0 is not taken: then nothing of a period's rate would be in the next, and a rate that is unknown would pass for known.
-fn is_kept(t: Token) -> bool
-    ensures { λ r. ⌜ r ≡ isKept t ⌝ }
+// The thousandths that are kept, word `at` of the line, and the line's end. 0 is not taken: then nothing of a period's rate would be in the next, and a
+// rate that is unknown would pass for known.
+fn keeps(a: Token, b: Token, at: u8) -> Fault
+    requires { ⌜ at < 9 ⌝ }
+    ensures { λ r. ⌜ r ≡ keepsFault a b at ⌝ }
 {
-    if t.kind != NUMBER {
-        return false;
+    if is_within(a, 1, 999999999999999) {
+        return end(b, at + 1);
     }
-    t.size != 0
+    wrong(Wanted::Thousandths, at)
 }
 
-fn keeps(t: Tokens) -> Fault
-    ensures { λ r. ⌜ r ≡ keepsFault t ⌝ }
+// Period 1 is not taken: a law that holds from there on is what rate-keeps says.
+fn season(t: Tokens) -> Fault
+    ensures { λ r. ⌜ r ≡ seasonFault t ⌝ }
 {
-    if is_kept(t.second) {
-        return end(t.third, 2);
+    if is_within(t.second, 2, 4096) {
+        return keeps(t.third, t.fourth, 2);
     }
-    wrong(Wanted::Thousandths, 1)
+    wrong(Wanted::SeasonStart, 1)
 }
 
 fn is_given(s: Settings, kind: u8) -> bool
@@ -156,6 +161,9 @@ fn is_given(s: Settings, kind: u8) -> bool
     }
     if kind == RATE_KEEPS {
         return s.rate_keeps != 0;
+    }
+    if kind == SEASON {
+        return s.season != 0;
     }
     if kind == RADIO {
         return s.radio.given;
@@ -189,7 +197,10 @@ fn words(t: Tokens) -> Fault
     if kind < RATE_KEEPS {
         return start(t);
     }
-    keeps(t)
+    if kind == RATE_KEEPS {
+        return keeps(t.second, t.third, 1);
+    }
+    season(t)
 }
 
 fn setting(s: Settings, periods: usize, t: Tokens) -> Fault

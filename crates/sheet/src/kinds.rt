@@ -1,4 +1,4 @@
-// The kinds of words. 1 to 8 name the settings; 9 to 13 start with a digit, a minus or a plus; the others never start a line.
+// The kinds of words. 1 to 9 name the settings; 10 to 14 start with a digit, a minus or a plus; the others never start a line.
 
 pub const END: u8 = 0;
 
@@ -18,18 +18,20 @@ pub const START_RATE: u8 = 7;
 
 pub const RATE_KEEPS: u8 = 8;
 
-pub const GAP: u8 = 9;
+pub const SEASON: u8 = 9;
 
-pub const PLANNED: u8 = 10;
+pub const GAP: u8 = 10;
 
-pub const NUMBER: u8 = 11;
+pub const PLANNED: u8 = 11;
 
-pub const NEGATIVE: u8 = 12;
+pub const NUMBER: u8 = 12;
 
-pub const NO_CHECK: u8 = 13;
+pub const NEGATIVE: u8 = 13;
 
-pub const SPREAD: u8 = 14;
+pub const NO_CHECK: u8 = 14;
 
-pub const UNKNOWN: u8 = 15;
+pub const SPREAD: u8 = 15;
 
-pub const OTHER: u8 = 16;
+pub const UNKNOWN: u8 = 16;
+
+pub const OTHER: u8 = 17;

@@ -66,7 +66,7 @@ fn end_of(s: Settings, periods: usize, lines: u64, size: usize) -> Sheet
 
 // The readings of a line, where it has checks, into the places of the next period. How many periods there are then.
 fn store(y: &mut [f64], periods: usize, table: bool, t: Tokens) -> usize
-    requires { ⌜ (8192 ≡ length (now y)) × (9 ≤ t .first .kind → periods < 4096) ⌝ }
+    requires { ⌜ (8192 ≡ length (now y)) × (10 ≤ t .first .kind → periods < 4096) ⌝ }
     ensures { λ r. ⌜ r ≡ counted periods t ⌝ }
     ensures { λ _. ⌜ Laid (2 * periods) (lineReadings table t) (now (y .entry)) (now (y .exit)) ⌝ }
 {

@@ -10,6 +10,7 @@ use crate::kinds::PERIOD;
 use crate::kinds::PLANNED;
 use crate::kinds::RADIO;
 use crate::kinds::RATE_KEEPS;
+use crate::kinds::SEASON;
 use crate::kinds::SPREAD;
 use crate::kinds::START_OFFSET;
 use crate::kinds::START_RATE;
@@ -68,6 +69,9 @@ fn setting_name(w: &[u8]) -> u8
     }
     if same(w, b"rate-keeps") {
         return RATE_KEEPS;
+    }
+    if same(w, b"season") {
+        return SEASON;
     }
     0
 }

@@ -93,7 +93,7 @@ module _ {x : Model} {o : Offsets} {y : List Float} {w : CovParts} {w′ : MeanP
           let h = refused-silent x o y w w′ (quiet x y) i (ended g) in
           rw (by-fate x o y w w′ sm sc silent (fated ∙ h)) (record { filter = subst (λ (f : Ending). Promise (ends.End x o y w w′ f) (Refused i) b b′) h (ended g); mean = s .mean; cov = s .cov })
 
-      pub heard : {a : Answer} → r ≡ Answered a → Back (x .p) (x .m) (x .n) (a .«d_diffuse») (x .zOnce) (x .zList) (x .t) (b′ predMean) (b .part predCov) (b .part predInf) (b′ innovations) (flatIn (b .kinds) (b .part fStar) (b .part fInf) (b .part mStar) (b .part mInf)) sm sm′ sc sc′
+      pub heard : {a : Answer} → r ≡ Answered a → Back (x .p) (x .m) (x .n) (a .«d_diffuse») (x .zOnce) (x .zList) (x .tOnce) (x .tList) (b′ predMean) (b .part predCov) (b .part predInf) (b′ innovations) (flatIn (b .kinds) (b .part fStar) (b .part fInf) (b .part mStar) (b .part mInf)) sm sm′ sc sc′
           → PromiseSmooth (smoothOutcome x o y w w′ sm sc) (Answered a) b b′ sm′ sc′
       unfolding End smoothedCov smoothedMean after
       heard {a} g k =

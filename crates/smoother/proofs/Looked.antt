@@ -53,7 +53,7 @@ module _ {x : Model} {o : Offsets} {y : ℕ} {w : CovParts} {w′ : MeanParts} {
       }
 
   pub ready : (k : List ℕ) (a b c d : List Float) {pm pc pi v lm lc : ℕ} → pm ≡ length (w′ predMean) → pc ≡ length (w .part predCov) → pi ≡ length (w .part predInf) → v ≡ length (w′ innovations) → length k ≡ length (w .kinds) → length a ≡ length (w .part fStar) → length b ≡ length (w .part fInf) → length c ≡ length (w .part mStar) → length d ≡ length (w .part mInf) → lm ≡ length sm → lc ≡ length sc
-      → ReadyBack (x .p) (x .m) (x .n) (length (x .zOnce)) (length (x .zList)) (length (x .t)) pm pc pi v (flatIn k a b c d) lm lc
+      → ReadyBack (x .p) (x .m) (x .n) (length (x .zOnce)) (length (x .zList)) (length (x .tOnce)) (length (x .tList)) pm pc pi v (flatIn k a b c d) lm lc
   ready k a b c d {pm} {pc} {pi} {v} {lm} {lc} epm epc epi ev ek ea eb ec ed em es =
       let r = room .filter in
       let hpc = as-long (r .cov predCov) epc in
@@ -64,12 +64,8 @@ module _ {x : Model} {o : Offsets} {y : ℕ} {w : CovParts} {w′ : MeanParts} {
       let hc = as-long (r .cov mStar) ec in
       let hd = as-long (r .cov mInf) ed in
       record {
-        p0 = f .sizes .p0;
-        p8 = f .sizes .p8;
-        m0 = f .sizes .m0;
-        m8 = f .sizes .m8;
-        covs = λ listed e. cov-call.ready x o pc pi (flatIn k a b c d) f e hpc hpi hk ha hb hc hd;
-        means = λ listed e. mean-call.ready x o pm pc pi v (flatIn k a b c d) lm f e (as-long (r .mean predMean) epm) hpc hpi (as-long (r .mean innovations) ev) hk ha hb hc hd (as-long (room .mean) em);
+        covs = cov-call.ready x o pc pi (flatIn k a b c d) f hpc hpi hk ha hb hc hd;
+        means = mean-call.ready x o pm pc pi v (flatIn k a b c d) lm f (as-long (r .mean predMean) epm) hpc hpi (as-long (r .mean innovations) ev) hk ha hb hc hd (as-long (room .mean) em);
         cov-room = cov-call.own-room x o (as-long (room .cov) es);
       }
 
@@ -110,7 +106,7 @@ module _ (x : Model) (o : Offsets) (y : List Float) (w : CovParts) (w′ : MeanP
   means-looked : meanLooks (x .n) (x .p) (x .m) (b′ predMean) (b′ innovations) ≡ map meanLookOf (meanOf x o (covOf x (map classOf y) .0) y .0)
   means-looked = mean-looked.means-looked x o (map classOf y) y (length-map y classOf ∙ readings) readings start (mean-laid predMean) (mean-laid innovations)
 
-  pub smoothed : {sm₀ sm sc₀ sc : List Float} → Back (x .p) (x .m) (x .n) (a .«d_diffuse») (x .zOnce) (x .zList) (x .t) (b′ predMean) (b .part predCov) (b .part predInf) (b′ innovations) flat sm₀ sm sc₀ sc → Smoothed x o y sm₀ sm sc₀ sc
+  pub smoothed : {sm₀ sm sc₀ sc : List Float} → Back (x .p) (x .m) (x .n) (a .«d_diffuse») (x .zOnce) (x .zList) (x .tOnce) (x .tList) (b′ predMean) (b .part predCov) (b .part predInf) (b′ innovations) flat sm₀ sm sc₀ sc → Smoothed x o y sm₀ sm sc₀ sc
   smoothed {sm₀} {sm} {sc₀} {sc} k =
       record {
         mean = rw (mean-call.run-of x o (covOf x (map classOf y) .0) (meanOf x o (covOf x (map classOf y) .0) y .0) (a .«d_diffuse») (b′ predMean) (b .part predCov) (b .part predInf) (b′ innovations) flat looked means-looked) at (k .mean .is);

@@ -12,7 +12,8 @@ pub fn smooth_univariate<'a>(
     zs: &'a [f64],
     repeats: bool,
     h: &[f64],
-    t: &[f64],
+    t: &'a [f64],
+    ts: &'a [f64],
     rr: &[f64],
     q: &[f64],
     c: &[f64],
@@ -37,7 +38,7 @@ pub fn smooth_univariate<'a>(
 ) -> promise::Outcome
     ensures { λ o. ⌜ Smoothed
         (given p m r n
-        (now (z .entry)) (now (zs .entry)) repeats (now (h .entry)) (now (t .entry)) (now (rr .entry)) (now (q .entry))
+        (now (z .entry)) (now (zs .entry)) repeats (now (h .entry)) (now (t .entry)) (now (ts .entry)) (now (rr .entry)) (now (q .entry))
         (now (c .entry)) (now (d .entry)) (now (a1 .entry)) (now («p_star» .entry)) (now (flags .entry)) (now (y .entry)))
         (lentSmooth
         (now («pred_mean» .entry)) (now («pred_cov» .entry)) (now («pred_inf» .entry))
@@ -83,6 +84,7 @@ pub fn smooth_univariate<'a>(
         repeats,
         h,
         t,
+        ts,
         rr,
         q,
         c,
@@ -108,6 +110,7 @@ pub fn smooth_univariate<'a>(
         repeats,
         h,
         t,
+        ts,
         rr,
         q,
         &rqr,
@@ -139,6 +142,7 @@ pub fn smooth_univariate<'a>(
                 z,
                 zs,
                 t,
+                ts,
                 pred_mean,
                 pred_cov,
                 pred_inf,

@@ -16,7 +16,6 @@ use Rattle.definition.specs.Stretch.{From, pastIn, carriedIn, badFrom, stretchR
 use Rattle.laws.specs.Accepted.{InRange, InputsFit, inputs-fit, lengths-pass, Roomy}
 use Rattle.laws.specs.AcceptedStretch.{passes, sizes-pass}
 use Rattle.laws.specs.SavedBack.{loaded}
-use Rattle.laws.specs.Sizes.{square-le}
 use Rattle.laws.specs.Later.{laterFrom}
 use Rattle.dense.specs.Views.{mat}
 use Rattle.model.specs.Lengths.{roomsOf, rooms-are}
@@ -31,15 +30,14 @@ use Rattle.promise.specs.declared.Answer.{Answer}
 use Rattle.promise.specs.declared.Outcome.{Outcome}
 use Rattle.promise.specs.declared.Outcome.the-variants.{Refused}
 use Rattle.promise.specs.Calls.{answerBy, PromiseStretch}
+use Rattle.model.specs.Lists.{Whole, whole-list}
+use Rattle.stretch_checks.proofs.Passed.{state-fits, Few}
+use Rattle.stretch_checks.proofs.Passed as checks
 use Rattle.stretch.specs.Begun.{Starts, begunOf}
 use Rattle.stretch.proofs.Entered as entered
 use Rattle.stretch.proofs.Stands as stands
-use Rattle.stretch.proofs.Stands.{withList, laterOf}
-use Rattle.stretch.proofs.Passed.{room-to-save, some-design, may-begin}
-
--- a state of 264 numbers has room for every m
-pub state-fits : {m size : ℕ} → m ≤ 8 → size ≡ 264 → m + m * m + m * m + m * m + m * m ≤ size
-state-fits {m} h e = omega (arith, square-le m h)
+use Rattle.stretch.proofs.Stands.{withLists, laterOf}
+use Rattle.stretch.proofs.Passed.{room-to-save, both-given, may-begin}
 
 module _ (x : Model) (o : Offsets) (y : List Float) (begins : Bool) (saved : List ℕ) (last : Bool) (w : CovParts) (w′ : MeanParts) (save : List ℕ) where
   abbrev from : From
@@ -51,7 +49,7 @@ module _ (x : Model) (o : Offsets) (y : List Float) (begins : Bool) (saved : Lis
 
   checked : {k : ℕ} → Checked k → k ≡ stands.number x o y from last w w′ save
   unfolding roomyStretch badFrom
-  checked e = e ∙ ap (λ (d : ℕ). stretchRefusal x o (length y) (anyOf isInfinity (map classOf y)) (roomsOf x w w′ && (last || leb (savedNeed (x .m)) (length save))) (badFrom x from) d) (entered.done-is x begins saved) ∙ ap (λ (u : Bool). stretchRefusal x o (length y) (anyOf isInfinity (map classOf y)) (u && (last || leb (savedNeed (x .m)) (length save))) (badFrom x from) (pastIn x from .done)) (sym (rooms-are x w w′))
+  checked e = e ∙ ap (λ (d : ℕ). stretchRefusal x o (length y) (anyOf isInfinity (map classOf y)) (roomsOf x w w′ && (last || leb (savedNeed (x .m)) (length save))) (badFrom x from) d) (checks.done-is x begins saved) ∙ ap (λ (u : Bool). stretchRefusal x o (length y) (anyOf isInfinity (map classOf y)) (u && (last || leb (savedNeed (x .m)) (length save))) (badFrom x from) (pastIn x from .done)) (sym (rooms-are x w w′))
 
   pub refused : {k : ℕ} → 0 < k → Checked k → PromiseStretch (stretchOutcome x o from last y w w′ save) (Refused k) w w′ save
   refused {k} h e = stands.refused x o y from last w w′ save k h (checked e)
@@ -83,7 +81,7 @@ module _ (x : Model) (o : Offsets) (y : List Float) (begins : Bool) (saved : Lis
         let i = inputs .0 in
         let s = sizes in (
           record { m0 = s .m0; m8 = s .m8; mean = i .a1; star = i .pStar; flagged = i .flags; room = state-fits (s .m8) e },
-          λ b. (entered.long-enough x begins saved good b, loads (omega arith) b),
+          λ b. (checks.long-enough x begins saved good b, loads (omega arith) b),
         )
 
     -- where the run stands: t, over the state s
@@ -91,8 +89,8 @@ module _ (x : Model) (o : Offsets) (y : List Float) (begins : Bool) (saved : Lis
       stood : carriedOf (x .m) s t ≡ carriedIn x o from
       stood = here ∙ entered.stands x o begins saved
 
-      few : entered.Few (carriedOf (x .m) s t .past) (x .n)
-      few = subst (λ (c : Carried). entered.Few (c .past) (x .n)) (sym stood) (entered.few x begins saved sizes good)
+      few : Few (carriedOf (x .m) s t .past) (x .n)
+      few = subst (λ (c : Carried). Few (c .past) (x .n)) (sym stood) (checks.few x begins saved sizes good)
 
       pub early : t .done + x .n ≤ 4096
       early = few .early
@@ -100,22 +98,32 @@ module _ (x : Model) (o : Offsets) (y : List Float) (begins : Bool) (saved : Lis
       fits : StateFits (x .m) (length s)
       fits = record { m8 = sizes .m8; whole = λ some. state-fits (sizes .m8) long }
 
-      pub may-run : {rqr : List Float} → (k ≡ 0 → mat (x .m) rqr ≡ noise x) → (left : List Float) → left ≡ drop (min (t .done) (length (x .zList) / (x .p * x .m) - 1) * (x .p * x .m)) (x .zList)
-          → FitOn (withList x left) o (length y) rqr w w′ (length s) (t .done) (t .answer)
+      -- of the lists there is a later part
+      pub later-designs : (x .p ≤ 8) × (x .m ≤ 8) × (t .done ≤ 4096) × ((length (x .zList) ≡ 0 → ⊥) → Whole (x .p * x .m) (length (x .zList)))
+      later-designs = (sizes .p8, sizes .m8, omega (arith, few .early), whole-list (inputs .0 .design))
+
+      pub later-steps : (x .m ≤ 8) × (x .m ≤ 8) × (t .done ≤ 4096) × ((length (x .tList) ≡ 0 → ⊥) → Whole (x .m * x .m) (length (x .tList)))
+      later-steps = (sizes .m8, sizes .m8, omega (arith, few .early), whole-list (inputs .0 .transition))
+
+      abbrev Later : ℕ → List Float → List Float → Type 0
+      Later i list left = left ≡ drop (min (t .done) (length list / i - 1) * i) list
+
+      pub may-run : {rqr : List Float} → (k ≡ 0 → mat (x .m) rqr ≡ noise x) → (zs ts : List Float) → Later (x .p * x .m) (x .zList) zs → Later (x .m * x .m) (x .tList) ts
+          → FitOn (withLists x zs ts) o (length y) rqr w w′ (length s) (t .done) (t .answer)
       unfolding laterFrom
-      may-run q left e =
-          rw e
+      may-run q zs ts e f =
+          rw (e, f)
           (may-begin {x = x} {o = o} {y = length y} {w = w} {w′ = w′} sizes (inputs .0) (inputs .1) (room .0) (t .done) (q (omega arith)) fits (omega (arith, few .early)) (record { diffuse = few .diffuse; heard = few .heard; news = few .news }))
 
       pub may-keep : {size : ℕ} → size ≡ 264 → (x .m ≤ 8) × (last ≡ false → savedNeed (x .m) ≤ length save) × (x .m + x .m * x .m + x .m * x .m + x .m * x .m + x .m * x .m ≤ size)
       may-keep e = (sizes .m8, room .1, state-fits (sizes .m8) e)
 
-      pub told : (left : List Float) → left ≡ drop (min (t .done) (length (x .zList) / (x .p * x .m) - 1) * (x .p * x .m)) (x .zList)
+      pub told : (zs ts : List Float) → Later (x .p * x .m) (x .zList) zs → Later (x .m * x .m) (x .tList) ts
           → {e : Judged} {s′ : List Float} {b : CovParts} {b′ : MeanParts} {save′ : List ℕ} {r : Outcome}
-          → Went (withList x left) o y s (t .live) (t .done) (t .answer) last e s′ w b w′ b′
+          → Went (withLists x zs ts) o y s (t .live) (t .done) (t .answer) last e s′ w b w′ b′
           → save′ ≡ cond last save (lay (savedOf (x .p) (x .m) (x .r) (carriedOf (x .m) s′ (record { done = t .done + x .n; live = e .live; answer = e .answer }))) save)
           → r ≡ answerBy (numberOf (endingOf 0 (e .silent))) (e .answer)
           → PromiseStretch (stretchOutcome x o from last y w w′ save) r b b′ save′
       unfolding laterFrom
-      told left e ran kept said =
-          stands.told x o y from last w w′ save none (checked check) s t (λ z. omega arith) (some-design {x = x} {o = o} {y = length y} {w = w} {w′ = w′} sizes (inputs .0) (inputs .1) (room .0)) (inputs .0 .design) stood fits (rw e at ran) kept said
+      told zs ts e f ran kept said =
+          stands.told x o y from last w w′ save none (checked check) s t (λ z. omega arith) (both-given {x = x} {o = o} {y = length y} {w = w} {w′ = w′} sizes (inputs .0) (inputs .1) (room .0)) stood fits (rw (e, f) at ran) kept said

@@ -1,23 +1,19 @@
 -- Where the run stands: at its start, or where it was saved.
-use mathlib.Core.Path.{_≡_, refl, sym, ap, _∙_}
-use Prim.Native.Nat.{ℕ, _+_, _*_, _≤_, _<_}
-use native.Mathlib.Nat.{mul-le-mul}
+use mathlib.Core.Path.{_≡_, refl, ap, _∙_}
+use Prim.Native.Nat.{ℕ, _*_}
 use native.Mathlib.Omega.{arith}
-use mathlib.Core.Bool.{Bool, true, false, not, cond}
+use mathlib.Core.Bool.{Bool, true, false, cond}
 use mathlib.Core.List.{List, []}
 use lib.ListN.{length, take, drop}
-use lib.Dec.{eqb}
 use lib.Ieee.{Float}
 use borrow.Author.Tests.{ne-eqb}
 use Rattle.definition.specs.Num.{0ᶠ}
 use Rattle.definition.specs.Cov.{Cov}
 use Rattle.definition.specs.Inputs.{Model, Offsets, startFrom, startInf, startRoot, startOf}
-use Rattle.definition.specs.Carried.{Past, begunPast, begunMean}
-use Rattle.definition.specs.Saved.{savedNeed, badSaved, widths, numbersIn, doneIn, loadedPast}
-use Rattle.definition.specs.Stretch.{From, pastIn, meanIn, meanToldIn, carriedIn, badFrom}
+use Rattle.definition.specs.Carried.{begunPast, begunMean}
+use Rattle.definition.specs.Stretch.{From, pastIn, meanIn, meanToldIn, carriedIn}
 use Rattle.laws.specs.Lists.{length-tab}
-use Rattle.laws.specs.Accepted.{InRange}
-use Rattle.laws.specs.SavedBack.{loaded, not-bad}
+use Rattle.laws.specs.SavedBack.{loaded}
 use Rattle.carried.specs.State.{StateFits, covIn, covFrom, meanFrom, covKept, meanKept}
 use Rattle.carried.specs.Next.{Whole, some-next, cov-next, mean-next}
 use Rattle.saved.specs.Loaded.{carriedOf}
@@ -59,30 +55,3 @@ pub stands : (x : Model) (o : Offsets) (begins : Bool) (saved : List ℕ)
 unfolding pastIn meanIn meanToldIn begunPast begunMean startOf
 stands x o true saved = refl
 stands x o false saved = refl
-
--- the periods done before
-pub done-is : (x : Model) (begins : Bool) (saved : List ℕ) → cond begins 0 (doneIn (numbersIn (widths (x .m)) saved)) ≡ pastIn x (record { begins = begins; saved = saved }) .done
-unfolding pastIn begunPast loadedPast
-done-is x true saved = refl
-done-is x false saved = refl
-
--- past refusal 15: the bytes have their length, and the tallies are small
-pub long-enough : (x : Model) (begins : Bool) (saved : List ℕ) → badFrom x (record { begins = begins; saved = saved }) ≡ false → begins ≡ false → length saved ≡ savedNeed (x .m)
-unfolding badFrom
-long-enough x begins saved e h = not-bad (x .p) (x .m) (x .r) (x .n) saved (sym (ap (λ (b : Bool). cond b (not (eqb (length saved) 0)) (badSaved (x .p) (x .m) (x .r) (x .n) saved)) h) ∙ e) .long
-
-pub record Few (s : Past) (n : ℕ) : Type 0 where
-  pub early : s .done + n ≤ 4096
-  pub diffuse : s .counts .dDiffuse ≤ 4096
-  pub heard : s .counts .heard ≤ 65536
-  pub news : s .counts .news ≤ 65536
-
-pub few : (x : Model) (begins : Bool) (saved : List ℕ) → InRange (x .p) (x .m) (x .r) (x .n) → badFrom x (record { begins = begins; saved = saved }) ≡ false → Few (pastIn x (record { begins = begins; saved = saved })) (x .n)
-unfolding badFrom pastIn begunPast loadedPast
-few x true saved i e = record { early = omega (arith, i .n4096); diffuse = omega arith; heard = omega arith; news = omega arith }
-few x false saved i e =
-    let g = not-bad (x .p) (x .m) (x .r) (x .n) saved e in
-    let l = loaded (x .m) saved .past in
-    let d : l .done ≤ 4096 = omega (arith, g .sizes .early) in
-    let h : l .done * x .p ≤ 4096 * 8 = mul-le-mul d (i .p8) in
-    record { early = g .sizes .early; diffuse = omega (arith, g .tallies .dDiffuse); heard = omega (arith, g .tallies .heard); news = omega (arith, g .tallies .heard, g .tallies .news) }

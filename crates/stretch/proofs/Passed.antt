@@ -1,4 +1,4 @@
--- Past the refusals before the run, the run over the later part of the list may begin, from a state that fits.
+-- Past the refusals before the run, the run over the later parts of the lists may begin, from a state that fits.
 use mathlib.Core.Path.{_≡_}
 use Prim.Native.Nat.{ℕ, _*_, _≤_, _<_}
 use native.Mathlib.Nat.{mul-pos}
@@ -15,12 +15,12 @@ use Rattle.definition.specs.Saved.{savedNeed}
 use Rattle.definition.specs.Stretch.{roomyStretch}
 use Rattle.laws.specs.Any.{both-true}
 use Rattle.laws.specs.Accepted.{InRange, InputsFit, Roomy, room-of}
-use Rattle.laws.specs.Later.{later-designs}
+use Rattle.laws.specs.Later.{later-chosen}
 use Rattle.dense.specs.Views.{mat}
 use Rattle.promise.specs.declared.Answer.{Answer}
 use Rattle.carried.specs.State.{StateFits}
 use Rattle.forward.specs.View.{FitOn, Tallies}
-use Rattle.stretch.proofs.Stands.{laterOf}
+use Rattle.stretch.proofs.Stands.{laterOf, Given}
 
 -- ---- the room
 
@@ -38,8 +38,8 @@ room-to-save x last w w′ save e =
 -- ---- the run
 
 module _ {x : Model} {o : Offsets} {y : ℕ} {w : CovParts} {w′ : MeanParts} (sizes : InRange (x .p) (x .m) (x .r) (x .n)) (inputs : InputsFit x o) (readings : y ≡ x .n * x .p) (room : Roomy x w w′) where
-  pub some-design : 0 < x .p * x .m
-  some-design = mul-pos (sizes .p0) (sizes .m0)
+  pub both-given : Given x
+  both-given = record { pm = mul-pos (sizes .p0) (sizes .m0); mm = mul-pos (sizes .m0) (sizes .m0); designs = inputs .design; steps = inputs .transition }
 
   pub may-begin : (done : ℕ) {rqr : List Float} {size : ℕ} {before : Answer} → mat (x .m) rqr ≡ noise x → StateFits (x .m) size → done ≤ 4096 → Tallies before → FitOn (laterOf x done) o y rqr w w′ size done before
   unfolding noise kindsNeed covNeed meanNeed
@@ -48,9 +48,9 @@ module _ {x : Model} {o : Offsets} {y : ℕ} {w : CovParts} {w′ : MeanParts} (
         sizes = sizes;
         inputs =
             record {
-              design = later-designs (x .p * x .m) done (x .zOnce) (x .zList) some-design (inputs .design);
+              design = later-chosen (x .p * x .m) done (x .zOnce) (x .zList) (both-given .pm) (inputs .design);
               h = inputs .h;
-              t = inputs .t;
+              transition = later-chosen (x .m * x .m) done (x .tOnce) (x .tList) (both-given .mm) (inputs .transition);
               rr = inputs .rr;
               q = inputs .q;
               c = inputs .c;

@@ -1,5 +1,5 @@
--- A stretch past its checks, from where the run stands: what the passes did over the later part of the list, from the carried state, is what the definition
--- says of the whole list, and the state that they leave is the definition's.
+-- A stretch past its checks, from where the run stands: what the passes did over the later parts of the lists, from the carried state, is what the
+-- definition says of the whole lists, and the state that they leave is the definition's.
 use mathlib.Core.Path.{_≡_, refl, sym, ap, ap₂, _∙_}
 use Prim.Native.Nat.{ℕ, zero, suc, _+_, _-_, _*_, _/_, _≤_, _<_, min}
 use native.Mathlib.Omega.{arith}
@@ -20,7 +20,7 @@ use Rattle.definition.specs.Carried.{Past, Carried, plus, pastOn, meanOffOn, we
 use Rattle.definition.specs.Carried as carried
 use Rattle.definition.specs.Saved.{savedOf}
 use Rattle.definition.specs.Stretch.{From, StretchOutcome, carriedIn, pastIn, meanIn, badFrom, stretchRefusal, stretchEnding, roomyStretch, covStretch, meanStretch, saveStretch, stretchOutcome}
-use Rattle.laws.specs.Accepted.{Designs}
+use Rattle.laws.specs.Accepted.{Chosen}
 use Rattle.promise.specs.declared.Answer.{Answer}
 use Rattle.promise.specs.declared.Outcome.{Outcome}
 use Rattle.promise.specs.declared.Outcome.the-variants.{Refused, Answered}
@@ -35,9 +35,9 @@ use Rattle.saved.specs.Loaded.{pastOf, carriedOf}
 use Rattle.laws.specs.Later.{laterFrom, cov-later, mean-later}
 use Rattle.laws.specs.Long.{Long, covs-long, mean-long}
 
--- the model with another list of designs, and with the later part of its own
-abbrev pub withList : Model → List Float → Model
-withList x zs =
+-- the model with other lists of designs and of transitions, and with the later parts of its own
+abbrev pub withLists : Model → List Float → List Float → Model
+withLists x zs ts =
     record {
       p = x .p;
       m = x .m;
@@ -47,7 +47,8 @@ withList x zs =
       zList = zs;
       repeats = x .repeats;
       h = x .h;
-      t = x .t;
+      tOnce = x .tOnce;
+      tList = ts;
       rr = x .rr;
       q = x .q;
       flags = x .flags;
@@ -55,7 +56,14 @@ withList x zs =
     }
 
 abbrev pub laterOf : Model → ℕ → Model
-laterOf x done = withList x (laterFrom (x .p * x .m) done (x .zList))
+laterOf x done = withLists x (laterFrom (x .p * x .m) done (x .zList)) (laterFrom (x .m * x .m) done (x .tList))
+
+-- designs and transitions have numbers, and each is given once or as a list
+pub record Given (x : Model) : Type 0 where
+  pub pm : 0 < x .p * x .m
+  pub mm : 0 < x .m * x .m
+  pub designs : Chosen (x .p * x .m) (length (x .zOnce)) (length (x .zList))
+  pub steps : Chosen (x .m * x .m) (length (x .tOnce)) (length (x .tList))
 
 module _ (x : Model) (o : Offsets) (y : List Float) where
   abbrev classes : List Class
@@ -68,7 +76,7 @@ module _ (x : Model) (o : Offsets) (y : List Float) where
       record { cov = covStretch x f (c .past) classes w; mean = meanStretch x f o c y w′; save = saveStretch x f o c last y save }
 
   -- s and t: the state lent and where the run stands
-  module _ (s : List Float) (t : Tallies) (some : length s ≡ 0 → ⊥) (positive : 0 < x .p * x .m) (designs : Designs (x .p * x .m) (length (x .zOnce)) (length (x .zList))) where
+  module _ (s : List Float) (t : Tallies) (some : length s ≡ 0 → ⊥) (given : Given x) where
     abbrev here : Carried
     here = carriedOf (x .m) s t
 
@@ -77,11 +85,11 @@ module _ (x : Model) (o : Offsets) (y : List Float) where
 
     cov-here : covOn later s (t .live) classes ≡ carried.covFrom x (here .past) classes
     unfolding covOn covFrom carried.covFrom systemOf noise
-    cov-here = rw (ne-eqb _ _ some) (sym (cov-later (x .p) (x .m) (t .done) (x .zOnce) (x .zList) positive (x .h) (x .t) (noise x) (here .past .cov) (gapRows (x .n) (x .p) classes) designs))
+    cov-here = rw (ne-eqb _ _ some) (sym (cov-later (x .p) (x .m) (t .done) (x .zOnce) (x .zList) (x .tOnce) (x .tList) (given .pm) (given .mm) (given .designs) (given .steps) (x .h) (noise x) (here .past .cov) (gapRows (x .n) (x .p) classes)))
 
     mean-from : (cs : List CovPeriod) → meanOn later o s (t .answer .loglik) cs y ≡ carried.meanFrom x o (t .done) (here .mean) cs y
     unfolding meanOn meanFrom carried.meanFrom frameOf
-    mean-from cs = rw (ne-eqb _ _ some) (sym (mean-later (x .p) (x .m) (t .done) (x .zOnce) (x .zList) positive (x .t) (record { c = o .c; d = o .d }) (here .mean) (pairs (decisionsOf cs) (chunks (x .n) (x .p) y)) designs))
+    mean-from cs = rw (ne-eqb _ _ some) (sym (mean-later (x .p) (x .m) (t .done) (x .zOnce) (x .zList) (x .tOnce) (x .tList) (given .pm) (given .mm) (given .designs) (given .steps) (record { c = o .c; d = o .d }) (here .mean) (pairs (decisionsOf cs) (chunks (x .n) (x .p) y))))
 
     mean-here : meanOn later o s (t .answer .loglik) (covOn later s (t .live) classes .0) y ≡ carried.meanOn x o here y
     unfolding carried.meanOn
@@ -220,7 +228,7 @@ module _ (x : Model) (o : Offsets) (y : List Float) (from : From) (last : Bool) 
       (record { filter = record { answer = refl; kinds = refl; cov = λ q. refl; mean = λ q. refl }; save = refl })
 
   pub told : {k : ℕ} → k ≤ 0 → k ≡ number
-      → (s : List Float) (t : Tallies) (some : length s ≡ 0 → ⊥) (positive : 0 < x .p * x .m) (designs : Designs (x .p * x .m) (length (x .zOnce)) (length (x .zList)))
+      → (s : List Float) (t : Tallies) (some : length s ≡ 0 → ⊥) (given : Given x)
       → carriedOf (x .m) s t ≡ carriedIn x o from
       → StateFits (x .m) (length s)
       → {e : Judged} {s′ : List Float} {b : CovParts} {b′ : MeanParts} {save′ : List ℕ} {r : Outcome}
@@ -228,9 +236,9 @@ module _ (x : Model) (o : Offsets) (y : List Float) (from : From) (last : Bool) 
       → save′ ≡ cond last save (lay (savedOf (x .p) (x .m) (x .r) (carriedOf (x .m) s′ (record { done = t .done + x .n; live = e .live; answer = e .answer }))) save)
       → r ≡ answerBy (numberOf (endingOf 0 (e .silent))) (e .answer)
       → PromiseStretch (stretchOutcome x o from last y w w′ save) r b b′ save′
-  told {k} none check s t some positive designs stands fits {e} {save′ = save′} ran kept said =
+  told {k} none check s t some given stands fits {e} {save′ = save′} ran kept said =
       let zero-is : 0 ≡ number = omega arith in
       let c = carriedOf (x .m) s t in
       let f : stretchEnding x o (c .past) (badFrom x from) last (map classOf y) (roomyStretch x last w w′ save) ≡ endingOf 0 (e .silent) =
-      by-number 0 zero-is (c .past) (ap (λ (c : Carried). c .past .done) stands) ∙ ap (endingOf 0) (sym (silent-here x o y s t some positive designs ran)) in
-      rw (said, by-ending c (endingOf 0 (e .silent)) stands f) (ended x o y s t some positive designs ran fits save save′ kept)
+      by-number 0 zero-is (c .past) (ap (λ (c : Carried). c .past .done) stands) ∙ ap (endingOf 0) (sym (silent-here x o y s t some given ran)) in
+      rw (said, by-ending c (endingOf 0 (e .silent)) stands f) (ended x o y s t some given ran fits save save′ kept)

@@ -91,7 +91,7 @@ fn wanted(w: Wanted) {
     match w {
         Wanted::Line => io::write_all(
             ERRORS,
-            b"a check, '-', or one of period, noise, radio, wander-offset, wander-rate, rate-keeps, start-offset, start-rate",
+            b"a check, '-', or one of period, noise, radio, wander-offset, wander-rate, rate-keeps, season, start-offset, start-rate",
         ),
         Wanted::Seconds => io::write_all(
             ERRORS,
@@ -109,6 +109,10 @@ fn wanted(w: Wanted) {
         Wanted::Thousandths => io::write_all(
             ERRORS,
             b"the thousandths of its rate that the clock keeps, a whole number from 1 to 999999999999999",
+        ),
+        Wanted::SeasonStart => io::write_all(
+            ERRORS,
+            b"the season's first period, a whole number from 2 to 4096",
         ),
         Wanted::LineEnd => io::write_all(ERRORS, b"the end of the line"),
         Wanted::Check => io::write_all(

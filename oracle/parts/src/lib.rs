@@ -1,6 +1,6 @@
 //! The parts of a call: what is lent, what is answered, the sizes and
-//! lengths, refusals 1 to 10 of document 01, 14 of document 02, and a saved
-//! run's bytes.
+//! lengths, refusals 1 to 10 of document 01, the reach of lists (2 and 14 of
+//! document 02), and a saved run's bytes.
 
 mod refusals;
 mod saved;
@@ -8,13 +8,13 @@ mod saved;
 pub use refusals::{
     bad_dimension, bad_length, bad_start_shape, first_refusal, infinite_reading, list_short,
     mixed_driven, non_diagonal_h, non_finite_start, non_finite_system, not_psd, q_not_diagonal,
-    stretch_refusal,
+    stretch_refusal, transitions_short,
 };
 pub use saved::{decode, encode, saved_len, section_counts, Carried, SAVED_NAN};
 
 /// Largest p, m and r.
 pub const MAX_SIZE: usize = 8;
-/// Largest n, and largest count of listed designs.
+/// Largest n, and largest count of listed designs and of listed transitions.
 pub const MAX_PERIODS: usize = 4096;
 
 /// What a caller hands in. Matrices are row by row.
@@ -32,7 +32,10 @@ pub struct Inputs<'a> {
     /// request d): any byte but 0. Void for a constant design.
     pub repeats: u8,
     pub h: &'a [f64],
+    /// The constant transition, or empty.
     pub t: &'a [f64],
+    /// The listed transitions (document 02, request g), or empty.
+    pub ts: &'a [f64],
     pub rr: &'a [f64],
     pub q: &'a [f64],
     pub c: &'a [f64],

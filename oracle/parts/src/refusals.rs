@@ -1,7 +1,8 @@
-//! Refusals 1 to 10 of document 01 and 14 of document 02, each as a test of
-//! its own, and the first that applies. Refusal 11 needs R·Q·R' and stands
-//! with the call; 12 is judged after the run; 14 of a stretch, which counts
-//! from the run's first period, after the saved bytes.
+//! Refusals 1 to 10 of document 01 and the reach of document 02's lists (2
+//! for transitions, 14 for designs), each as a test of its own, and the first
+//! that applies. Refusal 11 needs R·Q·R' and stands with the call; 12 is
+//! judged after the run; a list's reach in a stretch, which counts from the
+//! run's first period, after the saved bytes.
 
 use crate::{needed, saved_len, Inputs, MAX_PERIODS, MAX_SIZE};
 
@@ -15,18 +16,24 @@ pub fn bad_dimension(i: &Inputs<'_>) -> bool {
     some_size_outside(i) || !(1..=MAX_PERIODS).contains(&i.n)
 }
 
-/// 2: a lent part has the wrong length, or the Z rule is broken. `lent` are
-/// the lengths of the output parts: eleven in the filter's call, thirteen in
-/// the smoother's.
+/// Whether a matrix of `size` numbers is given once, or as a list of 1 to
+/// 4096: exactly one of the two.
+fn once_or_listed(once: &[f64], list: &[f64], size: usize) -> bool {
+    if list.is_empty() {
+        once.len() == size
+    } else {
+        once.is_empty() && list.len() % size == 0 && list.len() / size <= MAX_PERIODS
+    }
+}
+
+/// 2: a lent part has the wrong length, or the rule of Z or of T is broken.
+/// `lent` are the lengths of the output parts: eleven in the filter's call,
+/// thirteen in the smoother's.
 pub fn bad_length(i: &Inputs<'_>, lent: &[usize]) -> bool {
     let (p, m, r, n) = (i.p, i.m, i.r, i.n);
-    let z_ok = if i.zs.is_empty() {
-        i.z.len() == p * m
-    } else {
-        i.z.is_empty() && i.zs.len() % (p * m) == 0 && i.zs.len() / (p * m) <= MAX_PERIODS
-    };
-    let inputs_ok = i.h.len() == p * p
-        && i.t.len() == m * m
+    let inputs_ok = once_or_listed(i.z, i.zs, p * m)
+        && once_or_listed(i.t, i.ts, m * m)
+        && i.h.len() == p * p
         && i.rr.len() == m * r
         && i.q.len() == r * r
         && i.c.len() == m
@@ -36,22 +43,34 @@ pub fn bad_length(i: &Inputs<'_>, lent: &[usize]) -> bool {
         && i.flags.len() == m
         && i.y.len() == n * p;
     let outputs_ok = lent.iter().zip(needed(p, m, n)).all(|(&l, k)| l >= k);
-    !(z_ok && inputs_ok && outputs_ok)
+    !(inputs_ok && outputs_ok)
 }
 
-/// 14: a list is given, unmarked, and it holds fewer designs than the run has
-/// periods. Sizes and lengths must be right.
+/// Whether a list is given, and it holds fewer matrices of `size` numbers
+/// than the run has periods.
+fn falls_short(list: &[f64], size: usize, periods: usize) -> bool {
+    !list.is_empty() && list.len() / size < periods
+}
+
+/// 2, as a test of its own: the listed transitions do not reach the run's
+/// last period. The marker is for designs alone. Sizes and lengths must be
+/// right, here and in the next one.
+pub fn transitions_short(i: &Inputs<'_>, periods: usize) -> bool {
+    falls_short(i.ts, i.m * i.m, periods)
+}
+
+/// 14: the listed designs do not, unmarked.
 pub fn list_short(i: &Inputs<'_>, periods: usize) -> bool {
-    !i.zs.is_empty() && i.repeats == 0 && i.zs.len() / (i.p * i.m) < periods
+    i.repeats == 0 && falls_short(i.zs, i.p * i.m, periods)
 }
 
 fn some_non_finite(x: &[f64]) -> bool {
     x.iter().any(|v| !v.is_finite())
 }
 
-/// 3: Z (each listed one), H, T, R or Q has NaN or an infinity.
+/// 3: Z, T (each listed one), H, R or Q has NaN or an infinity.
 pub fn non_finite_system(i: &Inputs<'_>) -> bool {
-    [i.z, i.zs, i.h, i.t, i.rr, i.q]
+    [i.z, i.zs, i.h, i.t, i.ts, i.rr, i.q]
         .iter()
         .any(|x| some_non_finite(x))
 }
@@ -102,18 +121,19 @@ pub fn infinite_reading(i: &Inputs<'_>) -> bool {
     i.y.iter().any(|v| v.is_infinite())
 }
 
-/// 10: T at (unflagged, flagged) is not 0.
+/// 10: T, of a list its first, at (unflagged, flagged) is not 0.
 pub fn mixed_driven(i: &Inputs<'_>) -> bool {
     let m = i.m;
-    (0..m).any(|a| (0..m).any(|b| i.flags[a] == 0 && i.flags[b] != 0 && i.t[a * m + b] != 0.0))
+    let first = if i.ts.is_empty() { i.t } else { i.ts };
+    (0..m).any(|a| (0..m).any(|b| i.flags[a] == 0 && i.flags[b] != 0 && first[a * m + b] != 0.0))
 }
 
-/// The first of refusals 1, 2, 14 and 3 to 10 that applies.
+/// The first of refusals 1, 2, T's reach, 14 and 3 to 10 that applies.
 pub fn first_refusal(i: &Inputs<'_>, lent: &[usize]) -> Option<u32> {
     if bad_dimension(i) {
         return Some(1);
     }
-    if bad_length(i, lent) {
+    if bad_length(i, lent) || transitions_short(i, i.n) {
         return Some(2);
     }
     if list_short(i, i.n) {

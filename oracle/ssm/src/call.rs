@@ -1,23 +1,29 @@
 //! The whole call of document 01: refusals in order, the run, the outputs
 //! row by row into their lent parts, the answer. And a stretch's, document
 //! 02's request e. The answer's two reports are request h's, refusal 14 is
-//! request d's.
+//! request d's, lists of T are request g's.
 
 use parts::{
-    decode, encode, first_refusal, list_short, stretch_refusal, Answer, Carried, Inputs, Outcome,
-    Outputs, Smoothed, Stretch,
+    decode, encode, first_refusal, list_short, stretch_refusal, transitions_short, Answer, Carried,
+    Inputs, Outcome, Outputs, Smoothed, Stretch,
 };
 use tsecon_linalg::faer::Mat;
 
 use crate::between::Between;
 use crate::error::SsmError;
 use crate::filter::{filter_stretch, filter_univariate, FilterOutput};
-use crate::model::{Initialization, LinearGaussianSSM};
+use crate::model::{Initialization, LinearGaussianSSM, SystemMatrix};
 use crate::smoother::{smooth_univariate, SmootherOutput};
 
 /// A matrix from its rows.
 fn from_rows(rows: usize, cols: usize, x: &[f64]) -> Mat<f64> {
     Mat::from_fn(rows, cols, |i, j| x[i * cols + j])
+}
+
+/// The matrices of a list.
+fn listed(rows: usize, cols: usize, x: &[f64]) -> Vec<Mat<f64>> {
+    let each = x.chunks(rows * cols);
+    each.map(|one| from_rows(rows, cols, one)).collect()
 }
 
 /// A matrix row by row into its part.
@@ -37,10 +43,15 @@ pub fn model_of(i: &Inputs<'_>) -> Result<LinearGaussianSSM, SsmError> {
     let b = if i.zs.is_empty() {
         b.z(from_rows(p, m, i.z))
     } else {
-        b.z_varying(i.zs.chunks(p * m).map(|z| from_rows(p, m, z)).collect())
+        b.z_varying(listed(p, m, i.zs))
+    };
+    let t = if i.ts.is_empty() {
+        SystemMatrix::Constant(from_rows(m, m, i.t))
+    } else {
+        SystemMatrix::Varying(listed(m, m, i.ts))
     };
     b.h(from_rows(p, p, i.h))
-        .t(from_rows(m, m, i.t))
+        .t(t)
         .r(from_rows(m, r, i.rr))
         .q(from_rows(r, r, i.q))
         .state_intercept(i.c.to_vec())
@@ -58,8 +69,8 @@ pub fn readings_of(i: &Inputs<'_>) -> Mat<f64> {
     from_rows(i.n, i.p, i.y)
 }
 
-/// Refusals 1 to 11 in order, with 14 where it is due, all but 11 judged
-/// already; then the model.
+/// Refusals 1 to 11 in order, with the lists' reach where it is due, all but
+/// 11 judged already; then the model.
 fn checked(i: &Inputs<'_>, refusal: Option<u32>) -> Result<LinearGaussianSSM, u32> {
     if let Some(k) = refusal {
         return Err(k);
@@ -227,7 +238,10 @@ pub fn stretch_call(
     let (done, cov_told, mean_told) = from
         .as_ref()
         .map_or((0, 0, 0), |c| (c.done, c.cov_off, c.mean_off));
-    // The list counts from the run's first period.
+    // Lists count from the run's first period.
+    if transitions_short(i, done + i.n) {
+        return Err(2);
+    }
     if list_short(i, done + i.n) {
         return Err(14);
     }

@@ -320,7 +320,7 @@ pub struct SsmBuilder {
     z: Option<Mat<f64>>,
     z_varying: Option<Vec<Mat<f64>>>,
     h: Option<Mat<f64>>,
-    t: Option<Mat<f64>>,
+    t: Option<SystemMatrix>,
     r: Option<Mat<f64>>,
     q: Option<Mat<f64>>,
     state_intercept: Option<Vec<f64>>,
@@ -350,7 +350,7 @@ impl SsmBuilder {
     }
 
     /// Sets the transition matrix `T` (`m x m`).
-    pub fn t(mut self, t: Mat<f64>) -> Self {
+    pub fn t(mut self, t: SystemMatrix) -> Self {
         self.t = Some(t);
         self
     }
@@ -441,11 +441,17 @@ impl SsmBuilder {
         let q = self.q.ok_or(SsmError::MissingMatrix { what: "Q" })?;
 
         check_shape(&h, p, p, "H must be p x p")?;
-        check_shape(&t, m, m, "T must be m x m")?;
+        let ts = match &t {
+            SystemMatrix::Constant(one) => std::slice::from_ref(one),
+            SystemMatrix::Varying(list) => list,
+        };
+        for tt in ts {
+            check_shape(tt, m, m, "T must be m x m")?;
+            check_finite(tt, "T")?;
+        }
         check_shape(&r, m, r_dim, "R must be m x r")?;
         check_shape(&q, r_dim, r_dim, "Q must be r x r")?;
         check_finite(&h, "H")?;
-        check_finite(&t, "T")?;
         check_finite(&r, "R")?;
         check_finite(&q, "Q")?;
 
@@ -541,7 +547,7 @@ impl SsmBuilder {
             r_dim,
             z,
             h: SystemMatrix::Constant(h),
-            t: SystemMatrix::Constant(t),
+            t,
             r: SystemMatrix::Constant(r),
             q: SystemMatrix::Constant(q),
             state_intercept,

@@ -5,7 +5,7 @@ use Rattle.replay.proofs.words.from.Statement.{statement}
 use Rattle.replay.proofs.words.from.Tie as tie
 
 abbrev Inv-loop : tie.InvT-loop
-Inv-loop case j at₀ i₀ at i = (i ≤ j) × (at ≤ 53 + 4097 * i)
+Inv-loop case j at₀ i₀ at i = (i ≤ j) × (at ≤ 54 + 4097 * i)
 
 abbrev μ-loop : tie.MeasureT-loop
 μ-loop case j at₀ i₀ at i = j - i

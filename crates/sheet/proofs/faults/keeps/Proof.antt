@@ -1,4 +1,4 @@
--- By the second word.
+-- By the first of the two words.
 use mathlib.Core.Path.{sym, _∙_}
 use borrow.Author.Needs.{needs}
 use Rattle.sheet.specs.Faults.{keepsFault}
@@ -7,11 +7,11 @@ use Rattle.sheet.proofs.faults.keeps.Tie as tie
 
 returns : tie.Need-returns
 unfolding keepsFault
-returns c = simp (c .end .ensures, sym (c .before .before .is-kept .ensures) ∙ c .before .if1 .taken)
+returns c = simp (c .end .ensures, sym (c .before .before .is-within .ensures) ∙ c .before .if1 .taken)
 
 returns-2 : tie.Need-returns-2
 unfolding keepsFault
-returns-2 c = simp (c .wrong .ensures, sym (c .before .before .is-kept .ensures) ∙ c .before .if1 .left)
+returns-2 c = simp (c .wrong .ensures, sym (c .before .before .is-within .ensures) ∙ c .before .if1 .left)
 
 pub keeps-spec : {M : Type 1} → statement M
-keeps-spec = tie.close (tie.spec (λ c κs. search needs) (λ c κs. search needs) returns (λ c κs. search needs) returns-2)
+keeps-spec = tie.close (tie.spec (λ c κs. search needs) (λ c. search needs) (λ c κs. search needs) returns (λ c κs. search needs) returns-2)

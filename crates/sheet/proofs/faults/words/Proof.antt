@@ -23,7 +23,11 @@ returns-4 c = simp (c .start .ensures, lt-ltb _ _ (c .before .if4 .taken), le-lt
 
 returns-5 : tie.Need-returns-5
 unfolding wordsFault
-returns-5 c = simp (c .keeps .ensures, le-ltb _ _ (c .before .if4 .left), le-ltb _ _ (c .before .before .if3 .left), ne-eqb _ _ (c .before .before .before .if2 .left), ne-eqb _ _ (c .before .before .before .before .if1 .left))
+returns-5 c = simp (c .keeps .ensures, eq-eqb _ _ (c .before .if5 .taken), le-ltb _ _ (c .before .before .if4 .left), le-ltb _ _ (c .before .before .before .if3 .left), ne-eqb _ _ (c .before .before .before .before .if2 .left), ne-eqb _ _ (c .before .before .before .before .before .if1 .left))
+
+returns-6 : tie.Need-returns-6
+unfolding wordsFault
+returns-6 c = simp (c .season .ensures, ne-eqb _ _ (c .before .if5 .left), le-ltb _ _ (c .before .before .if4 .left), le-ltb _ _ (c .before .before .before .if3 .left), ne-eqb _ _ (c .before .before .before .before .if2 .left), ne-eqb _ _ (c .before .before .before .before .before .if1 .left))
 
 pub words-spec : {M : Type 1} → statement M
-words-spec = tie.close (tie.spec (λ c κs. search needs) returns (λ c κs. search needs) returns-2 (λ c κs. search needs) returns-3 (λ c κs. search needs) returns-4 (λ c κs. search needs) returns-5)
+words-spec = tie.close (tie.spec (λ c κs. search needs) returns (λ c κs. search needs) returns-2 (λ c κs. search needs) returns-3 (λ c κs. search needs) returns-4 (λ c κs. search needs) returns-5 (λ c κs. search needs) returns-6)

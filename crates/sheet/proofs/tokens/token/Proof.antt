@@ -10,9 +10,9 @@ use Rattle.sheet.proofs.Laws.{token-by}
 use Rattle.sheet.proofs.tokens.token.Statement.{statement}
 use Rattle.sheet.proofs.tokens.token.Tie as tie
 
-by-sign : (minus : Bool) (n : ℕ) (w : List ℕ) {b : Bool} → minus ≡ b → word (cond b 12 11) n ≡ tokenBy (Whole minus n) w
+by-sign : (minus : Bool) (n : ℕ) (w : List ℕ) {b : Bool} → minus ≡ b → word (cond b 13 12) n ≡ tokenBy (Whole minus n) w
 unfolding tokenBy
-by-sign minus n w e = ap (λ (m : Bool). word (cond m 12 11) n) (sym e)
+by-sign minus n w e = ap (λ (m : Bool). word (cond m 13 12) n) (sym e)
 
 returns : tie.Need-returns
 returns c =
