@@ -1,10 +1,10 @@
 -- The call's steps: what each may rely on, and what they come to.
 use mathlib.Core.Path.{_≡_, sym, ap, ap₂, subst, _∙_}
-use Prim.Native.Nat.{ℕ, _+_, _-_, _*_, _/_, _≤_, _<_, min}
+use Prim.Native.Nat.{ℕ, _+_, _*_, _≤_, _<_}
 use native.Mathlib.Omega.{arith}
 use mathlib.Core.Bool.{Bool, true, false, _&&_, _||_, not, cond}
 use mathlib.Core.List.{List, map}
-use lib.ListN.{length, drop}
+use lib.ListN.{length}
 use lib.Dec.{eqb, leb}
 use lib.Ieee.{Float}
 use Rattle.definition.specs.Run.{anyOf, lay}
@@ -16,7 +16,6 @@ use Rattle.definition.specs.Stretch.{From, pastIn, carriedIn, badFrom, stretchR
 use Rattle.laws.specs.Accepted.{InRange, InputsFit, inputs-fit, lengths-pass, Roomy}
 use Rattle.laws.specs.AcceptedStretch.{passes, sizes-pass}
 use Rattle.laws.specs.SavedBack.{loaded}
-use Rattle.laws.specs.Later.{laterFrom}
 use Rattle.dense.specs.Views.{mat}
 use Rattle.model.specs.Lengths.{roomsOf, rooms-are}
 use Rattle.carried.specs.State.{StateFits}
@@ -30,13 +29,12 @@ use Rattle.promise.specs.declared.Answer.{Answer}
 use Rattle.promise.specs.declared.Outcome.{Outcome}
 use Rattle.promise.specs.declared.Outcome.the-variants.{Refused}
 use Rattle.promise.specs.Calls.{answerBy, PromiseStretch}
-use Rattle.model.specs.Lists.{Whole, whole-list}
+use Rattle.onward.specs.Later.{laterOf}
 use Rattle.stretch_checks.proofs.Passed.{state-fits, Few}
 use Rattle.stretch_checks.proofs.Passed as checks
 use Rattle.stretch.specs.Begun.{Starts, begunOf}
 use Rattle.stretch.proofs.Entered as entered
 use Rattle.stretch.proofs.Stands as stands
-use Rattle.stretch.proofs.Stands.{withLists, laterOf}
 use Rattle.stretch.proofs.Passed.{room-to-save, both-given, may-begin}
 
 module _ (x : Model) (o : Offsets) (y : List Float) (begins : Bool) (saved : List ℕ) (last : Bool) (w : CovParts) (w′ : MeanParts) (save : List ℕ) where
@@ -44,7 +42,7 @@ module _ (x : Model) (o : Offsets) (y : List Float) (begins : Bool) (saved : Lis
   from = record { begins = begins; saved = saved }
 
   -- what `refusal` says of the lengths and the bytes is the definition's number
-  abbrev Checked : ℕ → Type 0
+  abbrev pub Checked : ℕ → Type 0
   Checked k = k ≡ stretchRefusal x o (length y) (anyOf isInfinity (map classOf y)) (roomsOf x w w′ && (last || leb (savedNeed (x .m)) (length save))) (cond begins (not (eqb (length saved) 0)) (badSaved (x .p) (x .m) (x .r) (x .n) saved)) (cond begins 0 (doneIn (numbersIn (widths (x .m)) saved)))
 
   checked : {k : ℕ} → Checked k → k ≡ stands.number x o y from last w w′ save
@@ -98,32 +96,17 @@ module _ (x : Model) (o : Offsets) (y : List Float) (begins : Bool) (saved : Lis
       fits : StateFits (x .m) (length s)
       fits = record { m8 = sizes .m8; whole = λ some. state-fits (sizes .m8) long }
 
-      -- of the lists there is a later part
-      pub later-designs : (x .p ≤ 8) × (x .m ≤ 8) × (t .done ≤ 4096) × ((length (x .zList) ≡ 0 → ⊥) → Whole (x .p * x .m) (length (x .zList)))
-      later-designs = (sizes .p8, sizes .m8, omega (arith, few .early), whole-list (inputs .0 .design))
-
-      pub later-steps : (x .m ≤ 8) × (x .m ≤ 8) × (t .done ≤ 4096) × ((length (x .tList) ≡ 0 → ⊥) → Whole (x .m * x .m) (length (x .tList)))
-      later-steps = (sizes .m8, sizes .m8, omega (arith, few .early), whole-list (inputs .0 .transition))
-
-      abbrev Later : ℕ → List Float → List Float → Type 0
-      Later i list left = left ≡ drop (min (t .done) (length list / i - 1) * i) list
-
-      pub may-run : {rqr : List Float} → (k ≡ 0 → mat (x .m) rqr ≡ noise x) → (zs ts : List Float) → Later (x .p * x .m) (x .zList) zs → Later (x .m * x .m) (x .tList) ts
-          → FitOn (withLists x zs ts) o (length y) rqr w w′ (length s) (t .done) (t .answer)
-      unfolding laterFrom
-      may-run q zs ts e f =
-          rw (e, f)
-          (may-begin {x = x} {o = o} {y = length y} {w = w} {w′ = w′} sizes (inputs .0) (inputs .1) (room .0) (t .done) (q (omega arith)) fits (omega (arith, few .early)) (record { diffuse = few .diffuse; heard = few .heard; news = few .news }))
+      pub may-run : {rqr : List Float} → (k ≡ 0 → mat (x .m) rqr ≡ noise x) → FitOn x o (length y) rqr w w′ (length s) (t .done) (t .answer)
+      may-run q =
+          may-begin {x = x} {o = o} {y = length y} {w = w} {w′ = w′} sizes (inputs .0) (inputs .1) (room .0) (t .done) (q (omega arith)) fits (omega (arith, few .early)) (record { diffuse = few .diffuse; heard = few .heard; news = few .news })
 
       pub may-keep : {size : ℕ} → size ≡ 264 → (x .m ≤ 8) × (last ≡ false → savedNeed (x .m) ≤ length save) × (x .m + x .m * x .m + x .m * x .m + x .m * x .m + x .m * x .m ≤ size)
       may-keep e = (sizes .m8, room .1, state-fits (sizes .m8) e)
 
-      pub told : (zs ts : List Float) → Later (x .p * x .m) (x .zList) zs → Later (x .m * x .m) (x .tList) ts
-          → {e : Judged} {s′ : List Float} {b : CovParts} {b′ : MeanParts} {save′ : List ℕ} {r : Outcome}
-          → Went (withLists x zs ts) o y s (t .live) (t .done) (t .answer) last e s′ w b w′ b′
+      pub told : {e : Judged} {s′ : List Float} {b : CovParts} {b′ : MeanParts} {save′ : List ℕ} {r : Outcome}
+          → Went (laterOf x (t .done)) o y s (t .live) (t .done) (t .answer) last e s′ w b w′ b′
           → save′ ≡ cond last save (lay (savedOf (x .p) (x .m) (x .r) (carriedOf (x .m) s′ (record { done = t .done + x .n; live = e .live; answer = e .answer }))) save)
           → r ≡ answerBy (numberOf (endingOf 0 (e .silent))) (e .answer)
           → PromiseStretch (stretchOutcome x o from last y w w′ save) r b b′ save′
-      unfolding laterFrom
-      told zs ts e f ran kept said =
-          stands.told x o y from last w w′ save none (checked check) s t (λ z. omega arith) (both-given {x = x} {o = o} {y = length y} {w = w} {w′ = w′} sizes (inputs .0) (inputs .1) (room .0)) stood fits (rw (e, f) at ran) kept said
+      told ran kept said =
+          stands.told x o y from last w w′ save none (checked check) s t (λ z. omega arith) (both-given {x = x} {o = o} {y = length y} {w = w} {w′ = w′} sizes (inputs .0) (inputs .1) (room .0)) stood fits ran kept said

@@ -1,4 +1,4 @@
--- Past the refusals before the run, the run over the later parts of the lists may begin, from a state that fits.
+-- Past the refusals before the run, the run may begin, from a state that fits.
 use mathlib.Core.Path.{_≡_}
 use Prim.Native.Nat.{ℕ, _*_, _≤_, _<_}
 use native.Mathlib.Nat.{mul-pos}
@@ -10,17 +10,16 @@ use lib.Dec.{leb}
 use lib.Ieee.{Float}
 use borrow.Author.Tests.{leb-true}
 use Rattle.definition.specs.Inputs.{Model, Offsets, noise}
-use Rattle.definition.specs.Outcome.{CovParts, MeanParts, roomy, kindsNeed, covNeed, meanNeed}
+use Rattle.definition.specs.Outcome.{CovParts, MeanParts, roomy}
 use Rattle.definition.specs.Saved.{savedNeed}
 use Rattle.definition.specs.Stretch.{roomyStretch}
 use Rattle.laws.specs.Any.{both-true}
 use Rattle.laws.specs.Accepted.{InRange, InputsFit, Roomy, room-of}
-use Rattle.laws.specs.Later.{later-chosen}
 use Rattle.dense.specs.Views.{mat}
 use Rattle.promise.specs.declared.Answer.{Answer}
 use Rattle.carried.specs.State.{StateFits}
 use Rattle.forward.specs.View.{FitOn, Tallies}
-use Rattle.stretch.proofs.Stands.{laterOf, Given}
+use Rattle.stretch.proofs.Stands.{Given}
 
 -- ---- the room
 
@@ -41,28 +40,5 @@ module _ {x : Model} {o : Offsets} {y : ℕ} {w : CovParts} {w′ : MeanParts} (
   pub both-given : Given x
   both-given = record { pm = mul-pos (sizes .p0) (sizes .m0); mm = mul-pos (sizes .m0) (sizes .m0); designs = inputs .design; steps = inputs .transition }
 
-  pub may-begin : (done : ℕ) {rqr : List Float} {size : ℕ} {before : Answer} → mat (x .m) rqr ≡ noise x → StateFits (x .m) size → done ≤ 4096 → Tallies before → FitOn (laterOf x done) o y rqr w w′ size done before
-  unfolding noise kindsNeed covNeed meanNeed
-  may-begin done q s e t =
-      record {
-        sizes = sizes;
-        inputs =
-            record {
-              design = later-chosen (x .p * x .m) done (x .zOnce) (x .zList) (both-given .pm) (inputs .design);
-              h = inputs .h;
-              transition = later-chosen (x .m * x .m) done (x .tOnce) (x .tList) (both-given .mm) (inputs .transition);
-              rr = inputs .rr;
-              q = inputs .q;
-              c = inputs .c;
-              d = inputs .d;
-              a1 = inputs .a1;
-              pStar = inputs .pStar;
-              flags = inputs .flags;
-            };
-        readings = readings;
-        noise = q;
-        room = record { kinds = room .kinds; cov = room .cov; mean = room .mean };
-        state = s;
-        early = e;
-        tallies = t;
-      }
+  pub may-begin : (done : ℕ) {rqr : List Float} {size : ℕ} {before : Answer} → mat (x .m) rqr ≡ noise x → StateFits (x .m) size → done ≤ 4096 → Tallies before → FitOn x o y rqr w w′ size done before
+  may-begin done q s e t = record { sizes = sizes; inputs = inputs; readings = readings; noise = q; room = room; state = s; early = e; tallies = t }

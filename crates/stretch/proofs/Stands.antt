@@ -30,33 +30,11 @@ use Rattle.carried.specs.Next.{Whole, some-next, cov-next, mean-next}
 use Rattle.forward.specs.View.{onward, covOn, meanOn}
 use Rattle.judged.specs.declared.Judged.{Judged}
 use Rattle.judged.specs.Went.{Went, isSilent, tallyOf}
+use Rattle.onward.specs.Later.{laterOf}
 use Rattle.saved.specs.declared.Tallies.{Tallies}
 use Rattle.saved.specs.Loaded.{pastOf, carriedOf}
-use Rattle.laws.specs.Later.{laterFrom, cov-later, mean-later}
+use Rattle.laws.specs.Later.{cov-later, mean-later}
 use Rattle.laws.specs.Long.{Long, covs-long, mean-long}
-
--- the model with other lists of designs and of transitions, and with the later parts of its own
-abbrev pub withLists : Model → List Float → List Float → Model
-withLists x zs ts =
-    record {
-      p = x .p;
-      m = x .m;
-      r = x .r;
-      n = x .n;
-      zOnce = x .zOnce;
-      zList = zs;
-      repeats = x .repeats;
-      h = x .h;
-      tOnce = x .tOnce;
-      tList = ts;
-      rr = x .rr;
-      q = x .q;
-      flags = x .flags;
-      pStar = x .pStar;
-    }
-
-abbrev pub laterOf : Model → ℕ → Model
-laterOf x done = withLists x (laterFrom (x .p * x .m) done (x .zList)) (laterFrom (x .m * x .m) done (x .tList))
 
 -- designs and transitions have numbers, and each is given once or as a list
 pub record Given (x : Model) : Type 0 where

@@ -1,4 +1,4 @@
-// A stretch's call: the checks (crates/stretch_checks), where the run stands, the periods with refusal 12 (crates/judged), and the run saved
+// A stretch's call: the checks (crates/stretch_checks), where the run stands, the periods with refusal 12 (crates/onward), and the run saved
 // (crates/saved).
 ghost use mathlib.Core.Path.{_≡_};
 ghost use mathlib.Core.Bool.{false, cond};
@@ -185,19 +185,17 @@ pub fn stretch<'a>(
     }
     let stands = enter(begins, saved, a1, p_star, flags, m, &mut state);
     let before = stands.answer;
-    let designs = model::lists::later(zs, p, m, stands.done);
-    let steps = model::lists::later(ts, m, m, stands.done);
-    let e = judged::run(
+    let e = onward::run(
         p,
         m,
         r,
         n,
         z,
-        designs,
+        zs,
         repeats,
         h,
         t,
-        steps,
+        ts,
         rr,
         q,
         &rqr,
