@@ -1,8 +1,9 @@
 // Z and T of a period: each is given once, or as a list with an entry for each period.
 ghost use mathlib.Core.Path.{_≡_};
 ghost use Prim.Native.Nat.{_≤_, _-_, _*_, _/_, min};
-ghost use lib.ListN.{length, drop};
+ghost use lib.ListN.{length};
 ghost use Rattle.definition.specs.Inputs.{partFrom, transitionFrom};
+ghost use Rattle.laws.specs.Later.{laterFrom};
 ghost use Rattle.dense.specs.Views.{mat};
 ghost use Rattle.model.specs.Lists.{Whole, PartFits, Stands};
 
@@ -49,7 +50,7 @@ pub fn transition<'a>(tr: &mut [f64; 64], once: &'a [f64], list: &'a [f64], m: u
 // period takes. Of an empty list nothing is left.
 pub fn later<'a>(list: &'a [f64], p: usize, m: usize, done: usize) -> &'a [f64]
     requires { ⌜ (p ≤ 8) × (m ≤ 8) × (done ≤ 4096) × ((length (now list) ≡ 0 → ⊥) → Whole (p * m) (length (now list))) ⌝ }
-    ensures { λ r. ⌜ now r ≡ drop (min done (length (now (list .entry)) / (p * m) - 1) * (p * m)) (now (list .entry)) ⌝ }
+    ensures { λ r. ⌜ now r ≡ laterFrom (p * m) done (now (list .entry)) ⌝ }
 {
     if list.len() == 0 {
         return list;

@@ -1,19 +1,18 @@
 -- Made from Proof.tpl by tools/expand: edit that.
 -- The later parts, and the run over them.
-use Rattle.laws.specs.Later.{laterFrom}
+use native.Mathlib.Omega.{arith}
 use Rattle.onward.proofs.Fits as fits
 use Rattle.onward.proofs.run.Statement.{statement}
 use Rattle.onward.proofs.run.Tie as tie
 
 later-requires : tie.Need-later-requires
-later-requires c κs = fits.of-designs (c .before .before .before .before .before .before .before .before .before .before .before .before .before .before .before .before .before .before .before .before .before .before .before .before .before .pre)
+later-requires c κs = fits.of-designs (c .before .before .before .before .before .before .before .before .before .before .before .before .before .before .before .before .before .before .before .before .before .before .before .before .before .pre) (omega (arith, c .before .before .before .before .before .before .before .before .before .before .before .before .before .before .before .before .before .before .before .before .before .before .before .before .before .pre .early))
 
 later-requires-2 : tie.Need-later-requires-2
-later-requires-2 c κs = fits.of-steps (c .before .before .before .before .before .before .before .before .before .before .before .before .before .before .before .before .before .before .before .before .before .before .before .before .before .before .pre)
+later-requires-2 c κs = fits.of-steps (c .before .before .before .before .before .before .before .before .before .before .before .before .before .before .before .before .before .before .before .before .before .before .before .before .before .before .pre) (omega (arith, c .before .before .before .before .before .before .before .before .before .before .before .before .before .before .before .before .before .before .before .before .before .before .before .before .before .before .pre .early))
 
 run-requires : tie.Need-run-requires
-unfolding laterFrom
-run-requires c κs = rw (c .before .before .before .before .before .before .before .before .before .before .before .before .before .later .ensures, c .before .before .before .before .before .before .before .before .before .before .before .before .later2 .ensures) (fits.fit-later (c .before .before .before .before .before .before .before .before .before .before .before .before .before .before .before .before .before .before .before .before .before .before .before .before .before .before .before .before .before .before .before .before .before .before .before .before .before .before .before .pre))
+run-requires c κs = rw (c .before .before .before .before .before .before .before .before .before .before .before .before .before .later .ensures, c .before .before .before .before .before .before .before .before .before .before .before .before .later2 .ensures) (fits.fit-later (c .before .before .before .before .before .before .before .before .before .before .before .before .before .before .before .before .before .before .before .before .before .before .before .before .before .before .before .before .before .before .before .before .before .before .before .before .before .before .before .pre) _ _)
 
 same-length : tie.Need-same-length
 same-length c = c .before .before .before .before .before .before .before .before .before .before .before .before .before .before .before .before .before .before .before .before .before .before .before .before .run .kept .1 .1 .1 .1 .1 .1 .1 .1 .1 .1 .1 .1 .1 .1 .1 .1 .1 .1 .1 .0
@@ -52,7 +51,6 @@ same-length-12 : tie.Need-same-length-12
 same-length-12 c = c .before .before .before .before .before .before .before .before .before .before .before .before .before .before .before .before .before .before .before .before .before .before .before .before .run .kept .1 .1 .1 .1 .1 .1 .1 .1 .1 .1 .1 .1 .1 .1 .1 .1 .1 .1 .1 .1 .1 .1 .1 .1 .1 .1 .1 .1 .1 .1 .0
 
 returns : tie.Need-returns
-unfolding laterFrom
 returns c = rw (c .before .before .before .before .before .before .before .before .before .before .before .before .before .before .before .before .before .before .before .before .before .before .before .before .before .before .before .before .before .before .before .before .before .before .before .before .before .before .later .ensures, c .before .before .before .before .before .before .before .before .before .before .before .before .before .before .before .before .before .before .before .before .before .before .before .before .before .before .before .before .before .before .before .before .before .before .before .before .before .later2 .ensures) at (c .before .before .before .before .before .before .before .before .before .before .before .before .before .before .before .before .before .before .before .before .before .before .before .before .run .ensures)
 
 pub run-spec : {M : Type 1} → statement M

@@ -8,6 +8,7 @@ use mathlib.Core.List.{List, [], _∷_}
 use lib.ListN.{length, take, drop, length-drop}
 use lib.Seq.{take-all}
 use lib.Ieee.{Float}
+use Rattle.laws.specs.Later.{laterFrom}
 use Rattle.dense.proofs.Laws.{area}
 use Rattle.model.specs.Lists.{entry-of}
 use Rattle.model.proofs.lists.later.Statement.{statement}
@@ -26,6 +27,7 @@ rest : (a : ℕ) (list : List Float) → take (length list - a) (drop a list) �
 rest a list = take-all (length list - a) (drop a list) (simp length-drop (omega arith))
 
 returns : tie.Need-returns
+unfolding laterFrom
 returns c = let a = c .before .before .args in let k = a .p * a .m in none (min (a .done) (length (a .list .now) / k - 1) * k) _ (c .if1 .taken)
 
 mul-entry-from : tie.Need-mul-entry-from
@@ -44,6 +46,7 @@ part-result-start : tie.Need-part-result-start
 part-result-start c = within (c)
 
 returns-2 : tie.Need-returns-2
+unfolding laterFrom
 returns-2 c = rest (c .before .entry-from .result) (c .before .before .before .before .args .list .now) ∙ ap (λ (i : ℕ). drop i (c .before .before .before .before .args .list .now)) (c .before .entry-from .ensures)
 
 pub later-spec : {M : Type 1} → statement M
