@@ -56,12 +56,25 @@ static int settled(const double *inf)
     return !(sum > 1e-10);
 }
 
+/* What became of a reading, in a word. The last three are no news: nothing moved, and the kind says why. */
+static const char *word(uint8_t kind)
+{
+    switch (kind) {
+    case GOXUNDAR_GAP: return "";
+    case GOXUNDAR_USUAL: return "news";
+    case GOXUNDAR_DIFFUSE: return "first news";
+    case GOXUNDAR_TOO_SMALL: return "adds nothing";
+    case GOXUNDAR_BELOW_DUST: return "only rounding";
+    default: return "doubtful"; /* GOXUNDAR_FAILED_REPLAY */
+    }
+}
+
 static void print_reading(double x, uint8_t kind)
 {
-    if (isnan(x))
-        printf("  %6s %-7s", "-", "");
+    if (kind == GOXUNDAR_GAP)
+        printf("  %6s %-13s", "-", word(kind));
     else
-        printf("  %6.1f %-7s", x, kind == GOXUNDAR_SKIPPED ? "no news" : "news");
+        printf("  %6.1f %-13s", x, word(kind));
 }
 
 int main(void)
@@ -111,7 +124,7 @@ int main(void)
         return 1;
     }
 
-    printf("period  input 0         input 1           offset so far      rate so far          offset, in hindsight\n");
+    printf("period  input 0               input 1               offset so far      rate so far          offset, in hindsight\n");
     for (int t = 0; t < N; t++) {
         const double *mean = filt_mean + t * M, *cov = filt_cov + t * M * M;
         printf("%6d", t);

@@ -78,7 +78,7 @@
  *     pred_inf   (n+1) * m * m  its diffuse covariance, the unbounded part: all 0 once the readings have settled all states
  *     filt_mean  n * m          the states' mean after period t's readings
  *     filt_cov   n * m * m      its covariance, the bounded part
- *     kinds      n * p          what became of each reading: see goxundar_kind
+ *     kinds      n * p          what became of each reading, a byte of 0 to 5: see goxundar_kind. One that was skipped is told by its cause
  *     v          n * p          the reading less what was expected of it; +0.0 where it was skipped
  *     f_star     n * p          the variance of that, the bounded part; +0.0 where it was skipped
  *     f_inf      n * p          the unbounded part; +0.0 but where the kind is GOXUNDAR_DIFFUSE
@@ -96,15 +96,38 @@
  *     loglik     the log-likelihood: how well the model fits the readings. Higher is better, for the same readings
  *     d_diffuse  how many periods began with some state not settled; they are the first ones
  *     heard      how many readings are not gaps
- *     news       how many readings were used (their kind is not GOXUNDAR_SKIPPED)
+ *     news       how many readings were used (their kind is GOXUNDAR_USUAL or GOXUNDAR_DIFFUSE)
  *     cov_off    the first period in which a covariance ran off, plus 1; 0 for none. See NUMBERS THAT RAN OFF
  *     mean_off   the first period in which a mean ran off, plus 1; 0 for none
  *
- * A reading can be heard and be no news: it tells only what is known already, as when one radio check arrives on two inputs. It moves nothing.
+ * A reading can be heard and be no news: it tells only what is known already, as when one radio check arrives on two inputs. It moves nothing, and
+ * its kind says why: see WHY A READING WAS SKIPPED.
  *
  * The values of readings reach no covariance, kind, variance or count, nor cov_off. Only which of them are gaps does. Nor do a1, c and d reach any of
  * these, or refusal 12: what they can bring about is refusal 2, 6 or 7. So accuracy tables can be drawn up before there is any reading, and before it
  * is known where the states will start: with 0 for each reading that will come, NaN for each gap, and zeros for a1, c and d.
+ *
+ * WHY A READING WAS SKIPPED
+ *
+ * Every place of kinds has one of six numbers. Two are of readings that were used; the other four tell why one was not. Counted, the six come to n * p.
+ *
+ *     GOXUNDAR_GAP            there was none: y has a NaN
+ *     GOXUNDAR_TOO_SMALL      it adds nothing: what it would read was known beforehand. Its variance is 0, or at most 1e-10 of its scale, which is
+ *                             what the variance would be if no two of its terms cancelled. So it goes with one check that comes on two inputs
+ *                             without noise. Or the scale overflows; then the model may be mistyped
+ *     GOXUNDAR_BELOW_DUST     only rounding is left of it: readings used before it in this period told the rest. Its variance is at most 1e-14 of
+ *                             what it could be at the period's begin
+ *     GOXUNDAR_FAILED_REPLAY  doubtful: such readings left at most 1e-6 of its variance. So the period was worked out a second time, by square
+ *                             roots, which keep more digits, and by these at most 1e-14 of it is left
+ *
+ * These are tests, made one after the other, and the first that a reading fails is told. So one that fails the scale's is told as too small, though it
+ * be below the dust line too. In a period that begins with some state not settled they look at the bounded part of the variance, and the last one is
+ * not made: a reading that only it could fail is used. A gap is not tested. Where a call returns 12, every place says gap.
+ *
+ * For a service desk: a gap is a check that did not come. Too small, or only rounding, is as a rule a check that came twice, and as it should be.
+ * Doubtful is a check that nearly came twice: the noise of its input may be set too low.
+ *
+ * In an answered call a skipped reading could as well be a gap: heard would be less by one, its own kind GOXUNDAR_GAP, and nothing else other.
  *
  * NUMBERS THAT RAN OFF
  *
@@ -121,7 +144,7 @@
  * The reports go by what these five parts hold, and by nothing else. So they do not tell of
  *  - a NaN in the diffuse covariance: it ends the diffuse start, and zeros are written in its place;
  *  - a call that is refused: where numbers overflow so early that no reading is news, that is refusal 12;
- *  - a reading that is skipped because a number in its test overflows, while the covariance stays finite;
+ *  - a reading that is skipped because its scale overflows, while the covariance stays finite: its kind is GOXUNDAR_TOO_SMALL;
  *  - the smoothed parts, v, f_star, f_inf, m_star, m_inf and loglik.
  *
  * A RUN IN STRETCHES
@@ -164,15 +187,18 @@
  *
  * AN OLDER HEADER DOES NOT LINK
  *
- * When the parameters of the calls change, so does the interface's number, GOXUNDAR_INTERFACE. The library's symbols end in it: goxundar_filter is
- * goxundar_filter_4 there. Write the plain names: macros of this header put the number behind them, also where you take an address. An object that
- * was compiled against another interface asks for symbols that are not there, and the linker says so. Without the number it would link, and hand over
- * other parameters: the library would take counts for pointers, and write there. Compile it again with this header.
+ * When the parameters of the calls change, or what is written means something else, so does the interface's number, GOXUNDAR_INTERFACE. The library's
+ * symbols end in it: goxundar_filter is goxundar_filter_5 there. Write the plain names: macros of this header put the number behind them, also where
+ * you take an address. An object that was compiled against another interface asks for symbols that are not there, and the linker says so. Without the
+ * number it would link, and hand over other parameters: the library would take counts for pointers, and write there. Or it would read the outputs
+ * wrongly. Compile it again with this header.
  *
  *     1   its symbols had no number, and its answers four places
  *     2   cov_off and mean_off, last in every call
  *     3   repeats, right after zs, in every call
  *     4   ts, right after t, in every call
+ *     5   no parameter changed. Kinds 3 to 5 are new: before, all that was skipped had kind 0, so that an older object would take 3 to 5 for news. The
+ *         name GOXUNDAR_SKIPPED, of kind 0, is gone: source that has it does not compile, and is to say which causes it means
  *
  * From another language, or by dlsym, ask for the name with the number.
  */
@@ -187,10 +213,10 @@ extern "C" {
 #endif
 
 /* The interface's number, and the calls' symbols, which end in it: an object of another interface must not link. */
-#define GOXUNDAR_INTERFACE 4
-#define goxundar_filter goxundar_filter_4
-#define goxundar_smooth goxundar_smooth_4
-#define goxundar_stretch goxundar_stretch_4
+#define GOXUNDAR_INTERFACE 5
+#define goxundar_filter goxundar_filter_5
+#define goxundar_smooth goxundar_smooth_5
+#define goxundar_stretch goxundar_stretch_5
 
 /* The largest p, m and r; the largest n, and count of listed designs or transitions. */
 #define GOXUNDAR_MAX_SIZE 8
@@ -209,7 +235,7 @@ extern "C" {
 
 /* What a call returns: 0, or the first refusal that applies, in this order. 15 is given by goxundar_stretch alone. There a list's reach is judged
  * right after it, since it goes by the periods done, first that of ts: 1, 2, 3 to 11, 15, 2 for a short ts, 14, 12.
- * 1 to 11, 14 and 15 write nothing. 12 sets the needed count of every output to 0 (+0.0, and kind 0), and leaves what is beyond it. */
+ * 1 to 11, 14 and 15 write nothing. 12 sets the needed count of every output to 0 (+0.0, and GOXUNDAR_GAP), and leaves what is beyond it. */
 enum goxundar_refusal {
     GOXUNDAR_ANSWERED = 0,
     GOXUNDAR_DIMENSION = 1,         /* p, m or r is not 1 to 8, or n is not 1 to 4096 (goxundar_stretch: 0 to 4096) */
@@ -234,11 +260,14 @@ enum goxundar_refusal {
     GOXUNDAR_NO_INFORMATION = 12    /* there are readings, and none of them is news (goxundar_stretch: judged in the last stretch alone) */
 };
 
-/* What became of a reading. */
+/* What became of a reading. Where it was not used, nothing moved, its numbers are +0.0, and the kind is the cause: the first test that it failed. */
 enum goxundar_kind {
-    GOXUNDAR_SKIPPED = 0, /* a gap, or no news: nothing moved */
-    GOXUNDAR_USUAL = 1,   /* used; v and f_star are its numbers */
-    GOXUNDAR_DIFFUSE = 2  /* used, and it settled something of which nothing was known; v, f_star and f_inf are its numbers */
+    GOXUNDAR_GAP = 0,          /* there was no reading */
+    GOXUNDAR_USUAL = 1,        /* used; v and f_star are its numbers */
+    GOXUNDAR_DIFFUSE = 2,      /* used, and it settled something of which nothing was known; v, f_star and f_inf are its numbers */
+    GOXUNDAR_TOO_SMALL = 3,    /* no news, it adds nothing: its variance is too small against its scale */
+    GOXUNDAR_BELOW_DUST = 4,   /* no news, only rounding: its variance is below the dust line */
+    GOXUNDAR_FAILED_REPLAY = 5 /* no news, doubtful: its variance failed when the period was replayed */
 };
 
 /* The filter. */

@@ -1,6 +1,7 @@
 /* older.c: a program as it was compiled against the header of an older interface; INTERFACE says which. It declares the calls as that header did, by
  * their symbols. It must compile, and must not link: bindings/c/run sees to both, of every number below today's. If it did link, the library would
- * take each parameter behind zs or t for another, and write to wherever the stack happens to point.
+ * take each parameter behind zs or t for another, and write to wherever the stack happens to point; or, of interface 4, the program would take kinds
+ * 3 to 5, of readings that were skipped, for news.
  */
 #include <stddef.h>
 #include <stdint.h>
@@ -25,6 +26,10 @@
 #elif INTERFACE == 3 /* no ts */
 #define SYMBOL(name) name##_3
 #define GIVEN SIZES, IN, IN, uint8_t, BEHIND_ZS
+#define PLACES SIX_PLACES
+#elif INTERFACE == 4 /* kinds 0 to 2 alone */
+#define SYMBOL(name) name##_4
+#define GIVEN SIZES, IN, IN, uint8_t, IN, BEHIND_ZS
 #define PLACES SIX_PLACES
 #else
 #error "say here what this interface declared"

@@ -1,11 +1,12 @@
 /* test.c: the calls through goxundar.h, against document 01: its bench figures, each part in its place, the refusals, lengths, empty parts; lists of
- * designs and of transitions; numbers that ran off; and runs in stretches, against the uncut ones and against document 02's bytes.
+ * designs and of transitions; why readings were skipped; numbers that ran off; and runs in stretches, against the uncut ones and against document 02's
+ * bytes.
  *
  * Every expected value is 01's or 02's, or follows from one of their rules as a comment says. None was taken from the program. Doubles are compared
  * by their bits, all NaNs as one. Each call is made three times, by goxundar_filter, by goxundar_smooth and by goxundar_stretch over the whole run:
  * the others answer and write all that the filter does. Each call with a constant transition is made once more with a list of copies of it, one for
- * each period, and must end the same. What lies beyond the needed count of an output must stay as it was, in every call; and every answer's reports
- * are held against the numbers that the call has written. It is C99, and C++ too.
+ * each period, and must end the same. What lies beyond the needed count of an output must stay as it was, in every call; every answer's reports are
+ * held against the numbers that the call has written; and its kinds against the readings and the counts. It is C99, and C++ too.
  */
 #include <math.h>
 #include <stdio.h>
@@ -354,6 +355,46 @@ static void reports(int which, const struct call *k)
     }
 }
 
+static int all_plus_zero(const double *at, size_t n)
+{
+    size_t i;
+    for (i = 0; i < n; i++)
+        if (at[i] != 0 || signbit(at[i])) return 0;
+    return 1;
+}
+
+/* The records, by the readings: the six kinds come to n * p, a gap stands exactly where the reading is NaN, heard and news are what the kinds come to
+ * since the run began, and the numbers that a kind does not use are +0.0. A saved run has heard and news in its last section, second and third. */
+static void records(int which, const struct call *k)
+{
+    size_t m = k->m, places = k->n * k->p, of[6] = {0}, heard = 0, news = 0, i;
+    int gaps = 1, zeros = 1;
+    if (which == STRETCH && !stretch.begins) {
+        heard = (size_t)number_in(stretch.saved + GOXUNDAR_SAVED_LEN(m) - 40);
+        news = (size_t)number_in(stretch.saved + GOXUNDAR_SAVED_LEN(m) - 32);
+    }
+    for (i = 0; i < places; i++) {
+        int usual = kinds[i] == GOXUNDAR_USUAL, diffuse = kinds[i] == GOXUNDAR_DIFFUSE;
+        if (kinds[i] < 6) of[kinds[i]]++;
+        if ((kinds[i] == GOXUNDAR_GAP) != (isnan(k->y[i]) != 0)) gaps = 0;
+        if (!usual && !diffuse && !(all_plus_zero(v + i, 1) && all_plus_zero(f_star + i, 1) && all_plus_zero(m_star + i * m, m))) zeros = 0;
+        if (!diffuse && !(all_plus_zero(f_inf + i, 1) && all_plus_zero(m_inf + i * m, m))) zeros = 0;
+    }
+    count(of[GOXUNDAR_GAP] + of[GOXUNDAR_USUAL] + of[GOXUNDAR_DIFFUSE] + of[GOXUNDAR_TOO_SMALL] + of[GOXUNDAR_BELOW_DUST] + of[GOXUNDAR_FAILED_REPLAY],
+          places, "the six kinds together");
+    check(gaps, "a gap where the reading is NaN, and nowhere else");
+    count(answer.heard, heard + places - of[GOXUNDAR_GAP], "heard by the kinds");
+    count(answer.news, news + of[GOXUNDAR_USUAL] + of[GOXUNDAR_DIFFUSE], "news by the kinds");
+    check(zeros, "+0.0 for what a record does not use");
+}
+
+/* Refusal 12: every record is a gap, whatever the readings are. */
+static void blanked(const struct call *k)
+{
+    size_t i;
+    for (i = 0; i < k->n * k->p; i++) count(kinds[i], GOXUNDAR_GAP, "a record of refusal 12");
+}
+
 /* The constant transition as a list: a copy of it for each period of the run, the ones before a stretch too. 0 where there is none to copy. */
 static int copied(struct call *to, int which, const struct call *k)
 {
@@ -417,6 +458,8 @@ static void ends(int which, const struct call *k, uint32_t want)
     if (has_copies) check(left_now() == by_copies, "what is left, with copies of the transition");
     kept(which, k, refusal);
     if (refusal == GOXUNDAR_ANSWERED) reports(which, k);
+    if (refusal == GOXUNDAR_ANSWERED) records(which, k);
+    if (refusal == GOXUNDAR_NO_INFORMATION) blanked(k);
 }
 
 static void record(size_t at, uint8_t kind, double want_v, double want_f_star, double want_f_inf)
@@ -513,7 +556,7 @@ static void d_to_g(int which)
     one_reading(&k, NAN);
     ends(which, &k, GOXUNDAR_ANSWERED);
     same(answer.loglik, 0, "log-likelihood");
-    record(0, GOXUNDAR_SKIPPED, 0, 0, 0);
+    record(0, GOXUNDAR_GAP, 0, 0, 0);
     gain(0, 0, 0);
     same(filt_mean[0], 0, "filtered mean");
     same(filt_cov[0], 0, "filtered covariance");
@@ -550,7 +593,7 @@ static void h_to_l(int which)
     figure = "H";
     two_inputs(&k, 2, 7);
     ends(which, &k, GOXUNDAR_ANSWERED);
-    record(1, GOXUNDAR_SKIPPED, 0, 0, 0);
+    record(1, GOXUNDAR_TOO_SMALL, 0, 0, 0); /* its variance is 0, and so is its scale */
     same(filt_mean[0], 2, "filtered mean");
     same(filt_cov[0], 0, "filtered covariance");
     count(answer.heard, 2, "heard");
@@ -586,7 +629,7 @@ static void dust(int which)
         int power;
         uint8_t second;
     } rows[] = {
-        {"H = 2^-10, clear", -10, GOXUNDAR_USUAL}, {"H = 2^-40, suspect", -40, GOXUNDAR_USUAL}, {"H = 2^-50, below", -50, GOXUNDAR_SKIPPED}};
+        {"H = 2^-10, clear", -10, GOXUNDAR_USUAL}, {"H = 2^-40, suspect", -40, GOXUNDAR_USUAL}, {"H = 2^-50, below", -50, GOXUNDAR_BELOW_DUST}};
     size_t i, j;
     for (i = 0; i < sizeof rows / sizeof *rows; i++)
         for (j = 0; j < sizeof readings / sizeof *readings; j++) {
@@ -599,7 +642,7 @@ static void dust(int which)
             count(kinds[0], GOXUNDAR_USUAL, "the first element's kind");
             count(kinds[1], rows[i].second, "the second element's kind");
             count(answer.heard, 2, "heard");
-            count(answer.news, rows[i].second == GOXUNDAR_SKIPPED ? 1 : 2, "news");
+            count(answer.news, rows[i].second == GOXUNDAR_USUAL ? 2 : 1, "news");
         }
 }
 
@@ -664,7 +707,7 @@ static void places(int which)
     fill(k.p_star, p_star, 4);
     fill(k.y, y, 2);
     ends(which, &k, GOXUNDAR_ANSWERED);
-    record(0, GOXUNDAR_SKIPPED, 0, 0, 0);
+    record(0, GOXUNDAR_GAP, 0, 0, 0);
     record(1, GOXUNDAR_USUAL, 4, 8, 0);
     all_same(pred_mean, want_pred_mean, 4, "pred_mean");
     all_same(pred_cov, want_pred_cov, 8, "pred_cov");
@@ -1198,6 +1241,154 @@ static void nulls(int which)
     for (lists = 0; lists < 4; lists++) null_lists(lists & 1, lists >> 1);
 }
 
+/* ---- why a reading was skipped */
+
+/* m states that stay as they are, p inputs, one period; nothing moves them. */
+static void still(struct call *k, size_t p, size_t m)
+{
+    size_t i;
+    memset(k, 0, sizeof *k);
+    k->p = p;
+    k->m = m;
+    k->r = k->n = 1;
+    exact(k);
+    for (i = 0; i < m; i++) k->t[i * m + i] = 1;
+    for (i = 0; i < p; i++) k->y[i] = 1 + (double)i;
+}
+
+static double double_of(uint64_t bits)
+{
+    double x;
+    memcpy(&x, &bits, sizeof x);
+    return x;
+}
+
+/* The kinds of two inputs. Of a second one that was skipped another finite reading moves nothing, and a gap moves heard, by one, and its own kind. */
+static void kinds_are(int which, struct call *k, uint8_t first, uint8_t second)
+{
+    uint64_t left;
+    ends(which, k, GOXUNDAR_ANSWERED);
+    count(kinds[0], first, "input 0's kind");
+    count(kinds[1], second, "input 1's kind");
+    if (second == GOXUNDAR_USUAL || second == GOXUNDAR_DIFFUSE) return;
+    left = left_now();
+    k->y[1] = -1e300;
+    ends(which, k, GOXUNDAR_ANSWERED);
+    check(left_now() == left, "another number for a reading that is no news");
+    k->y[1] = NAN;
+    ends(which, k, GOXUNDAR_ANSWERED);
+    count(kinds[1], GOXUNDAR_GAP, "the kind of a gap");
+    kinds[1] = second;
+    answer.heard++;
+    check(left_now() == left, "a gap for a reading that is no news");
+}
+
+/* By 01's tests, in their order, each number worked out by hand. Input 0 is usual: by it state 0 is pinned, and P* is 0 there. */
+static void causes(int which)
+{
+    static const double pinned[] = {1, 0, 0, 1, 1, 1};
+    static struct call k;
+    figure = "too small and below too"; /* F* = 0, against its scale, 0, and the reference, 1: told by the first */
+    still(&k, 2, 1);
+    k.z[0] = k.z[1] = k.p_star[0] = 1;
+    kinds_are(which, &k, GOXUNDAR_USUAL, GOXUNDAR_TOO_SMALL);
+
+    figure = "too small, though not below"; /* what input 1 sees cancels: F* = 2^-36, against its scale and the reference, both 4 + 2^-36 */
+    still(&k, 2, 3);
+    k.z[0] = k.z[4] = k.z[5] = 1;
+    k.p_star[0] = k.p_star[4] = k.p_star[8] = 1;
+    k.p_star[5] = k.p_star[7] = -1;
+    k.h[3] = ldexp(1, -36);
+    kinds_are(which, &k, GOXUNDAR_USUAL, GOXUNDAR_TOO_SMALL);
+
+    figure = "a scale that overflows"; /* 2^1023 squared, though P* is 1 */
+    still(&k, 2, 1);
+    k.z[0] = k.p_star[0] = k.h[0] = k.h[3] = 1;
+    k.z[1] = ldexp(1, 1023);
+    kinds_are(which, &k, GOXUNDAR_USUAL, GOXUNDAR_TOO_SMALL);
+
+    figure = "below, at the tolerance"; /* F* = h is 1e-14 of the reference, 1 + h, in a diffuse period */
+    still(&k, 2, 2);
+    k.z[0] = k.z[2] = k.p_star[0] = 1;
+    k.flags[1] = 1;
+    k.h[3] = double_of(0x3D06849B86A12BDAu);
+    kinds_are(which, &k, GOXUNDAR_USUAL, GOXUNDAR_BELOW_DUST);
+    count(answer.d_diffuse, 1, "d_diffuse");
+
+    figure = "failed on replay, at the bound"; /* F* = 2 * 5e-7 is 1e-6 of the bound's square, 1: suspect. The root does not see it */
+    still(&k, 2, 3);
+    fill(k.z, pinned, 6);
+    k.p_star[0] = 1;
+    k.p_star[5] = k.p_star[7] = 5e-7;
+    kinds_are(which, &k, GOXUNDAR_USUAL, GOXUNDAR_FAILED_REPLAY);
+
+    figure = "failed on replay, at the tolerance"; /* F* = 2^-29 + h: suspect. The root's is h, 1e-14 of the reference, 1 + 2^-29 + h */
+    k.p_star[5] = k.p_star[7] = ldexp(1, -30);
+    k.h[3] = double_of(0x3D06849B875550B7u);
+    k.y[1] = 2;
+    kinds_are(which, &k, GOXUNDAR_USUAL, GOXUNDAR_FAILED_REPLAY);
+    figure = "replayed, and used"; /* the root's is the next number above that */
+    k.h[3] = double_of(0x3D06849B875550B8u);
+    k.y[1] = 2;
+    kinds_are(which, &k, GOXUNDAR_USUAL, GOXUNDAR_USUAL);
+}
+
+/* All six in one call of two inputs, input 0 without noise, input 1 with h = 2^-50; a design for each period. Nothing is known of state 4; states 0 and
+ * 3 have variance 1, and states 1 and 2 a covariance of 2^-30 alone.
+ * Period 0: input 0 is a gap, input 1 settles state 4, whose variance is h then.
+ * Period 1: input 0 pins state 0. Input 1 sees 0, 1 and 2: F* = 2^-29 + h, suspect against the reference, 1 + 2^-29 + h; the root's is h, not above
+ * 1e-14 of that.
+ * Period 2: input 0 pins state 3. Input 1 sees it too: F* = h is its scale, and not above 1e-14 of the reference, 1 + h.
+ * Period 3: of input 0, on state 0, F* and its scale are 0. Input 1, on state 4, is usual: F* = 2 h, and nothing was used before it. */
+static void six_kinds(int which)
+{
+    static const double designs[] = {
+        1, 0, 0, 0, 0, 0, 0, 0, 0, 1, /* input 0, input 1 */
+        1, 0, 0, 0, 0, 1, 1, 1, 0, 0,
+        0, 0, 0, 1, 0, 0, 0, 0, 1, 0,
+        1, 0, 0, 0, 0, 0, 0, 0, 0, 1,
+    };
+    static const uint8_t want[] = {GOXUNDAR_GAP,   GOXUNDAR_DIFFUSE,    GOXUNDAR_USUAL,     GOXUNDAR_FAILED_REPLAY,
+                                   GOXUNDAR_USUAL, GOXUNDAR_BELOW_DUST, GOXUNDAR_TOO_SMALL, GOXUNDAR_USUAL};
+    static struct call k;
+    size_t i;
+    figure = "all six kinds";
+    still(&k, 2, 5);
+    k.n = 4;
+    exact(&k);
+    fill(k.zs, designs, 40);
+    listed(&k, 4);
+    k.p_star[0] = k.p_star[18] = 1;
+    k.p_star[7] = k.p_star[11] = ldexp(1, -30);
+    k.flags[4] = 1;
+    k.h[3] = ldexp(1, -50);
+    k.y[0] = NAN;
+    for (i = 1; i < 8; i++) k.y[i] = (double)i;
+    ends(which, &k, GOXUNDAR_ANSWERED);
+    for (i = 0; i < 8; i++) count(kinds[i], want[i], "the kind");
+    count(answer.heard, 7, "heard");
+    count(answer.news, 4, "news");
+    count(answer.d_diffuse, 1, "d_diffuse");
+}
+
+/* Refusal 12 tells no cause. A stretch that is not the last is not judged by it, and tells them. */
+static void no_cause_on_12(int which)
+{
+    static struct call k;
+    figure = "causes and refusal 12"; /* both inputs read what is known; of input 1 the square of the design overflows */
+    still(&k, 2, 1);
+    k.z[1] = ldexp(1, 1023);
+    k.h[3] = 1;
+    ends(which, &k, GOXUNDAR_NO_INFORMATION);
+    if (which != STRETCH) return;
+    stretch.last = 0;
+    stretch.save_lent = GOXUNDAR_SAVED_LEN(1);
+    ends(which, &k, GOXUNDAR_ANSWERED);
+    count(kinds[0], GOXUNDAR_TOO_SMALL, "input 0's kind");
+    count(kinds[1], GOXUNDAR_TOO_SMALL, "input 1's kind");
+    whole();
+}
+
 /* ---- numbers that ran off */
 
 static void off_is(size_t cov, size_t mean)
@@ -1282,7 +1473,7 @@ static void ran_off(int which)
     k.p_star[0] = 1;
     ends(which, &k, GOXUNDAR_ANSWERED);
     off_is(0, 0);
-    count(kinds[1], GOXUNDAR_SKIPPED, "input 1");
+    count(kinds[1], GOXUNDAR_TOO_SMALL, "input 1");
     k.y[0] = -large;
     ends(which, &k, GOXUNDAR_ANSWERED);
     off_is(0, 1);
@@ -1325,7 +1516,7 @@ static void left_out(int which)
     k.h[0] = k.p_star[0] = ldexp(1, 1000);
     ends(which, &k, GOXUNDAR_ANSWERED);
     count(kinds[0], GOXUNDAR_USUAL, "input 0");
-    count(kinds[1], GOXUNDAR_SKIPPED, "input 1");
+    count(kinds[1], GOXUNDAR_TOO_SMALL, "input 1");
     same(filt_cov[0], ldexp(1, 999), "filtered covariance");
     off_is(0, 0);
 }
@@ -1985,7 +2176,7 @@ static void judged_last(void)
     goes_on(&k, saved);
     stretch.last = 1;
     ends(STRETCH, &k, GOXUNDAR_ANSWERED);
-    record(0, GOXUNDAR_SKIPPED, 0, 0, 0);
+    record(0, GOXUNDAR_TOO_SMALL, 0, 0, 0);
     count(answer.heard, 2, "heard");
     count(answer.news, 1, "news");
     whole();
@@ -2076,6 +2267,9 @@ int main(void)
         short_transitions(which);
         mixed_later(which);
         nulls(which);
+        causes(which);
+        six_kinds(which);
+        no_cause_on_12(which);
         ran_off(which);
         left_out(which);
     }

@@ -3,9 +3,10 @@
 
 use parts::{bad_length, needed, transitions_short};
 use parts::{Answer, Inputs, Outcome, Outputs, Smoothed};
-use parts::{FILTER_PARTS, MAX_PERIODS, MAX_SIZE, SMOOTH_PARTS};
-use tsecon_ssm_probed::probe;
+use parts::{BELOW_DUST, FILTER_PARTS, KINDS, MAX_PERIODS, MAX_SIZE, SMOOTH_PARTS, TOO_SMALL};
+use tsecon_ssm_probed::probe::{self, Branch};
 
+use crate::kinds::{self, Records};
 use crate::marks;
 use crate::refuse::{number, ORDER, T_REACH};
 
@@ -271,6 +272,25 @@ pub fn reports<P: AsRef<[u64]>>(parts: &[P], m: usize, n: usize) -> (usize, usiz
     (least(&cov), least(&mean))
 }
 
+/// The records among the filter's parts.
+pub fn records<P: AsRef<[u64]>>(parts: &[P]) -> Records<'_> {
+    let part = |k: usize| parts[k].as_ref();
+    Records {
+        kinds: part(5),
+        numbers: [part(6), part(7), part(8), part(9), part(10)],
+    }
+}
+
+/// The branch by which an element comes to its kind, for each kind in order.
+const COME_BY: [Branch; KINDS] = [
+    Branch::Gap,
+    Branch::Usual,
+    Branch::Diffuse,
+    Branch::Scale,
+    Branch::Below,
+    Branch::SuspectRefused,
+];
+
 /// Whether a call with this outcome writes.
 pub fn writes(o: &Outcome) -> bool {
     matches!(o, Ok(_) | Err(12))
@@ -337,6 +357,13 @@ pub fn run(case: &Case) -> Expected {
         let wanted = reports(&written[..5], case.m, case.n);
         assert_eq!((a.cov_off, a.mean_off), wanted, "the reports");
         assert!(smooth.is_err() || same_answer(&filter, &smooth));
+        let broken = kinds::broken(&records(&written), &case.y, a.heard as u64, a.news as u64);
+        assert_eq!(broken, None, "the records");
+        let taken = COME_BY.map(|b| branch[b as usize]);
+        assert_eq!(kinds::counts(&written[5]), taken, "the kinds by branch");
+    }
+    if matches!(filter, Err(12)) {
+        assert_eq!(kinds::not_blank(&written[5]), None);
     }
 
     let mut e = Expected {
@@ -368,6 +395,13 @@ fn mark(case: &Case, e: &mut Expected) {
         return;
     };
     set(marks::D_DIFFUSE, answer.d_diffuse > 1);
+    let diffuse = &e.written[5][..answer.d_diffuse * case.p];
+    for (mark, kind) in [
+        (marks::SCALE_DIFFUSE, TOO_SMALL),
+        (marks::BELOW_DIFFUSE, BELOW_DUST),
+    ] {
+        set(mark, diffuse.contains(&u64::from(kind)));
+    }
     set(marks::ALL_GAPS, answer.heard == 0);
     set(marks::COV_OFF, answer.cov_off > 0);
     set(marks::MEAN_OFF, answer.mean_off > 0);

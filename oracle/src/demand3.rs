@@ -2,10 +2,11 @@
 //! the reports of request h among the rest; and the other readings and
 //! offsets that they are tried with.
 
-use parts::{Answer, Outcome};
+use parts::{Answer, Outcome, GAP, KINDS};
 
 use crate::case::{run, same_answer, writes, Case, Expected};
 use crate::gen::Cases;
+use crate::kinds::is_skip;
 use crate::marks;
 use crate::rng::Rng;
 
@@ -18,8 +19,9 @@ const BLIND: [usize; 9] = [1, 2, 4, 5, 7, 8, 9, 10, 12];
 pub struct Looked {
     /// Calls with other finite readings.
     pub first: u64,
-    /// Skipped finite readings, each tried with another number and a gap.
-    pub second: u64,
+    /// Skipped finite readings, each tried with another number and a gap: by
+    /// the kind of their record.
+    pub second: [u64; KINDS],
     /// Calls with other offsets, whose means moved.
     pub offsets: u64,
     /// Calls with other offsets that are refused for a list's reach: 2 or 14.
@@ -104,8 +106,9 @@ fn same(a: &Expected, b: &Expected) -> Result<(), String> {
     Ok(())
 }
 
-/// Second half: a gap changes only `heard`.
-fn one_less(a: &Expected, b: &Expected) -> Result<(), String> {
+/// Second half: a gap for reading k changes only `heard`, and the cause that
+/// record k tells.
+fn one_less(a: &Expected, b: &Expected, k: usize) -> Result<(), String> {
     let heard = |o: Outcome| {
         o.map(|mut x| {
             x.heard += 1;
@@ -115,7 +118,9 @@ fn one_less(a: &Expected, b: &Expected) -> Result<(), String> {
     if !same_answer(&a.filter, &heard(b.filter)) || !same_answer(&a.smooth, &heard(b.smooth)) {
         return Err("second half, gap: answer".into());
     }
-    if a.written != b.written {
+    let mut wanted = a.written.clone();
+    wanted[5][k] = u64::from(GAP);
+    if wanted != b.written {
         return Err("second half, gap: outputs".into());
     }
     Ok(())
@@ -144,15 +149,15 @@ pub fn try_case(rng: &mut Rng, case: &Case, looked: &mut Looked) -> Result<(), S
         return Ok(());
     }
     for k in 0..case.y.len() {
-        if !case.y[k].is_finite() || e.written[5][k] != 0 {
+        if !case.y[k].is_finite() || !is_skip(e.written[5][k]) {
             continue;
         }
         let mut changed = case.clone();
         changed.y[k] = other(rng, case.y[k]);
         same(&e, &run(&changed))?;
         changed.y[k] = rng.gap();
-        one_less(&e, &run(&changed))?;
-        looked.second += 1;
+        one_less(&e, &run(&changed), k)?;
+        looked.second[e.written[5][k] as usize] += 1;
     }
     Ok(())
 }
@@ -164,9 +169,10 @@ pub fn command(cases: Cases, seed: u64, count: u64) -> Result<(), String> {
     for (k, (_, case)) in cases.take(count as usize).enumerate() {
         try_case(&mut rng, &case, &mut looked).map_err(|e| format!("case {k}: {e}\n{case:?}"))?;
     }
+    let [.., small, below, failed] = looked.second;
     println!(
-        "demand 3: {count} cases, {} calls with other readings, {} skipped readings, {} calls with other offsets, {} refused for a list's reach: nothing found",
-        looked.first, looked.second, looked.offsets, looked.short
+        "demand 3: {count} cases, {} calls with other readings, skipped readings {small} too small, {below} below the dust line, {failed} failed on replay, {} calls with other offsets, {} refused for a list's reach: nothing found",
+        looked.first, looked.offsets, looked.short
     );
     Ok(())
 }

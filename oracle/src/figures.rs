@@ -190,7 +190,8 @@ pub fn all() -> Vec<Figure> {
             "H",
             two_inputs(0.0, [2.0, 7.0]),
             vec![
-                Kind(1, 0),
+                // F* is 0, and so is its scale.
+                Kind(1, 3),
                 At("filt_mean", 0, 2.0),
                 At("filt_cov", 0, 0.0),
                 Heard(2),
@@ -202,7 +203,7 @@ pub fn all() -> Vec<Figure> {
         of("L", sized(9, 1), vec![Refusal(1)]),
         dusty("H = 2^-10", -10, 1),
         dusty("H = 2^-40", -40, 1),
-        dusty("H = 2^-50", -50, 0),
+        dusty("H = 2^-50", -50, 4),
         of("n = 4097", too_long(), vec![Refusal(1)]),
         of(
             "T = 2, then 1",

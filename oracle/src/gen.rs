@@ -248,7 +248,7 @@ pub fn command(cases: Cases, count: u64, path: &str) -> io::Result<()> {
     for (scene, case) in cases.take(count as usize) {
         let e = case::run(&case);
         check_scene(scene, &e);
-        tally.add(&e.hits, case.pair);
+        tally.add(&e, case.pair);
         let bytes = writer.case(&case, &e);
         if let Some(f) = &mut out {
             f.write_all(bytes)?;

@@ -9,6 +9,7 @@ pub mod demand3;
 pub mod figures;
 pub mod file;
 pub mod gen;
+pub mod kinds;
 pub mod list;
 pub mod makers;
 pub mod marks;
@@ -23,5 +24,6 @@ pub mod time;
 pub mod uncut;
 
 pub use parts::{decode, encode, needed, saved_len, section_counts, Carried};
+pub use parts::{GAP, KINDS, KIND_NAMES, TOO_SMALL};
 pub use parts::{Answer, Inputs, Outcome, Outputs, Smoothed, Stretch};
 pub use tsecon_ssm::{filter_call, smooth_call, stretch_call};

@@ -55,13 +55,13 @@ pub fn list() -> (Vec<u8>, Tally) {
             Scene::Pointed(k) => aimed[k] += 1,
             _ => (),
         }
-        tally.add(&e.hits, case.pair);
+        tally.add(&e, case.pair);
         bytes.extend_from_slice(writer.case(&case, &e));
     }
     for figure in figures::all() {
         let e = case::run(&figure.case);
         figures::hold(&figure, &e);
-        tally.add(&e.hits, None);
+        tally.add(&e, None);
         bytes.extend_from_slice(writer.case(&figure.case, &e));
     }
     let mut whole = file::header(tally.cases);

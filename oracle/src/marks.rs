@@ -1,8 +1,11 @@
 //! What is counted over cases: the branches inside a run, and what shows in
 //! its outputs and answer.
 
+use parts::{KINDS, KIND_NAMES};
 use tsecon_ssm_probed::probe::{Branch, BRANCHES};
 
+use crate::case::Expected;
+use crate::kinds;
 use crate::refuse::{pairs, T_REACH};
 
 /// Names of the marks, in the order of their bits.
@@ -27,6 +30,8 @@ pub const NAMES: [&str; COUNT] = [
     "downdate that returns early",
     "exactly at a tolerance",
     "bound NaN by a zero",
+    "skipped by a scale that is not finite",
+    "skipped by its scale, and below too",
     "d_diffuse over 1",
     "infinity inside a run",
     "NaN inside a run",
@@ -64,10 +69,12 @@ pub const NAMES: [&str; COUNT] = [
     "listed T, longer than n",
     "refusal 2 by T's reach",
     "listed T that varies, smoothed",
+    "skipped by its scale in a diffuse period",
+    "below in a diffuse period",
 ];
 
 /// Count of marks.
-pub const COUNT: usize = BRANCHES + 37;
+pub const COUNT: usize = BRANCHES + 39;
 
 pub const D_DIFFUSE: usize = BRANCHES;
 pub const INFINITY: usize = BRANCHES + 1;
@@ -96,6 +103,8 @@ pub const T_EXACT: usize = BRANCHES + 33;
 pub const T_LONG: usize = BRANCHES + 34;
 pub const T_SHORT: usize = BRANCHES + 35;
 pub const T_VARIES: usize = BRANCHES + 36;
+pub const SCALE_DIFFUSE: usize = BRANCHES + 37;
+pub const BELOW_DIFFUSE: usize = BRANCHES + 38;
 
 /// The mark of a test that refuses.
 pub fn refusal(test: usize) -> usize {
@@ -118,6 +127,8 @@ pub struct Tally {
     pub cases: u64,
     pub hits: [u64; COUNT],
     pub in_cases: [u64; COUNT],
+    /// In how many answered cases each kind occurs.
+    pub kinds: [u64; KINDS],
     /// Pairs of refusals that were made to hold together.
     pub pairs: [[u64; 15]; 15],
 }
@@ -128,17 +139,24 @@ impl Default for Tally {
             cases: 0,
             hits: [0; COUNT],
             in_cases: [0; COUNT],
+            kinds: [0; KINDS],
             pairs: [[0; 15]; 15],
         }
     }
 }
 
 impl Tally {
-    pub fn add(&mut self, hits: &[u64; COUNT], pair: Option<(usize, usize)>) {
+    pub fn add(&mut self, e: &Expected, pair: Option<(usize, usize)>) {
         self.cases += 1;
         for k in 0..COUNT {
-            self.hits[k] += hits[k];
-            self.in_cases[k] += u64::from(hits[k] > 0);
+            self.hits[k] += e.hits[k];
+            self.in_cases[k] += u64::from(e.hits[k] > 0);
+        }
+        if e.filter.is_ok() {
+            let own = kinds::counts(&e.written[5]);
+            for (cases, count) in self.kinds.iter_mut().zip(own) {
+                *cases += u64::from(count > 0);
+            }
         }
         if let Some((a, b)) = pair {
             self.pairs[a][b] += 1;
@@ -157,12 +175,15 @@ impl Tally {
             println!("{:<42}{:>10}{:>10}", name, self.hits[k], self.in_cases[k]);
         }
         let pairs: Vec<u64> = pairs().map(|(a, b)| self.pairs[a][b]).collect();
-        let kinds = pairs.iter().filter(|&&count| count > 0).count();
+        let had = pairs.iter().filter(|&&count| count > 0).count();
         let least = pairs.iter().min().unwrap();
         println!(
-            "pairs of refusals: {kinds} of {}, each at least {least} times",
+            "pairs of refusals: {had} of {}, each at least {least} times",
             pairs.len()
         );
         println!("rarest mark: in {} cases", self.rarest());
+        let named = KIND_NAMES.iter().zip(self.kinds);
+        let told: Vec<String> = named.map(|(name, k)| format!("{name} {k}")).collect();
+        println!("answered cases with a kind: {}", told.join(", "));
     }
 }

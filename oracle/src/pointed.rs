@@ -15,7 +15,7 @@ pub const NUMBERS: usize = 24;
 pub const OTHER_BYTE: usize = 25;
 pub const CONSTANT: usize = 26;
 /// Kinds that have a list of T.
-pub const LISTS_OF_T: std::ops::Range<usize> = 28..OFFS;
+pub const LISTS_OF_T: std::ops::Range<usize> = 28..CAUSES;
 /// Of these: its step back, its steps forward, a short one in a marked call
 /// that has as many numbers as there are periods, and what refusal 10 does
 /// not see of it.
@@ -23,8 +23,10 @@ pub const BACK: usize = 28;
 pub const FORWARD: usize = 29;
 pub const T_NUMBERS: usize = 32;
 pub const LATER_DRIVEN: usize = 37;
+/// From this kind on: the causes of skips.
+pub const CAUSES: usize = 41;
 /// From this kind on: numbers that run off, or only seem to (`offs`).
-pub const OFFS: usize = 41;
+pub const OFFS: usize = 48;
 
 /// The slip that each kind is pointed at.
 pub const SLIPS: [&str; KINDS] = [
@@ -69,6 +71,13 @@ pub const SLIPS: [&str; KINDS] = [
     "a listed T past n not checked",
     "no T let through, or two",
     "a T of a wrong length let through, listed or not",
+    "an element below the dust line too not named for its scale",
+    "an element that the dust test alone would take not named for its scale",
+    "a scale that is not finite passed",
+    "an infinite reference not taken as below",
+    "a diffuse period's skips told as gaps",
+    "a star root's NaN taken, or told as below",
+    "one element's cause told of another",
     "an overflow by R·Q·R' alone not told",
     "a covariance at place n told",
     "a P∞ at place n told",
@@ -183,6 +192,16 @@ impl Maker<'_> {
                 part.resize(part.len().wrapping_add_signed(one), 1.0);
                 case
             }
+            CAUSES => self.small_and_below(),
+            42 => {
+                let noise = self.rng.power(-43, -32);
+                self.cancelling(noise)
+            }
+            43 => self.scale_off(),
+            44 => self.infinite_reference(),
+            45 => self.skips_of_a_diffuse_period(),
+            46 => self.nan_by_root(),
+            47 => self.every_kind(),
             _ => self.runs_off(kind - OFFS),
         }
     }
@@ -480,6 +499,136 @@ impl Maker<'_> {
         case.z = vec![1.0, 0.0, 0.0, 1.0, 1.0, 1.0];
         case.p_star = vec![1.0, b, 0.0, b, 0.0, c, 0.0, c, 0.0];
         self.short_readings(&mut case);
+        case
+    }
+}
+
+impl Maker<'_> {
+    /// One row is usual. What the other sees cancels but for this share of
+    /// noise: F* is below 1e-10 of its scale, four times as large as what the
+    /// noise is a share of. Either may come first.
+    fn cancelling(&mut self, noise: f64) -> Case {
+        let mut case = self.bare(2, 3, 1);
+        let s = self.rng.power(-6, 6);
+        case.z = vec![1.0, 0.0, 0.0, 0.0, 1.0, 1.0];
+        case.p_star = vec![1.0, 0.0, 0.0, 0.0, s, -s, 0.0, -s, s];
+        case.h[3] = s * noise;
+        if self.rng.chance(1, 2) {
+            case.z.rotate_left(3);
+            case.h.swap(0, 3);
+        }
+        self.short_readings(&mut case);
+        case
+    }
+
+    /// Behind a usual element, F* is 0, or so small that both its scale and
+    /// the reference are too large for it.
+    fn small_and_below(&mut self) -> Case {
+        if self.rng.chance(1, 2) {
+            let mut case = self.bare(2, 1, 1);
+            case.z = vec![1.0, self.rng.pick(&[1.0, -2.0, 0.5])];
+            case.p_star = vec![self.rng.power(-6, 6)];
+            self.short_readings(&mut case);
+            return case;
+        }
+        let noise = self.rng.power(-60, -45);
+        let mut case = self.cancelling(noise);
+        if case.h[0] != 0.0 {
+            case.z.rotate_left(3);
+            case.h.swap(0, 3);
+        }
+        case
+    }
+
+    /// One row is usual. The other is so large that its scale is infinite, or
+    /// NaN where what it sees is known; F* is infinite, or its noise alone.
+    fn scale_off(&mut self) -> Case {
+        let mut case = self.bare(2, 2, 1);
+        let large = self.rng.power(512, 600);
+        case.z = vec![large, 0.0, 0.0, 1.0];
+        case.p_star[0] = self.rng.pick(&[0.0, 1.0]);
+        case.p_star[3] = 1.0;
+        case.h = vec![self.rng.power(-9, 9), 0.0, 0.0, 1.0];
+        if self.rng.chance(1, 2) {
+            case.z.rotate_left(2);
+            case.h.swap(0, 3);
+        }
+        self.short_readings(&mut case);
+        case
+    }
+
+    /// A pinned state that a second row sees so largely that the reference
+    /// overflows, and its scale, which is its noise, does not.
+    fn infinite_reference(&mut self) -> Case {
+        let mut case = self.bare(2, 1, 1);
+        case.z = vec![1.0, self.rng.power(300, 500)];
+        case.p_star = vec![self.rng.power(500, 1000)];
+        case.h[3] = self.rng.power(-500, 500);
+        self.short_readings(&mut case);
+        case
+    }
+
+    /// A known state is pinned while another is diffuse. Of two rows more one
+    /// sees it with noise below the dust line, one without.
+    fn skips_of_a_diffuse_period(&mut self) -> Case {
+        let mut case = self.bare(3, 2, 1);
+        let s = self.rng.power(-6, 6);
+        case.z = [1.0, 0.0].repeat(3);
+        case.p_star[0] = s;
+        case.flags[1] = 1;
+        let dusty = self.rng.within(1, 2);
+        case.h[dusty * 4] = s * self.rng.power(-60, -47);
+        self.short_readings(&mut case);
+        case
+    }
+
+    /// A suspect element; the star root has an infinite pivot, by a state that
+    /// only the third row sees, whose reading is a gap.
+    fn nan_by_root(&mut self) -> Case {
+        let mut case = self.bare(3, 2, 2);
+        case.z = vec![1.0, 0.0, 1.0, 0.0, 0.0, 1.0];
+        case.t[3] = self.rng.power(512, 1000);
+        case.p_star = vec![1.0, 0.0, 0.0, 1.0];
+        case.h[0] = self.rng.power(-45, -21);
+        self.short_readings(&mut case);
+        for k in [0, 1, 2, 5] {
+            case.y[k] = self.rng.gap();
+        }
+        case
+    }
+
+    /// Every kind: a diffuse element between gaps; then a pin, and behind it
+    /// three rows in any order, each skipped for another cause.
+    fn every_kind(&mut self) -> Case {
+        let mut case = self.bare(5, 4, 2);
+        let (s, c) = (self.rng.power(-6, 6), self.rng.power(-40, -22));
+        let noise = self.rng.power(-60, -48);
+        let mut skipped = [
+            ([1.0, 0.0, 0.0], 0.0),
+            ([1.0, 0.0, 0.0], s * noise),
+            ([1.0, 1.0, 1.0], 0.0),
+        ];
+        let turns = self.rng.below(3);
+        skipped.rotate_left(turns);
+        if self.rng.chance(1, 2) {
+            skipped.swap(0, 1);
+        }
+        // The pin is the second row, the diffuse element the first.
+        case.z[..8].copy_from_slice(&[0.0, 0.0, 0.0, 1.0, 1.0, 0.0, 0.0, 0.0]);
+        case.h[0] = 1.0;
+        for (i, (row, h)) in (2..).zip(skipped) {
+            case.z[4 * i..4 * i + 3].copy_from_slice(&row);
+            case.z[4 * i + 3] = 0.0;
+            case.h[6 * i] = h;
+        }
+        for (i, j, x) in [(0, 0, s), (1, 2, s * c), (2, 1, s * c)] {
+            case.p_star[i * 4 + j] = x;
+        }
+        case.flags[3] = 1;
+        self.short_readings(&mut case);
+        for k in 1..6 {
+            case.y[k] = self.rng.gap();
+        }
         case
     }
 }

@@ -18,9 +18,9 @@ pub const SHOWN: usize = 48;
 /// Candidates that the cases are chosen from.
 const CANDIDATES: u64 = 30_000;
 
-/// Ways of running off (`offs`) that are shown besides, since no mark tells
-/// them apart: at place n, by P∞, by a P∞ that is cleared or was off for a
-/// while, filtered, symmetrised, by T, and both reports in turn.
+/// Ways of running off (`offs`) that are shown, since no mark tells them
+/// apart: at place n, by P∞, by a P∞ that is cleared or was off for a while,
+/// filtered, symmetrised, by T, and both reports in turn.
 const WAYS: [usize; 8] = [1, 3, 4, 5, 6, 7, 13, 16];
 
 /// And refusal 14 beside what is judged before and after it, and of a list
@@ -41,6 +41,11 @@ const LISTS: [Scene; 11] = [
     Scene::Pointed(pointed::FORWARD),
     Scene::Pointed(pointed::LATER_DRIVEN),
 ];
+
+/// And the causes of skips: of two tests that an element fails, or of one that
+/// the other would not see; by numbers that are not finite; and in a diffuse
+/// period.
+const CAUSES: std::ops::Range<usize> = pointed::CAUSES..pointed::CAUSES + 6;
 
 /// Marks that a small case can't have or need not show.
 fn unwanted() -> u64 {
@@ -76,8 +81,8 @@ fn cost(case: &Case) -> f64 {
     work as f64 + 0.1 * f64::from(bits)
 }
 
-/// Cases that between them have every mark that a small case can have; then
-/// some ways of running off and lists, then further ones.
+/// Some ways of running off, lists and causes; then cases that with these have
+/// every mark that a small case can have; then further ones.
 pub fn choose(seed: u64, count: usize) -> Vec<(Case, Expected)> {
     let mut scenes = deck();
     scenes.sort_by_key(|s| format!("{s:?}"));
@@ -99,6 +104,14 @@ pub fn choose(seed: u64, count: usize) -> Vec<(Case, Expected)> {
     let ran_off = 1 << marks::INFINITY | 1 << marks::NAN;
     let masks: Vec<u64> = pool.iter().map(|x| mask(&x.3)).collect();
     let mut chosen: Vec<usize> = Vec::new();
+    let ways = WAYS.map(|way| Scene::Pointed(pointed::OFFS + way));
+    let causes = CAUSES.map(Scene::Pointed);
+    for scene in ways.into_iter().chain(LISTS).chain(causes) {
+        let first = pool.iter().position(|x| x.1 == scene);
+        if let Some(i) = first.filter(|_| chosen.len() < count) {
+            chosen.push(i);
+        }
+    }
     for late in [false, true] {
         let usable: Vec<usize> = (0..pool.len())
             .filter(|&i| late || masks[i] & ran_off == 0)
@@ -126,14 +139,6 @@ pub fn choose(seed: u64, count: usize) -> Vec<(Case, Expected)> {
                 .unwrap();
             left &= !masks[best];
             chosen.push(best);
-        }
-    }
-    let ways = WAYS.map(|way| Scene::Pointed(pointed::OFFS + way));
-    for scene in ways.into_iter().chain(LISTS) {
-        let shown = chosen.iter().any(|&i| pool[i].1 == scene);
-        let first = pool.iter().position(|x| x.1 == scene);
-        if let Some(i) = first.filter(|_| !shown && chosen.len() < count) {
-            chosen.push(i);
         }
     }
     // Further cases: the cheapest of two periods or more whose set of marks

@@ -1,13 +1,14 @@
 //! Small stretches as text: runs that are cut, some of them where numbers run
-//! off, each refusal of a stretch, saved bytes altered in each way, lists that
-//! reach so far, of designs marked and unmarked, and of T. See FORMAT.md.
+//! off, one with skips for each cause, each refusal of a stretch, saved bytes
+//! altered in each way, lists that reach so far, of designs marked and
+//! unmarked, and of T. See FORMAT.md.
 
 use parts::{encode, needed, saved_len, section_counts, Carried, Inputs, Outcome, Stretch};
 
 use crate::case::{one_nan, Buffers, Case, OUTPUT_NAMES, PATTERN_BYTE};
 use crate::makers::{Maker, Room};
 use crate::marks;
-use crate::rng::Rng;
+use crate::rng::{pow2, Rng};
 use crate::small::{choose, handed, hex, outcome, plain, SHOWN};
 use crate::uncut::{uncut, Uncut};
 
@@ -343,6 +344,37 @@ fn steps(list: &mut Vec<Made>) {
     put("driven by a later T", part(&later, 1, 2), &after_one, 0);
 }
 
+/// Elements skipped for each cause (document 02, request a), before and after
+/// a cut. The first row pins what the second sees, but for noise below the dust
+/// line; of the third F* is seen by the covariance alone, and not by the star
+/// root. In the second period nothing is left for the first row to see, and
+/// the others are usual.
+fn skips(list: &mut Vec<Made>) {
+    let c = pow2(-30);
+    let mut case = Case {
+        p: 3,
+        m: 3,
+        r: 1,
+        n: 2,
+        z: vec![1.0, 0.0, 0.0, 1.0, 0.0, 0.0, 1.0, 1.0, 1.0],
+        h: vec![0.0, 0.0, 0.0, 0.0, pow2(-50), 0.0, 0.0, 0.0, 0.0],
+        t: vec![1.0, 0.0, 0.0, 0.0, 1.0, 0.0, 0.0, 0.0, 1.0],
+        rr: vec![0.0; 3],
+        q: vec![0.0],
+        c: vec![0.0; 3],
+        d: vec![0.0; 3],
+        a1: vec![0.0; 3],
+        p_star: vec![1.0, 0.0, 0.0, 0.0, 0.0, c, 0.0, c, 0.0],
+        flags: vec![0; 3],
+        y: vec![2.0, 3.5, 1.0, 2.5, 2.0, 3.0],
+        ..Case::default()
+    };
+    case.lend_needed();
+    let u = uncut(&case.inputs()).expect("it runs");
+    assert_eq!(u.written.kinds, [1, 4, 5, 3, 1, 1]);
+    cut_up(&case, &u, 1, list);
+}
+
 /// Runs whose numbers run off (`offs`), cut before and after that: what an
 /// earlier stretch told stays, also where all is finite again; and one whose
 /// end is refused 12, with no report.
@@ -402,6 +434,7 @@ pub fn stretches(seed: u64) -> Vec<Made> {
     let u = uncut(&case.inputs()).expect("it runs");
     altered(&case, &u.states[1], &mut list);
     further(&mut list);
+    skips(&mut list);
     off_and_cut(seed, &mut list);
     reached(&mut list);
     steps(&mut list);

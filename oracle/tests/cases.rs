@@ -1,8 +1,10 @@
-//! The made cases: branches, numbers that run off, lists of designs and their
-//! marker, lists of T, the fixed list, the reader, demand 3, request k.
+//! The made cases: branches, causes of skips, numbers that run off, lists of
+//! designs and their marker, lists of T, the fixed list, the reader, demand 3,
+//! request k.
 
-use oracle::case::{probe_hits, run, same_answer, Case, Expected};
+use oracle::case::{probe_hits, records, run, same_answer, Case, Expected};
 use oracle::gen::{check_scene, Cases, Scene};
+use oracle::kinds::{alike, broken, counts, not_blank};
 use oracle::makers::{Maker, Room};
 use oracle::marks::{self, Tally};
 use oracle::refuse::{pairs, ORDER};
@@ -21,9 +23,11 @@ fn no_branch_is_rare() {
         for (scene, case) in Cases::new(seed).take(20_000) {
             let e = run(&case);
             check_scene(scene, &e);
-            tally.add(&e.hits, case.pair);
+            tally.add(&e, case.pair);
         }
         assert!(tally.rarest() >= 50, "seed {seed}: {tally:?}");
+        // A thousand cases of each kind and more in 200,000.
+        assert!(tally.kinds.iter().all(|&k| k >= 200), "{:?}", tally.kinds);
         for (a, b) in pairs() {
             assert!(tally.pairs[a][b] >= 50, "refusals {a} and {b}");
         }
@@ -49,6 +53,111 @@ fn the_list_replays() {
         }
     }
     assert!(seen.iter().all(|&s| s >= 10), "{seen:?}");
+}
+
+/// Each kind stands in many cases of the list, and each two causes in one.
+#[test]
+fn the_list_has_every_cause() {
+    let (mut seen, mut together) = ([0; 6], [0; 3]);
+    for c in read(COMMITTED).unwrap() {
+        let has = counts(&c.written[5]).map(|count| count > 0);
+        if c.filter_refusal == 0 {
+            seen.iter_mut()
+                .zip(has)
+                .for_each(|(s, h)| *s += u64::from(h));
+            for (count, (a, b)) in together.iter_mut().zip([(3, 4), (3, 5), (4, 5)]) {
+                *count += u64::from(has[a] && has[b]);
+            }
+        }
+    }
+    assert!(seen.iter().all(|&s| s >= 40), "{seen:?}");
+    assert!(together.iter().all(|&s| s >= 4), "{together:?}");
+}
+
+/// Records that break a rule are found: a word that is no kind, a gap where
+/// there is a reading and a reading where there is a gap, another count of
+/// what was heard and of news, a number that a record does not use, and a
+/// cause where refusal 12 blanks.
+#[test]
+fn broken_records_are_found() {
+    let mut rng = Rng::new(1);
+    let mut mk = Maker {
+        rng: &mut rng,
+        room: Room::Usual,
+    };
+    let case = mk.pointed(pointed::CAUSES + 6);
+    let e = run(&case);
+    let a = e.filter.unwrap();
+    let (heard, news) = (a.heard as u64, a.news as u64);
+    let holds = |written: &[Vec<u64>], heard: u64, news: u64| {
+        broken(&records(written), &case.y, heard, news).is_none()
+    };
+    let written = &e.written[..11];
+    assert!(holds(written, heard, news));
+    assert!(!holds(written, heard + 1, news) && !holds(written, heard, news - 1));
+    let mut tried = 0;
+    let mut find = |part: usize, place: usize, word: u64| {
+        let mut other = written.to_vec();
+        other[part][place] = word;
+        assert!(!holds(&other, heard, news), "{part} {place} {word}");
+        tried += 1;
+    };
+    for k in 0..case.y.len() {
+        let kind = written[5][k];
+        let others = (0..=255).filter(|&w| w != kind && !alike(kind, w));
+        others.for_each(|w| find(5, k, w));
+        if kind == 1 || kind == 2 {
+            continue;
+        }
+        for part in [6, 7, 8] {
+            find(part, k, 1 << 63);
+        }
+        for part in [9, 10] {
+            (0..case.m).for_each(|j| find(part, k * case.m + j, 1));
+        }
+    }
+    // A usual record does not use F∞ and M∞.
+    let usual = written[5].iter().position(|&k| k == 1).unwrap();
+    find(8, usual, 1 << 63);
+    find(10, usual * case.m, 1);
+    assert!(tried > 2_000, "{tried}");
+    // One place too many or too few.
+    let mut longer = written.to_vec();
+    longer[5].push(0);
+    assert!(!holds(&longer, heard, news));
+
+    assert!(not_blank(&[0; 9]).is_none());
+    assert!((1..=255).all(|kind| not_blank(&[0, kind, 0]).is_some()));
+}
+
+/// The kinds that each pointed case of causes has, counted in their order.
+#[test]
+fn causes_are_told() {
+    let want = [
+        [0, 1, 0, 1, 0, 0],
+        [0, 1, 0, 1, 0, 0],
+        [0, 1, 0, 1, 0, 0],
+        [0, 1, 0, 0, 1, 0],
+        [0, 1, 0, 1, 1, 0],
+        [4, 1, 0, 0, 0, 1],
+        [5, 1, 1, 1, 1, 1],
+    ];
+    for (way, want) in want.iter().enumerate() {
+        let kind = pointed::CAUSES + way;
+        for seed in 0..40 {
+            for room in [Room::Usual, Room::Small] {
+                let mut rng = Rng::new(seed);
+                let mut mk = Maker {
+                    rng: &mut rng,
+                    room,
+                };
+                let e = run(&mk.pointed(kind));
+                assert!(e.filter.is_ok());
+                assert_eq!(&counts(&e.written[5]), want, "{}", pointed::SLIPS[kind]);
+            }
+        }
+    }
+    assert_eq!(pointed::CAUSES + want.len(), pointed::OFFS);
 }
 
 /// Whether this T would be refused 10.
@@ -132,6 +241,33 @@ impl Calls for Wrong {
                 o.kinds[0] = 1;
                 Err(12)
             }
+            // Causes: none told, one told for another, told of a gap, told
+            // where refusal 12 blanks.
+            (29, Ok(a)) => {
+                let kinds = &mut o.kinds[..i.n * i.p];
+                kinds.iter_mut().filter(|k| **k > 2).for_each(|k| *k = 0);
+                Ok(a)
+            }
+            (30..=35, Ok(a)) => {
+                let pairs = [(3, 4), (3, 5), (4, 3), (4, 5), (5, 3), (5, 4)];
+                let (from, to) = pairs[self.0 - 30];
+                let kinds = &mut o.kinds[..i.n * i.p];
+                kinds
+                    .iter_mut()
+                    .filter(|k| **k == from)
+                    .for_each(|k| *k = to);
+                Ok(a)
+            }
+            (36..=38, Ok(a)) => {
+                let kinds = o.kinds[..i.n * i.p].iter_mut().zip(i.y);
+                let gap = kinds.into_iter().find(|(_, y)| y.is_nan());
+                gap.into_iter().for_each(|(k, _)| *k = self.0 as u8 - 33);
+                Ok(a)
+            }
+            (39, Err(12)) => {
+                o.kinds[i.n * i.p - 1] = 3;
+                Err(12)
+            }
             (4, Err(2)) => Err(3),
             (_, got) => got,
         }
@@ -152,7 +288,7 @@ impl Calls for Wrong {
 
 #[test]
 fn the_reader_finds_wrong_versions() {
-    for k in (0..=5).chain(7..=28) {
+    for k in (0..=5).chain(7..=39) {
         assert!(replay(COMMITTED, &mut Wrong(k)).is_err(), "version {k}");
     }
     assert!(replay(COMMITTED, &mut Wrong(6)).is_ok());
@@ -417,10 +553,13 @@ fn demand_three_and_request_k_hold() {
         for (_, case) in cases.take(3_000) {
             demand3::try_case(&mut rng, &case, &mut looked).unwrap();
         }
-        let enough = [looked.first, looked.second, looked.offsets]
+        let enough = [looked.first, looked.second.iter().sum(), looked.offsets]
             .iter()
             .all(|&n| n > 1_000);
-        assert!(enough && looked.short > 50, "{looked:?}");
+        let [gaps, usual, diffuse, causes @ ..] = looked.second;
+        assert_eq!([gaps, usual, diffuse], [0; 3]);
+        let each = causes.iter().all(|&n| n > 50);
+        assert!(enough && each && looked.short > 50, "{looked:?}");
     }
 }
 
@@ -559,6 +698,13 @@ fn pointed_cases_hit_their_mark() {
         &[],
         &[],
         &[],
+        &[ScaleAndDust, Usual],
+        &[Scale, Usual],
+        &[ScaleOff, Usual],
+        &[Below, Usual],
+        &[ScaleAndDust, Below, Usual],
+        &[BoundNan, SuspectRefused],
+        &[Gap, Diffuse, Usual, Scale, Below, SuspectRefused],
     ];
     // What runs off has a test of its own.
     for (k, want) in marks.iter().enumerate() {
@@ -578,7 +724,7 @@ fn pointed_cases_hit_their_mark() {
 
 #[test]
 fn small_cases_show_every_branch() {
-    let chosen = small::choose(1, 30);
+    let chosen = small::choose(1, small::SHOWN);
     let mut seen = [0; marks::COUNT];
     for (case, e) in &chosen {
         assert!(case.m <= 3 && case.p <= 3 && case.r <= 2 && case.n <= 3);
@@ -594,6 +740,14 @@ fn small_cases_show_every_branch() {
         .iter()
         .all(|&k| seen[k] > 0);
     assert!(shown && refused && told && marked && stepped, "{seen:?}");
+    // And the causes that have a scene of their own.
+    let causes = [
+        Branch::ScaleOff as usize,
+        Branch::ScaleAndDust as usize,
+        marks::SCALE_DIFFUSE,
+        marks::BELOW_DIFFUSE,
+    ];
+    assert!(causes.iter().all(|&k| seen[k] > 0), "{seen:?}");
 }
 
 #[test]
@@ -620,8 +774,8 @@ fn the_marks_are_the_described_ones() {
         let said = format.contains(&format!("| {k} | {name}"));
         assert!(said || refusal, "{k} {name}");
     }
-    assert!(format.contains("| 36 to 47 | refusal 1 to 12 |"));
-    assert_eq!(marks::REFUSAL + 1, 36);
+    assert!(format.contains("| 38 to 49 | refusal 1 to 12 |"));
+    assert_eq!(marks::REFUSAL + 1, 38);
 }
 
 #[test]

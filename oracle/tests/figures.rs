@@ -77,7 +77,7 @@ fn dust_on_the_second_input() {
         assert_eq!(e.hits[Branch::SuspectAccepted as usize], 1);
 
         let e = run(&dust(pow2(-50), y));
-        assert_eq!(e.written[5], [1, 0]);
+        assert_eq!(e.written[5], [1, 4]);
         assert_eq!(e.hits[Branch::Below as usize], 1);
     }
 }

@@ -176,7 +176,7 @@ fn difference_1_semidefiniteness_is_not_tested() {
     holds(&e, "kinds", "1 1");
     let e = calls("m 3 p 2 Z 1 0 0 0 1 1 P 1 1 1 1 1 1+2^-21 1 1+2^-21 1");
     assert!(met(&e, Branch::SuspectRefused));
-    holds(&e, "kinds", "1 0");
+    holds(&e, "kinds", "1 5");
     assert_eq!(refused("m 2 H 1 P 1 1e-9 0 1"), 7);
     assert_eq!(refused("p 2 H 1 -1e-12"), 4);
 }
@@ -206,7 +206,7 @@ fn difference_6_sums_start_from_plus_zero() {
 #[test]
 fn difference_8_a_nan_scale_is_carried_on() {
     let e = calls("m 2 n 2 Z 1 0 H 1 T 2^600 0 2^600 0 P 1 0 0 1");
-    holds(&e, "kinds", "1 0");
+    holds(&e, "kinds", "1 3");
 }
 
 #[test]
@@ -361,7 +361,7 @@ fn decision_11_symmetrising_and_place_n() {
 fn decision_12_a_diffuse_update_is_an_update() {
     let e = calls("p 2 n 2 Z 1 2^500 H 0 1 R 1 Q 1 F 1 y NaN NaN 0 0");
     assert!(met(&e, Branch::Below));
-    holds(&e, "kinds", "0 0 2 0");
+    holds(&e, "kinds", "0 0 2 4");
 }
 
 #[test]
@@ -378,13 +378,13 @@ fn decision_13_a_suspect_of_a_diffuse_period() {
 fn decision_14_bound_leaves_nothing_out() {
     let e = calls("m 3 p 3 n 2 Z 1 1 0 1 1 0 0 0 1 H 0 2^-30 0 T 1 0 0 0 1 0 0 0 2^600 P 0 1 0 1 0 0 0 0 1 y NaN NaN NaN 0 0 NaN");
     assert!(met(&e, Branch::BoundNan));
-    holds(&e, "kinds", "0 0 0 1 0 0");
+    holds(&e, "kinds", "0 0 0 1 5 0");
 }
 
 #[test]
 fn decision_15_abs_quad_form() {
     let e = calls("m 2 n 2 Z 1 0 T 2 1 2^1023 0 F 1 1");
-    holds(&e, "kinds", "2 0");
+    holds(&e, "kinds", "2 3");
     let e = calls("m 2 p 2 Z 0 2^-500 1 0 H 1 0 T 0 0 0 0 P 1 0 0 0 F 0 1");
     holds(&e, "kinds", "2 1");
     assert_eq!(refused("Z 2^600 H 1 F 1"), 12);
@@ -405,7 +405,7 @@ fn decision_17_the_support() {
     // The third element is a gap, and its row counts.
     let e = calls("m 2 p 3 n 2 Z 1 0 1 0 0 1 H 2^-40 0 0 T 1 0 0 2^600 P 1 0 0 1 y NaN NaN NaN 0 0 NaN");
     assert!(met(&e, Branch::SuspectRefused));
-    holds(&e, "kinds", "0 0 0 1 0 0");
+    holds(&e, "kinds", "0 0 0 1 5 0");
 }
 
 #[test]
@@ -419,7 +419,8 @@ fn decision_18_the_star_root_keeps_its_rank() {
 fn decision_19_used_rows() {
     let e = calls("m 2 p 2 n 3 Z 2^-600 0 2^-1050 0.5 H 0 2^11 T 2^43 -1 1 -1 P 2^-30 2^-20 2^-20 1");
     assert!(met(&e, Branch::SuspectRefused));
-    holds(&e, "kinds", "0 1 0 1 1 0");
+    // The first row is so small that its F* underflows.
+    holds(&e, "kinds", "3 1 3 1 1 5");
 }
 
 #[test]
@@ -433,7 +434,7 @@ fn decision_20_downdate_returns_early() {
 fn decision_21_pivots() {
     // An infinite one is chosen.
     let e = calls("m 2 p 3 n 2 Z 1 0 1 0 0 1 H 2^-40 0 0 T 1 0 0 2^600 P 1 0 0 1 y NaN NaN NaN 0 0 NaN");
-    holds(&e, "kinds", "0 0 0 1 0 0");
+    holds(&e, "kinds", "0 0 0 1 5 0");
     // A NaN is not.
     let e = calls("m 3 p 3 n 2 Z 1 0 0 1 0 0 0 1 0 H 2^-40 0 0 T 1 0 0 0 2^600 2^600 0 0 0 P 1 0 0 0 4 -2 0 -2 1 y NaN NaN NaN 0 0 NaN");
     holds(&e, "kinds", "0 0 0 1 1 0");
@@ -547,13 +548,121 @@ fn reports_leave_out() {
     assert_eq!(refused("n 2 H 1 R 1 Q 2^1023 P 2^1023 y NaN 1"), 12);
     // An infinite scale, and so a skipped element; P* stays finite.
     let e = told("p 2 Z 2^600 1 H 1 1 P 2^600", 0, 0);
-    holds(&e, "kinds", "0 1");
+    holds(&e, "kinds", "3 1");
     // The unresolved matrix; the smoothed covariance; v of a reading that is no news.
     let e = told("m 2 n 2 Z 0 1 T 1 2^600 0 0 F 1 1 y 1 1", 0, 0);
-    holds(&e, "kinds", "2 0");
+    holds(&e, "kinds", "2 3");
     let e = told("n 2 H 2^-100 T 2^500 R 1 Q 2^-100 y NaN 1", 0, 0);
     assert!(f64::from_bits(e.written[12][0]).is_nan());
     told("p 2 Z 0 1 H 0 1 P 1 d 2^1023 0 y -2^1023 1", 0, 0);
+}
+
+// ---- why an element was passed over: document 02, request a
+
+/// The kinds of an answered call, by both calls.
+fn kinds(words: &str, want: &str) {
+    let e = calls(words);
+    assert!(e.filter.is_ok() && e.smooth.is_ok(), "{words}");
+    holds(&e, "kinds", want);
+}
+
+/// The kinds of a stretch that begins a run and is not its last: it is not judged by refusal 12.
+fn begun(words: &str, want: &[u8]) {
+    let c = case(words);
+    let mut b = Buffers::patterned(&needed(c.p, c.m, c.n));
+    let stretch = Stretch { begins: 1, saved: &[], last: 0 };
+    let mut save = vec![0; oracle::saved_len(c.m)];
+    assert!(stretch_call(&c.inputs(), &stretch, &mut b.lend().0, &mut save).is_ok(), "{words}");
+    assert_eq!(b.kinds, want, "{words}");
+}
+
+#[test]
+fn decision_131_the_first_test_that_fails() {
+    kinds("p 2 Z 1 1 P 1", "1 3");
+    // No news at all is refusal 12.
+    assert_eq!(refused("Z 2^1023 H 1 P 1"), 12);
+    begun("Z 2^1023 H 1 P 1", &[3]);
+}
+
+/// The first test that fails is the cause. Of each input: the pin, where there is one, and what the other elements are.
+#[test]
+fn causes_by_the_first_test_that_fails() {
+    // F* is 0: against its scale, 0, and behind the pin against the reference, 1. Named for its scale.
+    kinds("p 2 P 1", "1 3");
+    kinds("p 3 P 1 y 1 NaN 2", "1 0 3");
+    // F* is 2^-50, its scale 4: against both too.
+    kinds("m 3 p 2 Z 1 0 0 0 1 1 H 0 2^-50 P 1 0 0 0 1 -1 0 -1 1", "1 3");
+    // F* is 2^-36, its scale 4: the dust test would take it, before the pin and behind it.
+    kinds("m 3 p 2 Z 1 0 0 0 1 1 H 0 2^-36 P 1 0 0 0 1 -1 0 -1 1", "1 3");
+    kinds("m 3 p 2 Z 0 1 1 1 0 0 H 2^-36 0 P 1 0 0 0 1 -1 0 -1 1", "3 1");
+    // F* is its scale, 2^-50, and below 1e-14 of the reference.
+    kinds("p 2 H 0 2^-50 P 1", "1 4");
+    // F* is its scale, 2^-29, and a suspect. The star root sees nothing of it; with noise enough it does.
+    kinds("m 3 p 2 Z 1 0 0 1 1 1 P 1 0 0 0 0 2^-30 0 2^-30 0", "1 5");
+    kinds("m 3 p 2 Z 1 0 0 1 1 1 H 0 2^-40 P 1 0 0 0 0 2^-30 0 2^-30 0", "1 1");
+    // All three behind one pin, in any order.
+    kinds("m 3 p 4 Z 1 0 0 1 0 0 1 0 0 1 1 1 H 0 2^-50 0 0 P 1 0 0 0 0 2^-30 0 2^-30 0", "1 4 3 5");
+    kinds("m 3 p 4 Z 1 0 0 1 1 1 1 0 0 1 0 0 H 0 0 0 2^-50 P 1 0 0 0 0 2^-30 0 2^-30 0", "1 5 3 4");
+}
+
+/// Exactly at a tolerance, which is not above it: F* at 1e-10 of its scale, at 1e-14 of the reference, at 1e-6 of the bound; the root's F at 1e-14.
+#[test]
+fn causes_at_a_tolerance() {
+    let at = |words: &str, h: u64, want: &str| {
+        let mut c = case(words);
+        let last = c.h.len() - 1;
+        c.h[last] = f64::from_bits(h);
+        let e = run(&c);
+        assert!(met(&e, Branch::AtTolerance), "{words}");
+        holds(&e, "kinds", want);
+    };
+    at("m 3 p 2 Z 1 0 0 0 1 1 P 1 0 0 0 1 -1 0 -1 1", 0x3DFB_7CDF_D9E3_8C0C, "1 3");
+    at("m 2 p 2 Z 1 0 1 0 P 1 0 0 0 F 0 1", 0x3D06_849B_86A1_2BDA, "1 4");
+    at("m 3 p 2 Z 1 0 0 1 1 1 P 1 0 0 0 0 5e-7 0 5e-7 0", 0, "1 5");
+    at("m 3 p 2 Z 1 0 0 1 1 1 P 1 0 0 0 0 2^-30 0 2^-30 0", 0x3D06_849B_8755_50B7, "1 5");
+}
+
+/// A scale that is infinite or NaN is passed by no F*, infinite or not, before an update or behind one.
+#[test]
+fn causes_by_numbers_that_are_not_finite() {
+    kinds("p 2 Z 2^1023 1 H 1 1 P 1", "3 1");
+    kinds("p 2 Z 1 2^1023 H 1 1 P 1", "1 3");
+    kinds("m 2 p 2 Z 2^600 0 0 1 H 1 1 P 0 0 0 1", "3 1");
+    // The reference of this one is NaN too. It can't be where the scale is finite: a term of it that is NaN has an infinite square of the row, or an
+    // entry of P* that is not finite, and no update takes either away. So no suspect has such a reference.
+    kinds("m 2 p 2 Z 0 1 2^600 0 H 0 1 P 0 0 0 1", "1 3");
+    // An infinite reference is above every F*: below. The scale is the noise alone.
+    kinds("p 2 Z 1 2^300 H 0 1 P 2^600", "1 4");
+    // The bound is NaN, and the star root's F: failed.
+    kinds("m 2 p 3 n 2 Z 1 0 1 0 0 1 H 2^-40 0 0 T 1 0 0 2^600 P 1 0 0 1 y NaN NaN NaN 0 0 NaN", "0 0 0 1 5 0");
+}
+
+/// In a diffuse period a cause is of F* alone, also where F∞ was refused; a suspect is taken.
+#[test]
+fn causes_in_a_diffuse_period() {
+    let diffuse = |words: &str, want: &str| {
+        kinds(words, want);
+        assert_eq!(answer(&calls(words)).d_diffuse, case(words).n, "{words}");
+    };
+    diffuse("m 2 p 3 Z 1 0 1 0 1 0 H 0 2^-50 0 P 1 0 0 0 F 0 1", "1 4 3");
+    diffuse("m 4 p 2 Z 1 0 0 0 1 1 1 0 P 1 0 0 0 0 0 2^-30 0 0 2^-30 0 0 0 0 0 0 F 0 0 0 1", "1 1");
+    diffuse("p 2 F 1", "2 3");
+    diffuse("m 2 n 2 Z 1 0 T 2 1 2^1023 0 F 1 1", "2 3");
+    diffuse("p 2 n 2 H 0 2^-50 R 1 Q 1 F 1 y NaN NaN 0 0", "0 0 2 4");
+}
+
+/// Refusal 12 blanks: its records are gaps, whatever the causes were. A stretch that is not the last is not judged by it, and tells them.
+#[test]
+fn causes_and_refusal_12() {
+    let silent = "p 3 Z 0 1 2^1023 H 0 0 1 y 1 NaN 2";
+    assert_eq!(refused(silent), 12);
+    holds(&calls(silent), "kinds", "0 0 0");
+    begun(silent, &[3, 0, 3]);
+    let c = case(silent);
+    let mut b = Buffers::patterned(&needed(3, 1, 1));
+    let last = Stretch { begins: 1, saved: &[], last: 1 };
+    assert_eq!(stretch_call(&c.inputs(), &last, &mut b.lend().0, &mut []).err(), Some(12));
+    assert_eq!(b.kinds, [0; 3]);
 }
 
 // ---- numbers

@@ -387,6 +387,11 @@ fn the_small_stretches_show_every_end() {
             .any(|s| matches!(s.outcome, Ok(a) if (a.cov_off > 0, a.mean_off > 0) == (cov, mean)))
     };
     assert!(tells(true, false) && tells(false, true) && tells(true, true));
+    for kind in 0..6 {
+        let has =
+            |s: &&oracle::stretches::Made| s.outcome.is_ok() && s.written.kinds.contains(&kind);
+        assert!(list.iter().filter(has).count() > 0, "kind {kind}");
+    }
     let saves = |s: &&oracle::stretches::Made| s.outcome.is_ok() && s.last == 0;
     assert!(list.iter().filter(saves).count() > 20);
     // FORMAT.md names each line.

@@ -6,6 +6,7 @@ use oracle::rng::Rng;
 use oracle::{encode, saved_len, section_counts, Carried, Inputs};
 
 use crate::cuts::{periods, reach_held, room, Run};
+use crate::kinds;
 use crate::lent::{Ask, Lent, SAVE};
 use crate::library::Call;
 use crate::tally::Tally;
@@ -62,7 +63,7 @@ fn against_oracle(i: &Inputs<'_>, lent: &[usize; 13], ask: &Ask<'_>, fill: u64, 
     if outcome != want {
         return (want, Some(format!("outcome {outcome}, wanted {want} (0: answered, else the refusal)")));
     }
-    let mut difference = found.difference(&wanted, Call::Stretch, want, &[]);
+    let mut difference = found.difference(&wanted, Call::Stretch, want, &[]).or_else(|| kinds::broken(&found, Call::Stretch, outcome));
     // What is loaded and saved again is as it was. For that nobody is asked.
     if difference.is_none() && want == 0 && i.n == 0 && ask.begins == 0 && ask.last == 0 && found.bytes_mut(SAVE)[..ask.saved.len()] != *ask.saved {
         difference = Some("an empty stretch saves other bytes than it was given".into());

@@ -1,6 +1,6 @@
 //! The comparison at scale: fresh cases of the oracle's generator through both calls of the library and of the oracle, demand 3 and request k by pairs
-//! of calls, wild calls; and each case's run in stretches. Case k of a seed is the same in every run, whatever the count and the threads; where numbers
-//! are to run off, every third case is another one.
+//! of calls, wild calls; and each case's run in stretches. The records of every call of the library are held to request a's rules. Case k of a seed is
+//! the same in every run, whatever the count and the threads; where numbers are to run off, every third case is another one.
 
 use oracle::case::Case;
 use oracle::gen::Cases;
@@ -8,32 +8,36 @@ use oracle::rng::Rng;
 use oracle::time;
 
 use crate::cuts::Run;
-use crate::lent::{Lent, COV_OFF, MEAN_OFF};
+use crate::lent::{Lent, COV_OFF, KINDS, MEAN_OFF};
 use crate::library::{Call, CALLS};
 use crate::tally::Tally;
-use crate::{altered, cuts, values, watch, wild};
+use crate::{altered, cuts, kinds, values, watch, wild};
 
 /// The generator's cases have 20 periods at most. After one in so many comes a long run.
 const LONG_EVERY: u64 = 997;
 
-/// How a call must end on a case, the library's first difference from the oracle's, and the reports that the oracle's has.
-fn with_reports(which: Call, case: &Case, fill: u64) -> (u32, Option<String>, (u64, u64)) {
+/// How a call must end on a case, the library's first difference from the oracle's, and the parts as the oracle leaves them.
+fn compared(which: Call, case: &Case, fill: u64) -> (u32, Option<String>, Lent) {
     let mut found = Lent::of(case, fill);
     let mut wanted = found.clone();
     let (outcome, want) = (found.library(which), wanted.oracle(which));
-    let reports = (wanted.word(COV_OFF, 0), wanted.word(MEAN_OFF, 0));
     let difference = if outcome != want {
         Some(format!("outcome {outcome}, wanted {want} (0: answered, else the refusal)"))
     } else {
         found.difference(&wanted, which, want, &[])
     };
-    (want, difference, reports)
+    (want, difference.or_else(|| kinds::broken(&found, which, outcome)), wanted)
 }
 
 /// How a call must end on a case, and the library's first difference from the oracle's.
 pub fn against_oracle(which: Call, case: &Case, fill: u64) -> (u32, Option<String>) {
-    let (want, difference, _) = with_reports(which, case, fill);
+    let (want, difference, _) = compared(which, case, fill);
     (want, difference)
+}
+
+/// Whether an answer carries a report.
+fn reports(answered: &Lent) -> [u64; 2] {
+    [COV_OFF, MEAN_OFF].map(|part| answered.word(part, 0))
 }
 
 /// Lets a state that nothing reads grow by T, so that its covariances overflow late in a long run, and later its mean, by c.
@@ -118,11 +122,12 @@ fn one_case(cases: &Cases, seed: u64, k: u64, tally: &mut Tally) {
     let mut offset_rng = Rng::new(stretch_rng.clone().word() ^ rng.clone().word());
     let fill = rng.word();
     for which in CALLS {
-        let (outcome, difference, reports) = with_reports(which, &case, fill);
+        let (outcome, difference, wanted) = compared(which, &case, fill);
         tally.ended[outcome as usize] += 1;
         tally.t_short += u64::from(by_reach_of_t(which, &case, outcome));
         if which == Call::Filter && outcome == 0 {
-            tally.told(reports.0, reports.1);
+            tally.told(reports(&wanted));
+            tally.has_kinds(&wanted.some(KINDS, case.n * case.p));
         }
         let line = if which == Call::Filter { &mut tally.filter } else { &mut tally.smooth };
         line.count(&format!("{name}, {}", which.name()), difference);
@@ -135,9 +140,9 @@ fn one_case(cases: &Cases, seed: u64, k: u64, tally: &mut Tally) {
     if k % LONG_EVERY == 0 {
         let case = long_case(&mut wild_rng);
         for which in CALLS {
-            let (outcome, difference, reports) = with_reports(which, &case, fill);
+            let (outcome, difference, wanted) = compared(which, &case, fill);
             tally.long.count(&format!("long run after {name}, {}", which.name()), difference);
-            tally.long_told += u64::from(which == Call::Filter && outcome == 0 && reports != (0, 0));
+            tally.long_told += u64::from(which == Call::Filter && outcome == 0 && reports(&wanted) != [0, 0]);
         }
         values::try_offsets(&mut offset_rng, &case, &format!("long run after {name}"), tally);
         let run = Run::of(&case).expect("a long run starts");
@@ -164,6 +169,10 @@ fn some_cases(seed: u64, count: u64, off: bool, thread: usize, threads: usize) -
 /// Compares, and prints what was compared; with `off`, on cases of which every third runs off. Whether nothing differs.
 pub fn compare(seed: u64, count: u64, off: bool, threads: usize) -> bool {
     watch::begin();
+    if let Some(what) = kinds::faulty() {
+        println!("THE RULES OF RECORDS are at fault: {what}");
+        return false;
+    }
     let mut tally = std::thread::scope(|scope| {
         let started: Vec<_> = (0..threads).map(|thread| scope.spawn(move || some_cases(seed, count, off, thread, threads))).collect();
         started.into_iter().fold(Tally::default(), |mut all, one| {
@@ -173,6 +182,8 @@ pub fn compare(seed: u64, count: u64, off: bool, threads: usize) -> bool {
     });
     let cases = tally.cases;
     let (compared, differ) = tally.print();
+    let [answered, blanked] = kinds::held();
+    println!("records held to their rules: of {answered} answered calls of the library, and of {blanked} that are refused 12");
     let (stretches, altered) = tally.stretches();
     println!("seed {seed}: {cases} cases, {compared} comparisons, of these {stretches} stretches, {altered} from altered bytes; {differ} differ");
     differ == 0

@@ -8,6 +8,7 @@ use oracle::rng::Rng;
 use oracle::uncut::uncut;
 use oracle::{encode, needed, saved_len, Carried, Inputs};
 
+use crate::kinds;
 use crate::lent::{Ask, Lent, COV_OFF, D_DIFFUSE, HEARD, LOGLIK, MEAN_OFF, NEWS, PRED_MEAN, SAVE};
 use crate::library::Call;
 use crate::tally::{Line, Tally};
@@ -166,7 +167,7 @@ impl<'a> Run<'a> {
         } else {
             found.difference(&wanted, Call::Stretch, want, &[])
         };
-        match difference {
+        match difference.or_else(|| kinds::broken(&found, Call::Stretch, outcome)) {
             Some(what) => Err(format!("the stretch of periods {from} to {to}: {what}")),
             None if last || want != 0 => Ok(None),
             None => Ok(Some(found.bytes_mut(SAVE)[..need].to_vec())),

@@ -25,6 +25,10 @@ pub const PRED_MEAN: usize = INPUTS;
 pub const FILT_MEAN: usize = INPUTS + 3;
 pub const KINDS: usize = INPUTS + 5;
 pub const V: usize = INPUTS + 6;
+pub const F_STAR: usize = INPUTS + 7;
+pub const F_INF: usize = INPUTS + 8;
+pub const M_STAR: usize = INPUTS + 9;
+pub const M_INF: usize = INPUTS + 10;
 pub const SM_MEAN: usize = INPUTS + 11;
 pub const LOGLIK: usize = INPUTS + OUTPUTS;
 pub const D_DIFFUSE: usize = LOGLIK + 1;
@@ -245,6 +249,26 @@ impl Lent {
         } else {
             self.words[at + k]
         }
+    }
+
+    /// The first places of a part.
+    pub fn some(&self, part: usize, count: usize) -> Vec<u64> {
+        assert!(count <= self.parts[part].len);
+        (0..count).map(|k| self.word(part, k)).collect()
+    }
+
+    /// Whether the outputs have so many places, in order.
+    pub fn holds(&self, need: &[usize]) -> bool {
+        need.iter().zip(&self.parts[INPUTS..]).all(|(need, part)| *need <= part.len)
+    }
+
+    pub fn sizes(&self) -> [usize; 4] {
+        self.sizes
+    }
+
+    /// Whether a stretch begins its run: any number but 0.
+    pub fn begins(&self) -> u8 {
+        self.begins
     }
 
     /// How many places of a part a call with this outcome writes.

@@ -5,6 +5,7 @@ mod altered;
 mod clock;
 mod compare;
 mod cuts;
+mod kinds;
 mod lent;
 mod library;
 mod stack;

@@ -3,6 +3,8 @@
 use std::cmp::Ordering;
 
 use oracle::case::Case;
+use oracle::kinds::counts;
+use oracle::{KINDS, KIND_NAMES, TOO_SMALL};
 
 /// One kind of comparison.
 #[derive(Debug, Clone, Default)]
@@ -49,6 +51,10 @@ pub struct Tally {
     pub stretch_t_short: u64,
     /// Cases that the filter's call answers: with a covariance report, with a mean report, with both, with neither.
     pub reports: [u64; 4],
+    /// In how many of these cases each kind of record occurs.
+    pub kinds: [u64; KINDS],
+    /// The readings that are no news, of which demand 3's second half was tried: by the kinds of their records.
+    pub no_news: [u64; KINDS],
     /// Long runs with a report.
     pub long_told: u64,
     /// Wild calls whose empty parts were null.
@@ -88,7 +94,7 @@ impl Tally {
             ("long runs, up to 4096 periods, against the oracle", &mut self.long),
             ("demand 3: other values of finite readings", &mut self.other_values),
             ("demand 3: another number for a reading that is no news", &mut self.other_number),
-            ("demand 3: a gap for a reading that is no news", &mut self.gap),
+            ("demand 3: a gap for it, the cause excepted", &mut self.gap),
             ("request k: other a1, c and d", &mut self.other_offsets),
             ("request g: n copies of T for a constant T", &mut self.copies),
             ("wild calls: sizes", &mut self.wild_sizes),
@@ -126,6 +132,9 @@ impl Tally {
         for (a, b) in self.reports.iter_mut().zip(other.reports) {
             *a += b;
         }
+        for (a, b) in self.kinds.iter_mut().chain(&mut self.no_news).zip(other.kinds.into_iter().chain(other.no_news)) {
+            *a += b;
+        }
         for k in 0..15 {
             self.ended[k] += other.ended[k];
             self.wild_ended[k] += other.wild_ended[k];
@@ -141,9 +150,16 @@ impl Tally {
         }
     }
 
-    /// Counts the reports of a case that is answered.
-    pub fn told(&mut self, cov_off: u64, mean_off: u64) {
-        let (cov, mean) = (cov_off > 0, mean_off > 0);
+    /// Counts the kinds of a case that is answered.
+    pub fn has_kinds(&mut self, kinds: &[u64]) {
+        for (cases, count) in self.kinds.iter_mut().zip(counts(kinds)) {
+            *cases += u64::from(count > 0);
+        }
+    }
+
+    /// Counts the reports of a case that is answered, the covariances' and the means'.
+    pub fn told(&mut self, reports: [u64; 2]) {
+        let [cov, mean] = reports.map(|off| off > 0);
         for (count, yes) in self.reports.iter_mut().zip([cov, mean, cov && mean, !cov && !mean]) {
             *count += u64::from(yes);
         }
@@ -192,6 +208,12 @@ impl Tally {
         let [cov, mean, both, neither] = self.reports;
         println!("answered cases: {cov} with a covariance report, {mean} with a mean report, {both} of these with both; {neither} with neither");
         println!("long runs with a report: {}", self.long_told);
+        let named = |counts: &[u64; KINDS], from: usize| {
+            let each: Vec<String> = (from..KINDS).map(|k| format!("{} {}", KIND_NAMES[k], counts[k])).collect();
+            each.join(", ")
+        };
+        println!("answered cases that have a record of this kind: {}", named(&self.kinds, 0));
+        println!("readings that are no news, tried for demand 3: {}", named(&self.no_news, usize::from(TOO_SMALL)));
         let [exact, longer, shorter] = self.t_lists;
         let listed: u64 = self.t_lists.iter().sum();
         println!("cases with a list of T: {listed} of {}; {exact} of n matrices, {longer} of more, {shorter} of fewer", self.cases);

@@ -1,16 +1,19 @@
 //! Demand 3 and request k, tried on the library by pairs of calls: the values of finite readings reach no covariance, decision, variance, gain vector,
 //! count, refusal or report on the covariances, nor do the offsets past refusals 1 to 11, or where a list falls short (2 or 14); and a reading judged
-//! no news is no news, for the report on the means too. And a list of n copies of T is the constant T (request g). The oracle is not asked.
+//! no news is no news, for the report on the means too: made a gap, it moves `heard` by one, and its own record's cause becomes that of a gap (request
+//! a). And a list of n copies of T is the constant T (request g). The oracle is not asked.
 
 use std::ops::Range;
 
 use oracle::case::Case;
 use oracle::demand3::{other, other_offsets, other_values};
+use oracle::kinds::is_skip;
 use oracle::rng::Rng;
-use oracle::Inputs;
+use oracle::{Inputs, GAP};
 
 use crate::altered::{done_before, float, number, report, some_periods, LIKELIHOOD, MEAN, MEAN_REPORT, SIZES, STATE, TALLIES};
 use crate::cuts;
+use crate::kinds;
 use crate::lent::{Ask, Lent, A1, C, D, FILT_MEAN, HEARD, KINDS, LOGLIK, MEAN_OFF, NEWS, PRED_MEAN, SAVE, SAVED, SM_MEAN, T, TS, V, Y};
 use crate::library::{Call, CALLS};
 use crate::tally::Tally;
@@ -22,20 +25,40 @@ const MOVED: [usize; 6] = [PRED_MEAN, FILT_MEAN, V, SM_MEAN, LOGLIK, MEAN_OFF];
 const READINGS: usize = 3;
 
 /// A call as it came back.
+#[derive(Clone)]
 struct Run {
     which: Call,
     refusal: u32,
     lent: Lent,
+    /// The first rule that its records break.
+    broken: Option<String>,
+}
+
+impl Run {
+    fn of(which: Call, refusal: u32, lent: Lent) -> Self {
+        let broken = kinds::broken(&lent, which, refusal);
+        Run { which, refusal, lent, broken }
+    }
+
+    /// As it must be with a gap for reading k: its record's cause is another.
+    fn with_gap(&self, k: usize) -> Self {
+        let mut run = self.clone();
+        run.lent.put(KINDS, k, &[u64::from(GAP)]);
+        run
+    }
 }
 
 fn run(which: Call, case: &Case, fill: u64) -> Run {
     let mut lent = Lent::of(case, fill);
     let refusal = lent.library(which);
-    Run { which, refusal, lent }
+    Run::of(which, refusal, lent)
 }
 
-/// The first difference of `b` from `a`, the parts `free` apart.
+/// The first difference of `b` from `a`, the parts `free` apart; or what their records break.
 fn moved(a: &Run, b: &Run, free: &[usize]) -> Option<String> {
+    if let Some(what) = a.broken.as_ref().or(b.broken.as_ref()) {
+        return Some(what.clone());
+    }
     if a.refusal != b.refusal {
         return Some(format!("outcome {}, before {} (0: answered, else the refusal)", b.refusal, a.refusal));
     }
@@ -48,7 +71,7 @@ fn seen(before: &Run, after: &Run, handed: &[usize]) -> Option<String> {
     moved(before, after, &[handed, means].concat())
 }
 
-/// Second half, for one reading: another number there moves nothing, a gap there only `heard`, by one.
+/// Second half, for one reading: another number there moves nothing; a gap there moves `heard`, by one, and the cause of its own record.
 fn no_news(rng: &mut Rng, before: &Run, case: &Case, k: usize, fill: u64, tally: &mut Tally, name: &str) {
     let mut changed = case.clone();
     changed.y[k] = other(rng, case.y[k]);
@@ -61,7 +84,7 @@ fn no_news(rng: &mut Rng, before: &Run, case: &Case, k: usize, fill: u64, tally:
         let (was, is) = (before.lent.word(HEARD, 0), after.lent.word(HEARD, 0));
         (is.wrapping_add(1) != was).then(|| format!("heard is {is}, before the gap {was}"))
     };
-    tally.gap.count(&format!("{name}, a gap for reading {k}"), moved(before, &after, &[Y, HEARD]).or_else(less));
+    tally.gap.count(&format!("{name}, a gap for reading {k}"), moved(&before.with_gap(k), &after, &[Y, HEARD]).or_else(less));
 }
 
 /// Both halves on one case, for both calls.
@@ -77,9 +100,10 @@ pub fn try_case(rng: &mut Rng, case: &Case, name: &str, tally: &mut Tally) {
         if before.refusal != 0 || before.lent.word(NEWS, 0) == 0 {
             continue;
         }
-        let mut silent: Vec<usize> = (0..case.y.len()).filter(|&k| case.y[k].is_finite() && before.lent.word(KINDS, k) == 0).collect();
+        let mut silent: Vec<usize> = (0..case.y.len()).filter(|&k| case.y[k].is_finite() && is_skip(before.lent.word(KINDS, k))).collect();
         for _ in 0..READINGS.min(silent.len()) {
             let k = silent.swap_remove(rng.below(silent.len()));
+            tally.no_news[before.lent.word(KINDS, k) as usize] += 1;
             no_news(rng, &before, case, k, fill, tally, &name);
         }
     }
@@ -97,7 +121,7 @@ pub fn try_copies(case: &Case, fill: u64, name: &str, tally: &mut Tally) {
         let [constant, copies] = [TS, T].map(|left_out| {
             let mut lent = both.clone();
             let refusal = lent.library_without(which, left_out);
-            Run { which, refusal, lent }
+            Run::of(which, refusal, lent)
         });
         tally.copies.count(&format!("request g, {name}, {}, n copies of T", which.name()), moved(&constant, &copies, &[]));
     }
@@ -156,7 +180,7 @@ impl Piece {
         let i = Inputs { repeats: self.repeats, ..cuts::periods(case, self.from, self.to) };
         let mut lent = Lent::new(&i, &self.room, &ask, self.fill);
         let refusal = lent.library(Call::Stretch);
-        Run { which: Call::Stretch, refusal, lent }
+        Run::of(Call::Stretch, refusal, lent)
     }
 
     /// Whether both have saved a run.
@@ -238,11 +262,12 @@ pub fn try_stretch(rng: &mut Rng, run: &cuts::Run<'_>, name: &str, tally: &mut T
     tally.stretch_values.count(&format!("{name}, other values"), piece.seen(&mut before, after, &[Y, SAVED], m));
 
     let first = piece.readings(p).start;
-    let silent: Vec<usize> = piece.readings(p).filter(|&k| run.case.y[k].is_finite() && before.lent.word(KINDS, k - first) == 0).collect();
+    let silent: Vec<usize> = piece.readings(p).filter(|&k| run.case.y[k].is_finite() && is_skip(before.lent.word(KINDS, k - first))).collect();
     if before.refusal != 0 || silent.is_empty() {
         return;
     }
     let k = rng.pick(&silent);
+    tally.no_news[before.lent.word(KINDS, k - first) as usize] += 1;
     let mut changed = run.case.clone();
     changed.y[k] = other(rng, run.case.y[k]);
     let after = piece.run(&changed, &saved);
@@ -261,5 +286,5 @@ pub fn try_stretch(rng: &mut Rng, run: &cuts::Run<'_>, name: &str, tally: &mut T
             after.lent.bytes_mut(SAVE)[place].copy_from_slice(&told);
         }
     }
-    tally.stretch_values.count(&format!("{name}, a gap for reading {k}"), moved(&before, &after, &[Y, HEARD]).or(less));
+    tally.stretch_values.count(&format!("{name}, a gap for reading {k}"), moved(&before.with_gap(k - first), &after, &[Y, HEARD]).or(less));
 }

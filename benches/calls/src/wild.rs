@@ -6,6 +6,7 @@ use oracle::rng::Rng;
 
 use crate::altered::made_up;
 use crate::cuts::reach_held;
+use crate::kinds;
 use crate::lent::{Args, Ask, Lent, OUTPUTS, SAVE, SAVED, T, TS};
 use crate::library::{self, Call, CALLS};
 use crate::tally::Tally;
@@ -104,7 +105,7 @@ fn one_call(which: Call, case: &Case, ask: &Ask<'_>, claims: &Claims, nulls: boo
     if outcome != want {
         return (want, Some(format!("outcome {outcome}, wanted {want} (0: answered, else the refusal)")));
     }
-    (want, found.difference(&wanted, which, want, &[]))
+    (want, found.difference(&wanted, which, want, &[]).or_else(|| kinds::broken(&found, which, outcome)))
 }
 
 /// Any 64 bits.

@@ -7,7 +7,7 @@
 //!
 //! bindings/c/example.c is the same in C.
 
-use goxundar::{smooth, Design, Model, Moments, Record, Refusal, Transition};
+use goxundar::{smooth, Cause, Design, Model, Moments, Record, Refusal, Transition};
 
 const GAP: f64 = f64::NAN;
 const OFFSET: usize = 0;
@@ -44,12 +44,17 @@ fn estimate(of: Moments<'_>, state: usize) -> String {
     format!("{:8.2} +- {:5.2}", of.mean[state], of.cov[state * states + state].sqrt())
 }
 
+/// A reading, and what became of it in a word. The last three are no news: nothing moved, and the cause says why.
 fn reading(value: f64, record: Record<'_>) -> String {
-    match record {
-        _ if value.is_nan() => "-".to_string(),
-        Record::Skipped => format!("{value:.1} no news"),
-        _ => format!("{value:.1} news"),
-    }
+    let word = match record {
+        Record::Skipped(Cause::Gap) => return "-".to_string(),
+        Record::Usual { .. } => "news",
+        Record::Diffuse { .. } => "first news",
+        Record::Skipped(Cause::TooSmall) => "adds nothing",
+        Record::Skipped(Cause::BelowDust) => "only rounding",
+        Record::Skipped(Cause::FailedReplay) => "doubtful",
+    };
+    format!("{value:.1} {word}")
 }
 
 fn main() -> Result<(), Refusal> {
@@ -68,13 +73,13 @@ fn main() -> Result<(), Refusal> {
     let answer = smooth(&crystal(), readings.len(), &readings.concat())?;
     let run = answer.run();
 
-    println!("period  {:<14} {:<14}  {:<17}  {:<17}  offset, in hindsight", "input 0", "input 1", "offset so far", "rate so far");
+    println!("period  {:<19} {:<19}  {:<17}  {:<17}  offset, in hindsight", "input 0", "input 1", "offset so far", "rate so far");
     for (t, [first, second]) in readings.into_iter().enumerate() {
         let (first, second) = (reading(first, run.record(t, 0)), reading(second, run.record(t, 1)));
         // Until the states are settled a standard deviation would be of the bounded part alone, and mislead.
         let so_far = |state| if run.settled_after(t) { estimate(run.filtered(t), state) } else { "not known yet".to_string() };
         let hindsight = estimate(answer.smoothed(t), OFFSET);
-        println!("{t:6}  {first:<14} {second:<14}  {:<17}  {:<17}  {hindsight}", so_far(OFFSET), so_far(RATE));
+        println!("{t:6}  {first:<19} {second:<19}  {:<17}  {:<17}  {hindsight}", so_far(OFFSET), so_far(RATE));
     }
     println!(
         "heard {}, news {}, periods not settled at their start {}, log-likelihood {:.6}",

@@ -64,7 +64,8 @@ pub struct Outputs<'a> {
     pub filt_mean: &'a mut [f64],
     /// n·m·m: filtered covariances, the bounded part.
     pub filt_cov: &'a mut [f64],
-    /// n·p: 0 skipped, 1 usual, 2 diffuse.
+    /// n·p: what became of each reading. 1 is usual, 2 diffuse. The others were skipped: 0 a gap, 3 too small, 4 below the dust line, 5 failed on
+    /// replay. [`crate::Record`] and [`crate::Cause`] say what that means.
     pub kinds: &'a mut [u8],
     /// n·p: each reading less what was expected of it.
     pub v: &'a mut [f64],

@@ -7,7 +7,7 @@
 //! Every call ends with an answer or a [`Refusal`], whatever is passed. No caller checks first.
 //!
 //! ```
-//! use goxundar::{smooth, Design, Model, Record, Transition};
+//! use goxundar::{smooth, Cause, Design, Model, Record, Transition};
 //!
 //! // A level that wanders with variance 2 a period, read on two inputs without noise. At the start nothing is known of it.
 //! let level = Model {
@@ -22,8 +22,9 @@
 //! let s = smooth(&level, 3, &[gap, gap, 2.0, 2.0, gap, 5.0])?;
 //! assert!(!s.run().settled_after(0));
 //! assert!(s.run().settled_after(1));
-//! // One check on both inputs: the second is no news.
-//! assert_eq!(s.run().record(1, 1), Record::Skipped);
+//! // One check on both inputs: the second is no news, since it adds nothing. Before that there was no check at all.
+//! assert_eq!(s.run().record(1, 1), Record::Skipped(Cause::TooSmall));
+//! assert_eq!(s.run().record(0, 1), Record::Skipped(Cause::Gap));
 //! assert_eq!((s.run().heard(), s.run().news()), (3, 2));
 //! assert_eq!(s.smoothed(2).mean, [5.0]);
 //! # Ok::<(), goxundar::Refusal>(())
@@ -78,5 +79,5 @@ mod saved;
 
 pub use model::{Design, Model, Transition};
 pub use refusal::Refusal;
-pub use run::{filter, smooth, Moments, Predicted, Record, Run, Smoothed};
+pub use run::{filter, smooth, Cause, Moments, Predicted, Record, Run, Smoothed};
 pub use saved::{begin, Saved};

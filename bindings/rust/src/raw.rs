@@ -1,7 +1,8 @@
 //! The library's functions as `goxundar.h` declares them. [`crate::lent`] is the safe form; nobody needs this one who has slices.
 //!
 //! Each returns 0 where it answers, else the refusal's number, 1 to 12 or 14, or 15 of a stretch, and then the last six places stay as they were.
-//! `cov_off` and `mean_off` are a period plus 1, or 0 for none. `repeats`, `begins` and `last` are markers: any number but 0 is yes.
+//! `cov_off` and `mean_off` are a period plus 1, or 0 for none. `repeats`, `begins` and `last` are markers: any number but 0 is yes. `kinds` are 0 to 5:
+//! a gap, usual, diffuse, too small, below the dust line, failed on replay.
 //!
 //! The library's symbols end in the interface's number, as the header says: a crate of another interface does not link.
 //!
@@ -12,7 +13,7 @@
 
 extern "C" {
     /// The filter.
-    #[link_name = "goxundar_filter_4"]
+    #[link_name = "goxundar_filter_5"]
     pub fn goxundar_filter(
         p: usize,
         m: usize,
@@ -76,7 +77,7 @@ extern "C" {
     ) -> u32;
 
     /// The filter, and then the smoother.
-    #[link_name = "goxundar_smooth_4"]
+    #[link_name = "goxundar_smooth_5"]
     pub fn goxundar_smooth(
         p: usize,
         m: usize,
@@ -144,7 +145,7 @@ extern "C" {
     ) -> u32;
 
     /// Some periods of a run, from its start or from what was saved.
-    #[link_name = "goxundar_stretch_4"]
+    #[link_name = "goxundar_stretch_5"]
     pub fn goxundar_stretch(
         p: usize,
         m: usize,

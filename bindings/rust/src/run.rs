@@ -23,11 +23,79 @@ pub struct Predicted<'a> {
     pub diffuse_cov: &'a [f64],
 }
 
+/// Why a reading was skipped.
+///
+/// A gap is not tested. Of the others it is the first test that the reading failed, in the order that they have here: one that fails the scale's is
+/// [`TooSmall`](Cause::TooSmall), though it be below the dust line too. In a period that begins with some state not settled the tests look at the
+/// bounded part of the variance, and the last one is not made.
+///
+/// ```
+/// use goxundar::{filter, Cause, Design, Model, Record, Refusal, Run, Transition};
+/// // What a service desk is to be told of a reading.
+/// fn told(run: &Run, t: usize, i: usize) -> &'static str {
+///     match run.record(t, i) {
+///         Record::Usual { .. } | Record::Diffuse { .. } => "taken",
+///         Record::Skipped(Cause::Gap) => "no check",
+///         Record::Skipped(Cause::TooSmall) => "adds nothing",
+///         Record::Skipped(Cause::BelowDust) => "only rounding",
+///         Record::Skipped(Cause::FailedReplay) => "doubtful",
+///     }
+/// }
+/// // A known level on three inputs, the second with a trace of noise.
+/// let level = Model {
+///     design: Design::Constant(vec![1.0; 3]),
+///     h: vec![0.0, 0.0, 0.0, 0.0, 1e-15, 0.0, 0.0, 0.0, 0.0],
+///     transition: Transition::Constant(vec![1.0]),
+///     p_star: vec![1.0],
+///     ..Model::zeros(3, 1, 1)
+/// };
+/// let run = filter(&level, 1, &[2.0; 3])?;
+/// assert_eq!([0, 1, 2].map(|i| told(&run, 0, i)), ["taken", "only rounding", "adds nothing"]);
+/// # Ok::<(), Refusal>(())
+/// ```
+#[derive(Debug, Clone, Copy, PartialEq, Eq, Hash)]
+pub enum Cause {
+    /// There was none: a NaN.
+    Gap,
+    /// It adds nothing: what it would read was known beforehand. Its variance is 0, or at most 1e-10 of its scale, which is what the variance would
+    /// be if no two of its terms cancelled. So it goes with one check that comes on two inputs without noise. Or the scale overflows; then the model
+    /// may be mistyped.
+    TooSmall,
+    /// Only rounding is left of it: readings used before it in this period told the rest. Its variance is at most 1e-14 of what it could be at the
+    /// period's begin.
+    BelowDust,
+    /// Doubtful: readings used before it in this period left at most 1e-6 of its variance. So the period was worked out a second time, by square
+    /// roots, which keep more digits, and by these at most 1e-14 of it is left. The noise of its input may be set too low.
+    FailedReplay,
+}
+
 /// What became of one reading.
+///
+/// A reader has to say what it makes of the causes of a skip: one that was written when there was none does not compile.
+///
+/// ```compile_fail
+/// # use goxundar::Record;
+/// fn is_news(record: Record<'_>) -> bool {
+///     match record {
+///         Record::Skipped => false,
+///         _ => true,
+///     }
+/// }
+/// ```
+///
+/// ```
+/// # use goxundar::Record;
+/// fn is_news(record: Record<'_>) -> bool {
+///     match record {
+///         Record::Skipped(_) => false,
+///         _ => true,
+///     }
+/// }
+/// ```
 #[derive(Debug, Clone, Copy, PartialEq)]
 pub enum Record<'a> {
-    /// A gap, or no news: nothing moved.
-    Skipped,
+    /// It was not used, and nothing moved.
+    Skipped(Cause),
     /// It was used.
     Usual {
         /// The reading less what was expected of it.
@@ -154,7 +222,7 @@ impl Run {
         self.answer.heard
     }
 
-    /// How many readings were used: records that are not skipped.
+    /// How many readings were used: records that are not [`Record::Skipped`].
     pub fn news(&self) -> usize {
         self.answer.news
     }
@@ -188,7 +256,7 @@ impl Run {
     ///   this run, and is left out; the next stretch tells of it.
     /// - The values of readings have no part in it, nor have `a1`, `c` and `d`.
     /// - It goes by what is handed out there, and by nothing else. A NaN in the diffuse part ends the diffuse start, and zeros are handed out; a
-    ///   reading may be skipped because a number in its test overflows, while the covariance stays finite; a call may be refused, with
+    ///   reading may be skipped because its scale overflows ([`Cause::TooSmall`]), while the covariance stays finite; a call may be refused, with
     ///   [`Refusal::NoInformation`], since numbers overflow before any reading is news. None of these is told, and nothing of the smoothed moments
     ///   and of the records.
     pub fn cov_off(&self) -> Option<usize> {
@@ -217,17 +285,20 @@ impl Run {
         Moments { mean: block(&self.parts.filt_mean, t, self.m), cov: block(&self.parts.filt_cov, t, self.m * self.m) }
     }
 
-    /// What became of period t's reading i.
+    /// What became of period t's reading i. Usual, diffuse and the four causes of a skip, counted over all of them, come to n·p.
     pub fn record(&self, t: usize, i: usize) -> Record<'_> {
         assert!(i < self.p, "a period has {} elements, and no element {i}", self.p);
         let at = t * self.p + i;
         let (v, f_star, f_inf) = (self.parts.v[at], self.parts.f_star[at], self.parts.f_inf[at]);
         let (m_star, m_inf) = (block(&self.parts.m_star, at, self.m), block(&self.parts.m_inf, at, self.m));
         match self.parts.kinds[at] {
-            2 => Record::Diffuse { v, f_star, f_inf, m_star, m_inf },
+            0 => Record::Skipped(Cause::Gap),
             1 => Record::Usual { v, f_star, m_star },
-            // The library writes 0, 1 or 2.
-            _ => Record::Skipped,
+            2 => Record::Diffuse { v, f_star, f_inf, m_star, m_inf },
+            3 => Record::Skipped(Cause::TooSmall),
+            4 => Record::Skipped(Cause::BelowDust),
+            // The library writes 0 to 5.
+            _ => Record::Skipped(Cause::FailedReplay),
         }
     }
 

@@ -2,7 +2,7 @@
 
 mod level;
 
-use goxundar::{filter, smooth, Design, Model, Record, Refusal, Run, Transition};
+use goxundar::{filter, smooth, Cause, Design, Model, Record, Refusal, Run, Transition};
 use level::level as plain;
 
 const GAP: f64 = f64::NAN;
@@ -114,7 +114,7 @@ fn d_a_gap() {
     same(d.predicted(1).cov, &[2.0]);
     same(d.predicted(1).diffuse_cov, &[1.0]);
     assert_eq!(d.heard(), 0);
-    assert_eq!(d.record(0, 0), Record::Skipped);
+    assert_eq!(d.record(0, 0), Record::Skipped(Cause::Gap));
     assert!(!d.settled_after(0));
 }
 
@@ -147,7 +147,8 @@ fn g_not_washed_out() {
 #[test]
 fn h_one_check_on_two_inputs() {
     let h = run(&two_inputs(), &[2.0, 7.0]);
-    assert_eq!(h.record(0, 1), Record::Skipped);
+    // F* is 0, and so is its scale.
+    assert_eq!(h.record(0, 1), Record::Skipped(Cause::TooSmall));
     same(h.filtered(0).mean, &[2.0]);
     same(h.filtered(0).cov, &[0.0]);
     assert_eq!((h.heard(), h.news()), (2, 1));
@@ -192,7 +193,7 @@ fn l_nine_states() {
     assert_eq!(refusal(&Model { m: 9, ..plain() }, 1, &[2.0]).number(), 1);
 }
 
-/// No flag, P* = 1, p = 2, designs 1, H = (h, 0), any two finite readings: the second is used, used and skipped.
+/// No flag, P* = 1, p = 2, designs 1, H = (h, 0), any two finite readings: the second is used, used, and skipped as below.
 #[test]
 fn dust_on_the_second_input() {
     for readings in [[2.0, 7.0], [0.0, -0.0], [-1e300, 5e-324], [3.0, 3.0]] {
@@ -201,7 +202,7 @@ fn dust_on_the_second_input() {
             let dust = run(&model, &readings);
             assert!(matches!(dust.record(0, 0), Record::Usual { .. }));
             assert_eq!(matches!(dust.record(0, 1), Record::Usual { .. }), used, "H = 2^{power}, {readings:?}");
-            assert_eq!(dust.record(0, 1) == Record::Skipped, !used);
+            assert_eq!(dust.record(0, 1) == Record::Skipped(Cause::BelowDust), !used);
         }
     }
 }

@@ -4,7 +4,7 @@
 //! a gap. Of input 1: v = (27 − 20) − 3, M* = P*·z = (0, 4), F* = 4 + 4. So the gain is (0, 0.5), and P* loses 0.5·4 at (1, 1). Then the step:
 //! T·a + c, and T·P·T' + R·Q·R'. Over one period the smoothed moments are the filtered ones.
 
-use goxundar::{filter, smooth, Design, Model, Record, Run, Transition};
+use goxundar::{filter, smooth, Cause, Design, Model, Record, Run, Transition};
 
 fn model() -> Model {
     Model {
@@ -27,7 +27,7 @@ fn model() -> Model {
 fn check(run: &Run) {
     assert_eq!((run.elements(), run.states(), run.periods()), (2, 2, 1));
     assert_eq!((run.d_diffuse(), run.heard(), run.news(), run.cov_off(), run.mean_off()), (0, 1, 1, None, None));
-    assert_eq!(run.record(0, 0), Record::Skipped);
+    assert_eq!(run.record(0, 0), Record::Skipped(Cause::Gap));
     assert_eq!(run.record(0, 1), Record::Usual { v: 4.0, f_star: 8.0, m_star: &[0.0, 4.0] });
     assert_eq!(run.predicted(0).mean, [5.0, 3.0]);
     assert_eq!(run.predicted(0).cov, [1.0, 0.0, 0.0, 4.0]);

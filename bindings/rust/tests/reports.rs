@@ -1,7 +1,7 @@
 //! Numbers that ran off: the two reports of every call, what they leave out, and how they are carried. Every expected value follows from a rule of
 //! document 01 or 02, as a comment says. `(cov_off, mean_off)` throughout; C's are these plus 1.
 
-use goxundar::{begin, filter, smooth, Design, Model, Record, Refusal, Run, Saved, Transition};
+use goxundar::{begin, filter, smooth, Cause, Design, Model, Record, Refusal, Run, Saved, Transition};
 
 const GAP: f64 = f64::NAN;
 
@@ -162,7 +162,7 @@ fn an_infinite_scale() {
     };
     assert_eq!(reports(&twice, &[1.0, 1.0]), NONE);
     let run = filter(&twice, 1, &[1.0, 1.0]).unwrap();
-    assert_eq!((run.news(), run.record(0, 1), run.filtered(0).cov), (1, Record::Skipped, &[far / 2.0][..]));
+    assert_eq!((run.news(), run.record(0, 1), run.filtered(0).cov), (1, Record::Skipped(Cause::TooSmall), &[far / 2.0][..]));
 }
 
 // ---- in stretches

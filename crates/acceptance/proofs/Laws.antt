@@ -8,13 +8,16 @@ use lib.Ieee.{Float}
 use Rattle.definition.specs.Num.{_⊕_, _⊗_, _>ᶠ_, _≤ᶠ_, rank-tol, cancel-tol, suspect-tol}
 use Rattle.definition.specs.Dense.{matVec, matTVec, dot, absQuadForm}
 use Rattle.definition.specs.Cov as cov
-use Rattle.definition.specs.Cov.{diffuseTest, scaledTest, dust, against, bound, clear, passes, usualTest, usually, diffusely, fInfBy}
+use Rattle.definition.specs.Cov.{diffuseTest, scaledTest, dust, against, bound, clear, byDust, usually, diffusely, fInfBy}
+use Rattle.promise.specs.declared.Cause.the-variants.{TooSmall, BelowDust, FailedReplay}
 use Rattle.dense.specs.Views.{vec}
 use Rattle.acceptance.specs.declared.Dust.{Dust}
 use Rattle.acceptance.specs.declared.Dust.the-variants.{Clear, Below, Suspect}
 use Rattle.acceptance.specs.declared.Finding.{Finding}
 use Rattle.acceptance.specs.declared.Finding.the-variants as finding
-use Rattle.acceptance.specs.Views.{dustOf, decisionBy, judgedAs, judgedBy, ByDust, Usually, Judged}
+use Rattle.acceptance.specs.declared.Found.{Found}
+use Rattle.acceptance.specs.declared.Found.the-variants as found
+use Rattle.acceptance.specs.Views.{dustOf, decisionBy, decisionOn, judgedBy, ByDust, Usually, Judged, DustBy, UsualBy}
 
 module _ (m : ℕ) (z p n : List Float) (f g : Float) {a b : Float} where
   pub diffuse-both : a ≡ absQuadForm m z p → b ≡ absQuadForm m z n → (f >ᶠ rank-tol ⊗ a) ≡ true → (g >ᶠ cancel-tol ⊗ b) ≡ diffuseTest m z p n f g
@@ -63,41 +66,33 @@ suspect-stale m z h pre sd false f x e = refl
 -- ---- a finding by the dust test, whatever the star root says
 module _ (live : Bool) (d : Dust) where
   pub ruled-clear : d ≡ Clear → ByDust live d finding.Usual
-  unfolding decisionBy passes dustOf
+  unfolding decisionBy byDust dustOf
   ruled-clear e = record { finds = λ m again f a b. rw e; doubts = λ x e′. absurd (let n : _≡_ {A = ℕ} 0 1 = cc in omega arith) }
 
-  pub ruled-below : d ≡ Below → ByDust live d finding.Nothing
-  unfolding decisionBy passes dustOf
+  pub ruled-below : d ≡ Below → ByDust live d (finding.Nothing BelowDust)
+  unfolding decisionBy byDust dustOf
   ruled-below e = record { finds = λ m again f a b. rw e; doubts = λ x e′. absurd (let n : _≡_ {A = ℕ} 0 1 = cc in omega arith) }
 
   pub ruled-live : (r : Float) → d ≡ Suspect r → live ≡ true → ByDust live d finding.Usual
-  unfolding decisionBy passes dustOf
+  unfolding decisionBy byDust dustOf
   ruled-live r e l = record { finds = λ m again f a b. rw (e, l); doubts = λ x e′. absurd (let n : _≡_ {A = ℕ} 0 1 = cc in omega arith) }
 
   pub ruled-doubt : (r : Float) → d ≡ Suspect r → live ≡ false → ByDust live d (finding.Doubtful r)
-  unfolding decisionBy passes dustOf
+  unfolding decisionBy byDust dustOf
   ruled-doubt r e l = record { finds = λ m again f a b. rw (e, l); doubts = λ x e′. (l, rw e (let n : r ≡ x = cc in ap cov.suspect n)) }
 
 -- ---- usual acceptance
 module _ (m : ℕ) (z : List Float) (h : Float) (live : Bool) (pre sd : List Float) (fresh : Bool) (star : List Float) (f : Float) where
   pub usually-scaled : {t : Bool} {d : Dust} {r : Finding} → t ≡ scaledTest m z h star f → t ≡ true → dustOf d ≡ dust m z h pre sd fresh f → ByDust live d r → Usually m z h live pre sd fresh star f r
-  unfolding usually usualTest
+  unfolding usually
   usually-scaled e t d w = record {
     finds = λ again unres pinf root a b. rw (sym e, t, sym d) (w .finds m again f a b);
     doubts = λ x k. (w .doubts x k .0, suspect-stale m z h pre sd fresh f x (sym d ∙ w .doubts x k .1));
   }
 
-  pub usually-not : {t : Bool} → t ≡ scaledTest m z h star f → t ≡ false → Usually m z h live pre sd fresh star f finding.Nothing
-  unfolding usually usualTest decisionBy
+  pub usually-not : {t : Bool} → t ≡ scaledTest m z h star f → t ≡ false → Usually m z h live pre sd fresh star f (finding.Nothing TooSmall)
+  unfolding usually decisionBy
   usually-not e t = record { finds = λ again unres pinf root a b. rw (sym e, t); doubts = λ x k. absurd (let n : _≡_ {A = ℕ} 0 1 = cc in omega arith) }
-
-  pub usual-scaled : (again : Float) {t r : Bool} (d : Dust) → t ≡ scaledTest m z h star f → t ≡ true → dustOf d ≡ dust m z h pre sd fresh f → r ≡ passes live again (dustOf d) → (unres pinf root : List Float) → r ≡ usualTest m (judgedAs z h live pre sd unres fresh again star pinf root) f
-  unfolding usualTest
-  usual-scaled again d e t k w unres pinf root = rw (sym e, t, sym k) w
-
-  pub usual-not : (again : Float) {t : Bool} → t ≡ scaledTest m z h star f → t ≡ false → (unres pinf root : List Float) → false ≡ usualTest m (judgedAs z h live pre sd unres fresh again star pinf root) f
-  unfolding usualTest
-  usual-not again e t unres pinf root = rw (sym e, t)
 
 -- ---- the verdict
 module _ (m : ℕ) (z : List Float) (h : Float) (pre sd : List Float) (fresh : Bool) (unres star pinf root : List Float) (f : Float) where
@@ -117,16 +112,30 @@ module _ (m : ℕ) (z : List Float) (h : Float) (pre sd : List Float) (fresh : B
   unfolding judgedBy
   judge-usual b e w = rw e (record { finds = λ again a. w .finds again unres pinf root a b; doubts = w .doubts })
 
--- by the star root: the verdict on what the dust test found
-module _ (d : Dust) (again : Float) where
-  pub passes-clear : d ≡ Clear → true ≡ passes false again (dustOf d)
-  unfolding passes dustOf
-  passes-clear e = rw e
+-- ---- with the star root at hand
+module _ (again : Float) (d : Dust) where
+  pub root-clear : d ≡ Clear → DustBy again d found.Usual
+  unfolding decisionOn byDust dustOf
+  root-clear e = record { finds = λ f m*. rw e }
 
-  pub passes-below : d ≡ Below → false ≡ passes false again (dustOf d)
-  unfolding passes dustOf
-  passes-below e = rw e
+  pub root-below : d ≡ Below → DustBy again d (found.Nothing BelowDust)
+  unfolding decisionOn byDust dustOf
+  root-below e = record { finds = λ f m*. rw e }
 
-  pub passes-suspect : {x : Float} (r : Float) → d ≡ Suspect r → x ≡ again → (x >ᶠ cancel-tol ⊗ r) ≡ passes false again (dustOf d)
-  unfolding passes dustOf
-  passes-suspect r e w = rw (e, w)
+  module _ {x : Float} (r : Float) (e : d ≡ Suspect r) (w : x ≡ again) where
+    pub root-yes : (x >ᶠ cancel-tol ⊗ r) ≡ true → DustBy again d found.Usual
+    unfolding decisionOn byDust dustOf
+    root-yes t = record { finds = λ f m*. rw (e, sym w, t) }
+
+    pub root-no : (x >ᶠ cancel-tol ⊗ r) ≡ false → DustBy again d (found.Nothing FailedReplay)
+    unfolding decisionOn byDust dustOf
+    root-no t = record { finds = λ f m*. rw (e, sym w, t) }
+
+module _ (m : ℕ) (z : List Float) (h : Float) (pre sd : List Float) (again : Float) (star : List Float) (f : Float) {t : Bool} (e : t ≡ scaledTest m z h star f) where
+  pub usual-scaled : {d : Dust} {r : Found} → t ≡ true → dustOf d ≡ dust m z h pre sd false f → DustBy again d r → UsualBy m z h pre sd again star f r
+  unfolding usually
+  usual-scaled t d w = record { finds = λ unres pinf root m*. rw (sym e, t, sym d) (w .finds f m*) }
+
+  pub usual-not : t ≡ false → UsualBy m z h pre sd again star f (found.Nothing TooSmall)
+  unfolding usually decisionOn
+  usual-not t = record { finds = λ unres pinf root m*. rw (sym e, t) }

@@ -1,13 +1,14 @@
-// filter.rs, the verdict on one element of a period: the tests that it has to pass, and what they find. What a finding
-// brings is the crate element's. The star root is seldom asked. So `judge` goes without it and says where it has to be
-// asked, and `is_usual` has it at hand.
+// filter.rs, the verdict on one element of a period: the tests that it has to pass, and what they find. The first that
+// it fails is the cause why it is passed over. What a finding brings is the crate element's. The star root is seldom
+// asked. So `judge` goes without it and says where it has to be asked, and `is_usual` has it at hand.
 ghost use mathlib.Core.Path.{_≡_};
 ghost use mathlib.Core.Bool.{true, false};
 ghost use Prim.Native.Nat.{_≤_};
-ghost use Rattle.definition.specs.Cov.{fStarBy, fInfBy, diffuseTest, scaledTest, bound, against, dust, passes};
+ghost use Rattle.definition.specs.Cov.{fStarBy, fInfBy, diffuseTest, scaledTest, bound, against, dust};
 ghost use Rattle.dense.specs.Views.{vec, mat};
 ghost use Rattle.star.specs.Views.{Sound, projectedAt};
-ghost use Rattle.acceptance.specs.Views.{dustOf, ByDust, Usually, Judged, UsualBy};
+ghost use Rattle.acceptance.specs.Views.{dustOf, ByDust, Usually, Judged, DustBy, UsualBy};
+use promise::Cause;
 
 // ---- the tolerances, by their names in the Rust
 
@@ -30,19 +31,25 @@ pub enum Dust {
     Suspect(f64),
 }
 
-// What is found of an element while the star root is not asked. A diffuse one has its F∞. A doubtful one, on which the
-// star root has to say, has its reference.
+// What is found of an element while the star root is not asked: nothing, and why. A diffuse one has its F∞. A doubtful
+// one, on which the star root has to say, has its reference.
 pub enum Finding {
-    Nothing,
+    Nothing(Cause),
     Usual,
     Diffuse(f64),
     Doubtful(f64),
 }
 
-// The star root was asked: whether the element is usual, with the root handed back.
+// What is found in a period that is not diffuse, the star root at hand.
+pub enum Found {
+    Nothing(Cause),
+    Usual,
+}
+
+// The star root was asked: what is found, with the root handed back.
 pub struct Asked {
     pub root: star::StarRoot,
-    pub usual: bool,
+    pub found: Found,
 }
 
 // F* = z' M* + h, or 0 where that is not above 0.
@@ -145,7 +152,7 @@ fn by_dust(d: Dust, live: bool) -> Finding
 {
     match d {
         Dust::Clear => Finding::Usual,
-        Dust::Below => Finding::Nothing,
+        Dust::Below => Finding::Nothing(Cause::BelowDust),
         Dust::Suspect(reference) => {
             if live {
                 return Finding::Usual;
@@ -155,7 +162,7 @@ fn by_dust(d: Dust, live: bool) -> Finding
     }
 }
 
-// Usual acceptance: both tests.
+// Usual acceptance: both tests, the scale first.
 fn usually(
     z: &[f64; 8],
     h: f64,
@@ -175,7 +182,7 @@ fn usually(
         let d = dust_test(z, h, pre, sd, fresh, f, m);
         return by_dust(d, live);
     }
-    Finding::Nothing
+    Finding::Nothing(Cause::TooSmall)
 }
 
 // Diffuse acceptance, or else usual. M∞ is written.
@@ -235,21 +242,32 @@ pub fn judge(
     usually(z, h, false, fresh, pre, sd, star, f, m)
 }
 
-// A suspect of a period that is not diffuse is accepted if the star root says so.
-fn passes(d: Dust, root: star::StarRoot, z: &[f64; 8], h: f64, m: usize) -> Asked
+// What the dust test finds, the star root at hand: a suspect is accepted if the root says so.
+fn by_root(d: Dust, root: star::StarRoot, z: &[f64; 8], h: f64, m: usize) -> Asked
     requires { ⌜ Sound m root ⌝ }
-    ensures { λ r. ⌜ (r .root ≡ root)
-        × (r .usual ≡ passes false (projectedAt root (vec m (now (z .entry))) h) (dustOf d)) ⌝ }
+    ensures { λ r. ⌜ (r .root ≡ root) × DustBy (projectedAt root (vec m (now (z .entry))) h) d (r .found) ⌝ }
 {
     match d {
-        Dust::Clear => Asked { root, usual: true },
-        Dust::Below => Asked { root, usual: false },
+        Dust::Clear => Asked {
+            root,
+            found: Found::Usual,
+        },
+        Dust::Below => Asked {
+            root,
+            found: Found::Nothing(Cause::BelowDust),
+        },
         Dust::Suspect(reference) => {
             let projected = root.project(z, h, m);
             let root = projected.root;
+            if projected.f > TOLERANCE_CANCEL * reference {
+                return Asked {
+                    root,
+                    found: Found::Usual,
+                };
+            }
             Asked {
                 root,
-                usual: projected.f > TOLERANCE_CANCEL * reference,
+                found: Found::Nothing(Cause::FailedReplay),
             }
         }
     }
@@ -268,12 +286,15 @@ pub fn is_usual(
 ) -> Asked
     requires { ⌜ Sound m root ⌝ }
     ensures { λ r. ⌜ (r .root ≡ root)
-        × UsualBy m (vec m (now (z .entry))) h false (mat m (now (pre .entry))) (vec m (now (sd .entry))) false
-        (projectedAt root (vec m (now (z .entry))) h) (mat m (now (star .entry))) f (r .usual) ⌝ }
+        × UsualBy m (vec m (now (z .entry))) h (mat m (now (pre .entry))) (vec m (now (sd .entry)))
+        (projectedAt root (vec m (now (z .entry))) h) (mat m (now (star .entry))) f (r .found) ⌝ }
 {
     if is_scaled(z, h, star, f, m) {
         let d = dust_test(z, h, pre, sd, false, f, m);
-        return passes(d, root, z, h, m);
+        return by_root(d, root, z, h, m);
     }
-    Asked { root, usual: false }
+    Asked {
+        root,
+        found: Found::Nothing(Cause::TooSmall),
+    }
 }

@@ -4,7 +4,7 @@ ghost use Rattle.promise.specs.Lent.{given, lent};
 ghost use Rattle.promise.specs.Exported.{isYes, places, FilteredC};
 
 #[no_mangle]
-pub extern "C" fn goxundar_filter_4<'a>(
+pub extern "C" fn goxundar_filter_5<'a>(
     p: usize,
     m: usize,
     r: usize,

@@ -5,7 +5,7 @@ ghost use Rattle.promise.specs.Exported.{isYes, places, SmoothedC};
 
 // The filter's call with two outputs more.
 #[no_mangle]
-pub extern "C" fn goxundar_smooth_4<'a>(
+pub extern "C" fn goxundar_smooth_5<'a>(
     p: usize,
     m: usize,
     r: usize,

@@ -5,7 +5,7 @@ ghost use Rattle.promise.specs.Lent.{given, lent, givenStretch, lentStretch};
 ghost use Rattle.promise.specs.Exported.{isYes, places, StretchedC};
 
 #[no_mangle]
-pub extern "C" fn goxundar_stretch_4<'a>(
+pub extern "C" fn goxundar_stretch_5<'a>(
     p: usize,
     m: usize,
     r: usize,

@@ -72,11 +72,12 @@ module _ (x : Model) (o : Offsets) (y : List Float) (w : CovParts) (w′ : MeanP
   offsets o′ y′ alike v′ other h h′ = seen.blind call other (offset.offsets x o o′ y y′ alike w w′ v′ (seen.admitted call h) (seen.admitted other h′))
 
   -- and a finite reading judged no news changes nothing: another finite number in its place leaves all as it was, a gap all but the count heard
+  -- and the cause in its record
   module _ (k : ℕ) (h : seen.NoNews y r b k) where
     pub number : (v : Float) → T (isFinite v) → {s : Outcome} {c : CovParts} {c′ : MeanParts} → Called x o (set y k v) w w′ s c c′ → seen.Same r s b c b′ c′
     number v f other = seen.same call other (sym (demand.no-news x o y w w′ k (seen.no-news call h) .number v f))
 
-    pub gap : {s : Outcome} {c : CovParts} {c′ : MeanParts} → Called x o (set y k nan) w w′ s c c′ → seen.OneLess r s × seen.SameParts b c b′ c′
+    pub gap : {s : Outcome} {c : CovParts} {c′ : MeanParts} → Called x o (set y k nan) w w′ s c c′ → seen.OneLess r s × seen.SameButCause k b c b′ c′
     gap other = let u = demand.no-news x o y w w′ k (seen.no-news call h) in seen.one-less call other h (u .gapCov) (u .gapMean)
 
 -- request g: T given once, and as a list of copies of it: n of them, or more. Both calls come back with the same, and leave the same

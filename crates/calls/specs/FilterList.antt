@@ -20,11 +20,11 @@ use Rattle.promise.specs.declared.Outcome.{Outcome}
 use Rattle.promise.specs.Calls.{Promise}
 use Rattle.filter.specs.Ends.{End}
 use Rattle.promise.specs.declared.Record.{Record}
-use Rattle.promise.specs.Records.{skippedRecord}
+use Rattle.promise.specs.Records.{gapRecord}
 use Rattle.promise.specs.WithRecords.{outcomeWithRecords, WithRecords}
 use Rattle.calls.specs.Seen as seen
 use Rattle.calls.specs.Filter as filter
-use Rattle.calls.specs.Lists.{RoomList, Short, SameVariances, with-room, short-so, short-blind, short-not, short-deaf, either-way, refuses-list, list-keeps, list-blanked, list-same, list-blind}
+use Rattle.calls.specs.Lists.{RoomList, Short, SameVariances, with-room, short-so, short-blind, short-not, short-deaf, either-way, refuses-list, list-keeps, list-blanked, list-same, list-gap, list-blind}
 
 -- where the list has room, it is the filter's call
 module _ {x : Model} {o : Offsets} {y : List Float} {w : CovParts} {w′ : MeanParts} {old : List Record} {r : Outcome} {b : CovParts} {b′ : MeanParts} {new : List Record} (call : WithRecords x o y w w′ old r b b′ new) where
@@ -47,7 +47,7 @@ module _ (x : Model) (o : Offsets) (y : List Float) (w : CovParts) (w′ : MeanP
     list-keeps (call .promise) _ old (call .told) k l h e,
   )
 
-  pub blanked : seen.refusalOf r ≡ 12 → seen.BlankParts x w b w′ b′ × Blanked (kindsNeed x) skippedRecord old new
+  pub blanked : seen.refusalOf r ≡ 12 → seen.BlankParts x w b w′ b′ × Blanked (kindsNeed x) gapRecord old new
   unfolding kindsNeed
   blanked e =
       either-way x old
@@ -75,14 +75,19 @@ module _ (x : Model) (o : Offsets) (y : List Float) (w : CovParts) (w′ : MeanP
   pub offsets : (o′ : Offsets) (y′ : List Float) → demand.Alike y y′ → (v′ : MeanParts) → {s : Outcome} {c : CovParts} {c′ : MeanParts} {also : List Record} → WithRecords x o′ y′ w v′ old s c c′ also → seen.Admitted r → seen.Admitted s → seen.Blind r s b c × SameVariances new also
   offsets o′ y′ alike v′ other h h′ = with-list other (either-way x old (λ t. filter.offsets x o y w w′ (enough call t) o′ y′ alike v′ (enough other t) h h′) (λ t. absurd (short-not (short call t) h)))
 
-  -- and no news changes no record of it
+  -- and no news changes no record of it; a gap there, the cause in its own
   module _ (k : ℕ) (h : seen.NoNews y r b k) where
     pub number : (v : Float) → T (isFinite v) → {s : Outcome} {c : CovParts} {c′ : MeanParts} {also : List Record} → WithRecords x o (set y k v) w w′ old s c c′ also → seen.Same r s b c b′ c′ × (new ≡ also)
     number v f other =
         let z = either-way x old (λ t. filter.number x o y w w′ (enough call t) k h v f (enough other t)) (λ t. absurd (short-deaf (short call t) h)) in
         (z, list-same (call .promise) _ old (call .told) (other .promise) (other .told) (ap seen.refusalOf (z .results)) (z .parts))
 
-    pub gap : {s : Outcome} {c : CovParts} {c′ : MeanParts} {also : List Record} → WithRecords x o (set y k nan) w w′ old s c c′ also → seen.OneLess r s × seen.SameParts b c b′ c′ × (new ≡ also)
+    pub gap : {s : Outcome} {c : CovParts} {c′ : MeanParts} {also : List Record} → WithRecords x o (set y k nan) w w′ old s c c′ also → seen.OneLess r s × seen.SameButCause k b c b′ c′ × (also ≡ set new k gapRecord)
+    unfolding kindsNeed
     gap other =
-        let z = either-way x old (λ t. filter.gap x o y w w′ (enough call t) k h (enough other t)) (λ t. absurd (short-deaf (short call t) h)) in
-        (z .0, z .1, list-same (call .promise) _ old (call .told) (other .promise) (other .told) (sym (z .0 .refusals)) (z .1))
+        either-way x old
+        (λ t.
+        let z = filter.gap x o y w w′ (enough call t) k h (enough other t) in
+        let place = demand.no-news x o y w w′ k (seen.no-news (enough call t) h) .place in
+        (z .0, z .1, list-gap (call .promise) _ old (call .told) (other .promise) (other .told) (sym (z .0 .refusals)) k (z .1) (seen.answers (call .promise) h) place (leb-true _ _ t) (seen.judged h)))
+        (λ t. absurd (short-deaf (short call t) h))

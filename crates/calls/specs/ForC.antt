@@ -1,5 +1,5 @@
 -- The exported calls leave no room: two results that a promise allows coincide, the number, the answer's places and every lent part, tails included.
--- That every call keeps the promise is the contract of `c_filter::goxundar_filter_2`, `c_smooth::goxundar_smooth_2` and `c_stretch::goxundar_stretch_2`.
+-- That every call keeps the promise is the contract of the exported function of c_filter, of c_smooth and of c_stretch.
 use mathlib.Core.Path.{_≡_, sym, ap, _∙_}
 use Prim.Native.Nat.{ℕ}
 use Rattle.definition.specs.Outcome.{CovOutcome, MeanOutcome}

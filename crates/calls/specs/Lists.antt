@@ -3,19 +3,22 @@
 use mathlib.Core.Path.{_≡_, refl, sym, ap, ap₂, _∙_, subst}
 use mathlib.Core.Logic.{_↔_, inl, inr, ⊎-elim}
 use Prim.Native.Nat.{ℕ, zero, suc, min, _≤_, _<_}
+use native.Mathlib.Nat.{zero-add}
 use native.Mathlib.Omega.{arith}
 use mathlib.Core.Bool.{Bool, true, false, _&&_, cond}
 use mathlib.Core.List.{List, [], _∷_, _++_, map, map-append}
-use lib.ListN.{length, drop, length-replicate}
+use lib.ListN.{length, set, drop, length-replicate}
+use lib.Seq.{getD-set-same, getD-set-other}
 use lib.Dec.{leb, eqb}
 use lib.Ieee.{Float}
 use borrow.Author.Tests.{leb-true, leb-false, lt-leb, ne-eqb}
 use Rattle.definition.specs.Num.{0ᶠ, tabFrom}
+use Rattle.definition.specs.Run.{lay}
 use Rattle.definition.specs.Inputs.{Model, Offsets, classOf}
 use Rattle.definition.specs.Refusals.{outside, badLength, refusal, tests, firstOf}
 use Rattle.definition.specs.Parts.{fStar, fInf, innovations}
 use Rattle.definition.specs.Outcome.{CovParts, MeanParts, CovOutcome, MeanOutcome, Counts, Ending, turned, ending, endingOf, numberOf, after, countsIn, reportIn, kindsNeed, roomy, covOutcome, meanOutcome, outcome, outcomeAt}
-use Rattle.laws.specs.Lists.{length-tab, tab-cong}
+use Rattle.laws.specs.Lists.{length-tab, tab-cong, tab-set, lay-set}
 use Rattle.demands.specs.Conditions.{Lengths, Room, table, First}
 use Rattle.demands.specs.Refusals as refusals
 use Rattle.demands.specs.Refusals.{Blanked}
@@ -26,7 +29,7 @@ use Rattle.filter.specs.Ends.{End}
 use Rattle.promise.specs.declared.Kind.{Kind}
 use Rattle.promise.specs.declared.Kind.the-variants.{Skipped, Usual, Diffuse}
 use Rattle.promise.specs.declared.Record.{Record}
-use Rattle.promise.specs.Records.{skippedRecord, kindFrom, recordAt, recordsOf, filled}
+use Rattle.promise.specs.Records.{gapRecord, kindFrom, recordAt, recordsOf, filled}
 use Rattle.record.specs.Written.{records-blank, filled-all}
 use Rattle.promise.specs.WithRecords.{endingWithRecords, toTell, toldBy}
 use Rattle.demands.specs.Offsets as offset
@@ -180,7 +183,7 @@ refuses-list x o y w w′ {Flat = Flat} old k enough short =
 
 -- a record but for its v, and the lists of two calls whose records have the same kinds and variances
 abbrev pub kindButV : Kind → Kind
-kindButV Skipped = Skipped
+kindButV (Skipped c) = Skipped c
 kindButV (Usual v f) = Usual 0ᶠ f
 kindButV (Diffuse v f f∞) = Diffuse 0ᶠ f f∞
 
@@ -218,7 +221,10 @@ module _ (kinds : List ℕ) (vs us fs f∞s : List Float) where
   unfolding kindFrom
   of-kind zero v u f f∞ = refl
   of-kind (suc zero) v u f f∞ = refl
-  of-kind (suc (suc n)) v u f f∞ = refl
+  of-kind (suc (suc zero)) v u f f∞ = refl
+  of-kind (suc (suc (suc zero))) v u f f∞ = refl
+  of-kind (suc (suc (suc (suc zero)))) v u f f∞ = refl
+  of-kind (suc (suc (suc (suc (suc n))))) v u f f∞ = refl
 
   at-place : (k : ℕ) → butV (recordAt kinds vs fs f∞s k) ≡ butV (recordAt kinds us fs f∞s k)
   unfolding recordAt
@@ -242,6 +248,30 @@ module _ (kinds : List ℕ) (vs us fs f∞s : List Float) where
       ∙ ap₂ (λ (a b : List Record). a ++ b) (at-all n) (ap (λ (j : ℕ). map butV (drop j old)) (long n))
       ∙ sym (map-append butV m (drop (length m) old))
 
+-- a gap in the kinds is a gap among the records
+module _ (vs fs f∞s : List Float) (j : ℕ) (kinds : List ℕ) where
+  record-gap : j < length kinds → recordAt (set kinds j 0) vs fs f∞s j ≡ gapRecord
+  unfolding recordAt kindFrom
+  record-gap h = rw (getD-set-same kinds j 0 0 h) refl
+
+  record-else : (i : ℕ) → (i ≡ j → ⊥) → recordAt (set kinds j 0) vs fs f∞s i ≡ recordAt kinds vs fs f∞s i
+  unfolding recordAt
+  record-else i h = rw (getD-set-other kinds j i 0 0 h) refl
+
+  records-gap : (n : ℕ) → j < n → j < length kinds → recordsOf n (set kinds j 0) vs fs f∞s ≡ set (recordsOf n kinds vs fs f∞s) j gapRecord
+  unfolding recordsOf
+  records-gap n h g =
+      tab-set n 0 j (recordAt kinds vs fs f∞s) (recordAt (set kinds j 0) vs fs f∞s) h (λ i q. record-else i (λ e. q (e ∙ sym (zero-add j))))
+      ∙ ap (λ (a : Record). set (tabFrom 0 n (recordAt kinds vs fs f∞s)) j a) (ap (recordAt (set kinds j 0) vs fs f∞s) (zero-add j) ∙ record-gap g)
+
+  filled-gap : (k : ℕ) (old : List Record) → j < k → k ≤ length old → j < length kinds → filled k (set kinds j 0) vs fs f∞s old ≡ set (filled k kinds vs fs f∞s old) j gapRecord
+  unfolding recordsOf
+  filled-gap k old h l g =
+      filled-all k (set kinds j 0) vs fs f∞s old l
+      ∙ ap (λ (w : List Record). lay w old) (records-gap k h g)
+      ∙ lay-set (recordsOf k kinds vs fs f∞s) old j gapRecord (rw length-tab h)
+      ∙ ap (λ (w : List Record). set w j gapRecord) (sym (filled-all k kinds vs fs f∞s old l))
+
 module _ {u : CovOutcome × MeanOutcome} {r : Outcome} {b : CovParts} {b′ : MeanParts} (p : Promise u r b b′) (k : ℕ) (old : List Record) {new : List Record} (told : new ≡ toldBy k r b b′ old) where
   pub list-keeps : (n : ℕ) → 0 < n → (n ≡ 12 → ⊥) → seen.refusalOf r ≡ n → new ≡ old
   unfolding recordsOf tabFrom
@@ -250,8 +280,8 @@ module _ {u : CovOutcome × MeanOutcome} {r : Outcome} {b : CovParts} {b′ : Me
       ∙ ap (λ (j : ℕ). filled j (b .kinds) (b′ innovations) (b .part fStar) (b .part fInf) old) (tells p k ∙ ap (λ (j : ℕ). tellsBy j k) e ∙ none-told n k l h)
       ∙ filled-all 0 (b .kinds) (b′ innovations) (b .part fStar) (b .part fInf) old (omega arith)
 
-  -- 12: skipped records, k of them, and the rest as it was
-  pub list-blanked : (ks : List ℕ) → Blanked k 0 ks (b .kinds) → seen.refusalOf r ≡ 12 → k ≤ length old → Blanked k skippedRecord old new
+  -- 12: records of gaps, k of them, and the rest as it was
+  pub list-blanked : (ks : List ℕ) → Blanked k 0 ks (b .kinds) → seen.refusalOf r ≡ 12 → k ≤ length old → Blanked k gapRecord old new
   list-blanked ks z e l =
       told
       ∙ ap (λ (j : ℕ). filled j (b .kinds) (b′ innovations) (b .part fStar) (b .part fInf) old) (tells p k ∙ ap (λ (j : ℕ). tellsBy j k) e)
@@ -265,6 +295,15 @@ module _ {u : CovOutcome × MeanOutcome} {r : Outcome} {b : CovParts} {b′ : Me
 
     pub list-same : seen.SameParts b c b′ c′ → new ≡ also
     list-same h = told ∙ rw (as-many, h .covs .kinds, h .means innovations, h .covs .covs fStar, h .covs .covs fInf) refl ∙ sym told-too
+
+    -- a gap at place j: the record there is that of a gap
+    pub list-gap : (j : ℕ) → seen.SameButCause j b c b′ c′ → seen.refusalOf r ≡ 0 → j < k → k ≤ length old → j < length (b .kinds) → also ≡ set new j gapRecord
+    list-gap j h e j<k l j<b =
+        let tells-all = tells p k ∙ ap (λ (n : ℕ). tellsBy n k) e in
+        told-too
+        ∙ rw (sym as-many, tells-all, h .kinds, sym (h .means innovations), sym (h .covs fStar), sym (h .covs fInf)) refl
+        ∙ filled-gap (b′ innovations) (b .part fStar) (b .part fInf) j (b .kinds) k old j<k l j<b
+        ∙ ap (λ (l : List Record). set l j gapRecord) (sym (told ∙ ap (λ (n : ℕ). filled n (b .kinds) (b′ innovations) (b .part fStar) (b .part fInf) old) tells-all))
 
     pub list-blind : seen.SameCovs b c → SameVariances new also
     list-blind h =

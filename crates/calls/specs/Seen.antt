@@ -1,12 +1,12 @@
 -- What a caller sees of a call, and what a promise of the filter's parts says of two calls. Filter and Smooth have the theorems on the two calls,
 -- FilterList and SmoothList on those with a list of records, Stretch on a stretch's.
 use mathlib.Core.Path.{_≡_, refl, sym, ap, ap₂, _∙_, subst}
-use Prim.Native.Nat.{ℕ, zero, suc, _<_}
+use Prim.Native.Nat.{ℕ, zero, suc, _+_, _<_}
 use native.Mathlib.Omega.{arith}
 use mathlib.Core.Bool.{not}
-use mathlib.Core.List.{List}
-use lib.ListN.{getD, take}
-use lib.Dec.{T, eqb, ltb}
+use mathlib.Core.List.{List, [], _∷_}
+use lib.ListN.{length, getD, set}
+use lib.Dec.{T, ltb}
 use lib.Ieee.{Float, isNan}
 use Rattle.definition.specs.Num.{0ᶠ, isFinite, at}
 use Rattle.definition.specs.Run.{count}
@@ -16,12 +16,14 @@ use Rattle.definition.specs.Reports.{firstFrom, toldBefore}
 use Rattle.definition.specs.Inputs.{Model}
 use Rattle.definition.specs.Outcome.{CovParts, MeanParts, Counts, CovOutcome, MeanOutcome, kindsNeed, covNeed, meanNeed}
 use Rattle.laws.specs.Reports.{Names, first-names}
+use Rattle.laws.specs.Kinds.{ofKind}
 use Rattle.demands.specs.Refusals.{Blanked, Blank}
 use Rattle.demands.specs.Reports as report
 use Rattle.demands.specs.Reports.{covSeen, meanSeen}
 use Rattle.demands.specs.Values as values
 use Rattle.demands.specs.Offsets as offset
 use Rattle.demands.specs.Unheard.{noPeriod}
+use Rattle.demands.specs.Recorded.{records, Recorded, AllGaps, all-gaps}
 use Rattle.demands.specs.Totals as total
 use Rattle.demands.specs.Totals.{periodsOf}
 use Rattle.promise.specs.declared.Answer.{Answer}
@@ -63,6 +65,12 @@ pub record SameParts (b c : CovParts) (b′ c′ : MeanParts) : Type 0 where
   pub covs : SameCovs b c
   pub means : (q : MeanPart) → b′ q ≡ c′ q
 
+-- the same, but for the cause in the record at place k: in the second it is gap
+pub record SameButCause (k : ℕ) (b c : CovParts) (b′ c′ : MeanParts) : Type 0 where
+  pub kinds : c .kinds ≡ set (b .kinds) k 0
+  pub covs : (q : CovPart) → b .part q ≡ c .part q
+  pub means : (q : MeanPart) → b′ q ≡ c′ q
+
 -- demand 1, refusal 12: of each part, lent as w or w′, the stretch that a run needs is blank, and the tail is as it was
 pub record BlankParts (x : Model) (w b : CovParts) (w′ b′ : MeanParts) : Type 0 where
   pub kinds : Blanked (kindsNeed x) 0 (w .kinds) (b .kinds)
@@ -77,11 +85,11 @@ pub record Blind (r s : Outcome) (b c : CovParts) : Type 0 where
   pub covOff : covOffOf r ≡ covOffOf s
   pub parts : SameCovs b c
 
--- demand 3, second half: a call that was answered, with news somewhere, judged the finite reading at place k of y no news
+-- demand 3, second half: a call that was answered, with news somewhere, judged the finite reading at place k of y no news: its record is 3, 4 or 5
 pub record NoNews (y : List Float) (r : Outcome) (b : CovParts) (k : ℕ) : Type 0 where
   pub read : T (isFinite (at y k))
   pub news : 0 < countsOf r .news
-  pub skip : getD (b .kinds) k 9 ≡ 0
+  pub skip : 2 < getD (b .kinds) k 0
 
 -- the second answer is the first but for the count of readings heard, which is one less
 pub record OneLess (r s : Outcome) : Type 0 where
@@ -93,10 +101,12 @@ pub record OneLess (r s : Outcome) : Type 0 where
   pub covOff : covOffOf s ≡ covOffOf r
   pub meanOff : meanOffOf s ≡ meanOffOf r
 
--- the counts of an answered call, over its readings, the kinds that it left and the periods of its run: the diffuse ones are the first
+-- the counts of an answered call, over its readings, the kinds that it left and the periods of its run: the diffuse ones are the first. The six kinds
+-- add up to n p, and gap stands exactly where the reading is NaN
 pub record Totals (x : Model) (y : List Float) (r : Outcome) (b : CovParts) : Type 0 where
   pub heard : countsOf r .heard ≡ count (λ (v : Float). not (isNan v)) y
-  pub news : countsOf r .news ≡ count (λ (k : ℕ). not (eqb k 0)) (take (kindsNeed x) (b .kinds))
+  pub news : countsOf r .news ≡ ofKind 1 (records x (b .kinds)) + ofKind 2 (records x (b .kinds))
+  pub recorded : Recorded x y (b .kinds)
   pub dDiffuse : countsOf r .dDiffuse ≡ count (λ (c : CovPeriod). c .diffuse) (periodsOf x y)
   pub firsts : (t : ℕ) → t < x .n → getD (periodsOf x y) t noPeriod .diffuse ≡ ltb t (countsOf r .dDiffuse)
 
@@ -109,6 +119,16 @@ pub record Reported (x : Model) (t k l : ℕ) (r : Outcome) (b : CovParts) (b′
 pub record Named (x : Model) (r : Outcome) (b : CovParts) (b′ : MeanParts) : Type 0 where
   pub cov : Names 0 (covOffOf r) (covSeen x b)
   pub mean : Names 0 (meanOffOf r) (meanSeen x b′)
+
+-- ---- what is judged has its place among the kinds
+
+judged-at : (l : List ℕ) (k : ℕ) → 2 < getD l k 0 → k < length l
+judged-at [] k h = absurd (omega arith)
+judged-at (x ∷ l) zero h = omega arith
+judged-at (x ∷ l) (suc k) h = let ih = judged-at l k h in omega arith
+
+pub judged : {y : List Float} {r : Outcome} {b : CovParts} {k : ℕ} → NoNews y r b k → k < length (b .kinds)
+judged {b = b} {k} h = judged-at (b .kinds) k (h .skip)
 
 -- ---- through the promise
 
@@ -185,24 +205,32 @@ module _ {u : CovOutcome × MeanOutcome} {r : Outcome} {b : CovParts} {b′ : Me
   pub blanks : {x : Model} {w : CovParts} {w′ : MeanParts} → Blank x w w′ u → BlankParts x w b w′ b′
   blanks z = record { kinds = p .kinds ∙ z .kinds; covs = λ q. p .cov q ∙ z .covs q; means = λ q. p .mean q ∙ z .means q }
 
+  -- on 12 every record is a gap, and the six kinds add up to n p
+  pub blank-records : {x : Model} {w : CovParts} {w′ : MeanParts} → BlankParts x w b w′ b′ → AllGaps x (b .kinds)
+  blank-records {x} {w} z = all-gaps x (w .kinds) (b .kinds) (z .kinds)
+
   pub no-news : {y : List Float} {k : ℕ} → NoNews y r b k → values.NoNews y (u .0) k
   no-news {y} {k} h =
       record {
         read = h .read;
         news = news-by (u .0 .refused) (u .0 .counts) (subst (λ (z : Counts). 0 < z .news) counts-are (h .news)) .1;
-        skip = ap (λ (z : List ℕ). getD z k 9) (sym (p .kinds)) ∙ h .skip;
+        skip = subst (λ (z : List ℕ). 2 < getD z k 0) (p .kinds) (h .skip);
       }
 
   answered : {y : List Float} {k : ℕ} → NoNews y r b k → u .0 .refused ≡ 0
   answered h = news-by (u .0 .refused) (u .0 .counts) (subst (λ (z : Counts). 0 < z .news) counts-are (h .news)) .0
 
+  pub answers : {y : List Float} {k : ℕ} → NoNews y r b k → refusalOf r ≡ 0
+  answers h = refusal-is ∙ answered h
+
   pub totals : {x : Model} {y : List Float} → refusalOf r ≡ 0 → (u .0 .refused ≡ 0 → total.Totals x y (u .0)) → Totals x y r b
-  totals {x} e t =
+  totals {x} {y} e t =
       let z : u .0 .refused ≡ 0 = sym refusal-is ∙ e in
       let c : countsOf r ≡ u .0 .counts = counts-are ∙ ap (λ (n : ℕ). countsBy n (u .0 .counts)) z in
       record {
         heard = ap (λ (l : Counts). l .heard) c ∙ t z .heard;
-        news = ap (λ (l : Counts). l .news) c ∙ t z .news ∙ ap (λ (l : List ℕ). count (λ (k : ℕ). not (eqb k 0)) (take (kindsNeed x) l)) (sym (p .kinds));
+        news = ap (λ (l : Counts). l .news) c ∙ t z .news ∙ ap (λ (l : List ℕ). ofKind 1 (records x l) + ofKind 2 (records x l)) (sym (p .kinds));
+        recorded = subst (Recorded x y) (sym (p .kinds)) (t z .recorded);
         dDiffuse = ap (λ (l : Counts). l .dDiffuse) c ∙ t z .dDiffuse;
         firsts = λ i l. t z .firsts i l ∙ ap (λ (k : Counts). ltb i (k .dDiffuse)) (sym c);
       }
@@ -267,9 +295,9 @@ module _ {u v : CovOutcome × MeanOutcome} {r s : Outcome} {b c : CovParts} {b�
             };
       }
 
-  -- of outcomes that differ in the count heard alone, the first answered
-  pub one-less-of : u .0 .refused ≡ 0 → values.OneLess (u .0) (v .0) → v .1 ≡ u .1 → OneLess r s × SameParts b c b′ c′
-  one-less-of ur d e =
+  -- of outcomes that differ in the count heard and in one cause alone, the first answered
+  pub one-less-of : {k : ℕ} → u .0 .refused ≡ 0 → values.OneLess (u .0) (v .0) k → v .1 ≡ u .1 → OneLess r s × SameButCause k b c b′ c′
+  one-less-of {k} ur d e =
       let vr : v .0 .refused ≡ 0 = d .refusals ∙ ur in
       let cr : countsOf r ≡ u .0 .counts = counts-are p ∙ ap (λ (n : ℕ). countsBy n (u .0 .counts)) ur in
       let cs : countsOf s ≡ v .0 .counts = counts-are q ∙ ap (λ (n : ℕ). countsBy n (v .0 .counts)) vr in (
@@ -283,14 +311,11 @@ module _ {u v : CovOutcome × MeanOutcome} {r s : Outcome} {b c : CovParts} {b�
           meanOff = mean-off-is q ∙ ap₂ (λ (n : ℕ) (z : MeanOutcome). reportBy n (z .meanOff)) (d .refusals) e ∙ sym (mean-off-is p);
         },
         record {
-          covs =
-              record {
-                kinds = p .kinds ∙ ap (λ (z : CovParts). z .kinds) (sym (d .parts)) ∙ sym (q .kinds);
-                covs = λ k. p .cov k ∙ ap (λ (z : CovParts). z .part k) (sym (d .parts)) ∙ sym (q .cov k);
-              };
-          means = λ k. p .mean k ∙ ap (λ (z : MeanOutcome). z .parts k) (sym e) ∙ sym (q .mean k);
+          kinds = q .kinds ∙ d .kinds ∙ ap (λ (l : List ℕ). set l k 0) (sym (p .kinds));
+          covs = λ j. p .cov j ∙ sym (d .covs j) ∙ sym (q .cov j);
+          means = λ j. p .mean j ∙ ap (λ (z : MeanOutcome). z .parts j) (sym e) ∙ sym (q .mean j);
         },
       )
 
-  pub one-less : {y : List Float} {k : ℕ} → NoNews y r b k → values.OneLess (u .0) (v .0) → v .1 ≡ u .1 → OneLess r s × SameParts b c b′ c′
+  pub one-less : {y : List Float} {k : ℕ} → NoNews y r b k → values.OneLess (u .0) (v .0) k → v .1 ≡ u .1 → OneLess r s × SameButCause k b c b′ c′
   one-less h = one-less-of (answered p h)

@@ -96,12 +96,12 @@ module _ (x : Model) (o : Offsets) (y : List Float) (w : CovParts) (w′ : MeanP
   pub offsets : (o′ : Offsets) (y′ : List Float) → demand.Alike y y′ → (v′ : MeanParts) (sn : List Float) → {s : Outcome} {c : CovParts} {c′ : MeanParts} {sm″ sc″ : List Float} → Called x o′ y′ w v′ sn sc s c c′ sm″ sc″ → seen.Admitted r → seen.Admitted s → seen.Blind r s b c × (sc′ ≡ sc″)
   offsets o′ y′ alike v′ sn other h h′ = blind call other (offset.offsets-smooth x o o′ y y′ alike w w′ v′ sm sn sc (seen.admitted (call .filter) h) (seen.admitted (other .filter) h′))
 
-  -- and no news changes none of the thirteen parts
+  -- and no news changes none of the thirteen parts; a gap there, the cause in its record
   module _ (k : ℕ) (h : seen.NoNews y r b k) where
     pub number : (v : Float) → T (isFinite v) → {s : Outcome} {c : CovParts} {c′ : MeanParts} {sm″ sc″ : List Float} → Called x o (set y k v) w w′ sm sc s c c′ sm″ sc″ → Same r s b c b′ c′ sm′ sm″ sc′ sc″
     number v f other = same call other (sym (demand.no-news-smooth x o y w w′ sm sc k (seen.no-news (call .filter) h) .number v f))
 
-    pub gap : {s : Outcome} {c : CovParts} {c′ : MeanParts} {sm″ sc″ : List Float} → Called x o (set y k nan) w w′ sm sc s c c′ sm″ sc″ → seen.OneLess r s × seen.SameParts b c b′ c′ × (sm′ ≡ sm″) × (sc′ ≡ sc″)
+    pub gap : {s : Outcome} {c : CovParts} {c′ : MeanParts} {sm″ sc″ : List Float} → Called x o (set y k nan) w w′ sm sc s c c′ sm″ sc″ → seen.OneLess r s × seen.SameButCause k b c b′ c′ × (sm′ ≡ sm″) × (sc′ ≡ sc″)
     gap other =
         let u = demand.no-news-smooth x o y w w′ sm sc k (seen.no-news (call .filter) h) in
         let l = seen.one-less (call .filter) (other .filter) h (u .gapCov) (ap (λ (z : SmoothedMean). z .filter) (u .gapMean)) in

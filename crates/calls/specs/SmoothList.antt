@@ -19,11 +19,11 @@ use Rattle.demands.specs.Values as demand
 use Rattle.promise.specs.declared.Outcome.{Outcome}
 use Rattle.promise.specs.Calls.{PromiseSmooth}
 use Rattle.promise.specs.declared.Record.{Record}
-use Rattle.promise.specs.Records.{skippedRecord}
+use Rattle.promise.specs.Records.{gapRecord}
 use Rattle.promise.specs.WithRecords.{smoothOutcomeWithRecords, WithRecordsSmooth}
 use Rattle.calls.specs.Seen as seen
 use Rattle.calls.specs.Smooth as smooth
-use Rattle.calls.specs.Lists.{RoomList, Short, SameVariances, with-room, without-room, short-so, short-blind, short-not, short-deaf, either-way, refuses-list, list-keeps, list-blanked, list-same, list-blind}
+use Rattle.calls.specs.Lists.{RoomList, Short, SameVariances, with-room, without-room, short-so, short-blind, short-not, short-deaf, either-way, refuses-list, list-keeps, list-blanked, list-same, list-gap, list-blind}
 
 -- where the list has room, it is the smoother's call; else all is as it was
 module _ {x : Model} {o : Offsets} {y : List Float} {w : CovParts} {w′ : MeanParts} {sm sc : List Float} {old : List Record} {r : Outcome} {b : CovParts} {b′ : MeanParts} {sm′ sc′ : List Float} {new : List Record} (call : WithRecordsSmooth x o y w w′ sm sc old r b b′ sm′ sc′ new) where
@@ -57,7 +57,7 @@ module _ (x : Model) (o : Offsets) (y : List Float) (w : CovParts) (w′ : MeanP
       (z .0, z .1, z .2, list-keeps (call .promise .filter) _ old (call .told) k l h e)
 
   pub blanked : seen.refusalOf r ≡ 12
-      → seen.BlankParts x w b w′ b′ × Blanked (smoothedMeanNeed x) 0ᶠ sm sm′ × Blanked (smoothedCovNeed x) 0ᶠ sc sc′ × Blanked (kindsNeed x) skippedRecord old new
+      → seen.BlankParts x w b w′ b′ × Blanked (smoothedMeanNeed x) 0ᶠ sm sm′ × Blanked (smoothedCovNeed x) 0ᶠ sc sc′ × Blanked (kindsNeed x) gapRecord old new
   unfolding kindsNeed
   blanked e =
       either-way x old
@@ -103,7 +103,13 @@ module _ (x : Model) (o : Offsets) (y : List Float) (w : CovParts) (w′ : MeanP
         (z, list-same (call .promise .filter) _ old (call .told) (other .promise .filter) (other .told) (ap seen.refusalOf (z .filter .results)) (z .filter .parts))
 
     pub gap : {s : Outcome} {c : CovParts} {c′ : MeanParts} {sm″ sc″ : List Float} {also : List Record}
-        → WithRecordsSmooth x o (set y k nan) w w′ sm sc old s c c′ sm″ sc″ also → seen.OneLess r s × seen.SameParts b c b′ c′ × (sm′ ≡ sm″) × (sc′ ≡ sc″) × (new ≡ also)
+        → WithRecordsSmooth x o (set y k nan) w w′ sm sc old s c c′ sm″ sc″ also → seen.OneLess r s × seen.SameButCause k b c b′ c′ × (sm′ ≡ sm″) × (sc′ ≡ sc″) × (also ≡ set new k gapRecord)
+    unfolding kindsNeed
     gap other =
-        let z = either-way x old (λ t. smooth.gap x o y w w′ sm sc (enough call t) k h (enough other t)) (λ t. absurd (short-deaf (short call t) h)) in
-        (z .0, z .1, z .2, z .3, list-same (call .promise .filter) _ old (call .told) (other .promise .filter) (other .told) (sym (z .0 .refusals)) (z .1))
+        either-way x old
+        (λ t.
+        let z = smooth.gap x o y w w′ sm sc (enough call t) k h (enough other t) in
+        let place = demand.no-news-smooth x o y w w′ sm sc k (seen.no-news (enough call t .filter) h) .place in
+        let p = call .promise .filter in
+        (z .0, z .1, z .2, z .3, list-gap p _ old (call .told) (other .promise .filter) (other .told) (sym (z .0 .refusals)) k (z .1) (seen.answers p h) place (leb-true _ _ t) (seen.judged h)))
+        (λ t. absurd (short-deaf (short call t) h))

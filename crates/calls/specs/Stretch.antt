@@ -26,6 +26,7 @@ use Rattle.laws.specs.AcceptedStretch.{Ready, resume}
 use Rattle.laws.specs.AcceptedStretch as accepted
 use Rattle.demands.specs.Conditions.{SomeShort, First}
 use Rattle.demands.specs.Values.{Alike}
+use Rattle.demands.specs.Recorded.{Recorded, recorded-stretch}
 use Rattle.demands.specs.Reports as report
 use Rattle.demands.specs.WholeStretch.{start}
 use Rattle.demands.specs.WholeStretch as alone
@@ -72,7 +73,7 @@ Through r = (seen.refusalOf r ≡ 0) ⊎ (seen.refusalOf r ≡ 12)
 pub record NoNews (y : List Float) (last : Bool) (r : Outcome) (b : CovParts) (k : ℕ) : Type 0 where
   pub read : T (isFinite (at y k))
   pub answers : seen.refusalOf r ≡ 0
-  pub skip : getD (b .kinds) k 9 ≡ 0
+  pub skip : 2 < getD (b .kinds) k 0
   pub news : (0 < seen.countsOf r .news) ⊎ (last ≡ false)
 
 module _ (x : Model) (o : Offsets) (w : From) (last : Bool) (y : List Float) (v : CovParts) (v′ : MeanParts) (save : List ℕ) {r : Outcome} {b : CovParts} {b′ : MeanParts} {save′ : List ℕ} (call : Called x o w last y v v′ save r b b′ save′) where
@@ -112,6 +113,10 @@ module _ (x : Model) (o : Offsets) (w : From) (last : Bool) (y : List Float) (v 
   pub determined : {s : Outcome} {c : CovParts} {c′ : MeanParts} {save″ : List ℕ} → Called x o w last y v v′ save s c c′ save″ → Same r s b c b′ c′ save′ save″
   determined other = same call other refl
 
+  -- the kinds in the records that it left
+  pub recorded : seen.refusalOf r ≡ 0 → Recorded x y (b .kinds)
+  recorded e = subst (Recorded x y) (sym (call .filter .kinds)) (recorded-stretch x o w last y v v′ save (number-is 0 e))
+
   -- the reports: what was told before stays, and else they name what stands in the parts; the periods count from the run's first
   pub reports : seen.refusalOf r ≡ 0 → seen.Reported x (pastIn x w .done) (pastIn x w .covOff) (meanToldIn x w) r b b′
   reports e = seen.reported (call .filter) e (report.reports-stretch x o w last y v v′ save)
@@ -150,16 +155,16 @@ module _ (x : Model) (o : Offsets) (w : From) (last : Bool) (y : List Float) (v 
         record {
           read = h .read;
           answers = e;
-          skip = ap (λ (l : List ℕ). getD l k 9) (sym (call .filter .kinds)) ∙ h .skip;
+          skip = subst (λ (l : List ℕ). 2 < getD l k 0) (call .filter .kinds) (h .skip);
           news = subst (λ (l : Counts). (0 < l .news) ⊎ (last ≡ false)) n (h .news);
         }
 
     pub number : (f : Float) → T (isFinite f) → {s : Outcome} {c : CovParts} {c′ : MeanParts} {save″ : List ℕ} → Called x o w last (set y k f) v v′ save s c c′ save″ → Same r s b c b′ c′ save′ save″
     number f t other = same call other (sym (unheard.no-news x o w last y v v′ save k unmoved .number f t))
 
-    -- a gap there leaves all but the count heard
+    -- a gap there leaves all but the count heard and the cause in its record
     module _ {s : Outcome} {c : CovParts} {c′ : MeanParts} {save″ : List ℕ} (other : Called x o w last (set y k nan) v v′ save s c c′ save″) where
-      pub gap : seen.OneLess r s × seen.SameParts b c b′ c′
+      pub gap : seen.OneLess r s × seen.SameButCause k b c b′ c′
       gap = let u = unheard.no-news x o w last y v v′ save k unmoved in seen.one-less-of (call .filter) (other .filter) (number-is 0 (h .answers)) (u .gapCov) (u .gapMean)
 
       -- in what is saved too

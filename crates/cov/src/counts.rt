@@ -1,4 +1,4 @@
-// The counts: readings that are not NaN, and records that are not skipped.
+// The counts: readings that are not NaN, and records that are news.
 ghost use mathlib.Core.Path.{_≡_};
 ghost use mathlib.Core.List.{map};
 ghost use mathlib.Core.Bool.{not, cond};
@@ -6,7 +6,7 @@ ghost use Prim.Native.Nat.{_≤_, _+_};
 ghost use lib.ListN.{length, take};
 ghost use Rattle.definition.specs.Inputs.{classOf, isGap};
 ghost use Rattle.definition.specs.Run.{count};
-ghost use Rattle.cov.specs.Counts.{isKept};
+ghost use Rattle.laws.specs.Kinds.{newsKind};
 
 // One more, unless x is NaN.
 fn and_heard(k: usize, x: f64) -> usize
@@ -27,22 +27,22 @@ pub fn heard(y: &[f64]) -> usize
     k
 }
 
-// One more, unless the record is skipped.
-fn and_kept(k: usize, kind: u8) -> usize
+// One more, if the record is news.
+fn and_news(k: usize, kind: u8) -> usize
     requires { ⌜ k ≤ 65536 ⌝ }
-    ensures { λ r. ⌜ r ≡ k + cond (isKept kind) 1 0 ⌝ }
+    ensures { λ r. ⌜ r ≡ k + cond (newsKind kind) 1 0 ⌝ }
 {
-    if kind == promise::SKIPPED { k } else { k + 1 }
+    if record::is_news(kind) { k + 1 } else { k }
 }
 
 // Of the first n records.
 pub fn news(kinds: &[u8], n: usize) -> usize
     requires { ⌜ (n ≤ 65536) × (n ≤ length (now kinds)) ⌝ }
-    ensures { λ r. ⌜ r ≡ count isKept (take n (now (kinds .entry))) ⌝ }
+    ensures { λ r. ⌜ r ≡ count newsKind (take n (now (kinds .entry))) ⌝ }
 {
     let mut k = 0;
     for i in 0..n {
-        k = and_kept(k, kinds[i]);
+        k = and_news(k, kinds[i]);
     }
     k
 }

@@ -10,9 +10,8 @@ use lib.Ieee.{Float}
 use Rattle.definition.specs.Num.{at}
 use Rattle.definition.specs.Dense.{mul, transposed, minus, quad, symmetrise, row}
 use Rattle.definition.specs.Run.{foldBack}
-use Rattle.definition.specs.Cov.{skipped}
 use Rattle.definition.specs.Smooth.{Ns, backN, backElement, elementsN, between, diffuseV, backV, stepNs, backCovOf}
-use Rattle.laws.specs.Flat.{Flat, decisionOf, readBack, decisionsAt, decisions-long, decision-at, blockAt, lookAt}
+use Rattle.laws.specs.Flat.{Flat, noDecision, decisionOf, readBack, decisionsAt, decisions-long, decision-at, blockAt, lookAt}
 use Rattle.laws.specs.Backward.{fold-none, fold-step, part-block, block-long}
 use Rattle.dense.specs.Views.{vec, mat}
 use Rattle.dense.specs.Places.{Saved}
@@ -50,7 +49,7 @@ module _ (p m t : ℕ) (r : Flat) where
         let so : s ≡ foldBack (backElement m live design) (suc j) s₀ (drop (suc j) (decisionsAt p m r t)) = rw e′ at (g .ran) in
         record {
           low = omega arith;
-          ran = h ∙ ap₂ (backElement m live design j) so (sym (decision-at p m t r j b)) ∙ sym (fold-step (backElement m live design) (decisionsAt p m r t) s₀ j skipped (rw (decisions-long p m t r) b));
+          ran = h ∙ ap₂ (backElement m live design j) so (sym (decision-at p m t r j b)) ∙ sym (fold-step (backElement m live design) (decisionsAt p m r t) s₀ j noDecision (rw (decisions-long p m t r) b));
         }
 
     pub along-all : {i : ℕ} {s : Ns} → Along i s → i ≤ 0 → s ≡ elementsN m live design s₀ (decisionsAt p m r t)

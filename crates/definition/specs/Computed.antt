@@ -69,7 +69,7 @@ unfolding Star.better Star.pivotTo Star.columnAt Star.column Star.leftAt Star.le
 ofStar = tt
 
 unfoldable ofCov : Unit {0}
-unfolding Cov.sdAt Cov.sdOf Cov.fStarBy Cov.fInfBy Cov.diffuseTest Cov.scaledTest Cov.boundTerm Cov.bound Cov.against Cov.dust Cov.passes Cov.usualTest Cov.usually Cov.diffusely Cov.judge Cov.k1At Cov.k1Of Cov.rootLess Cov.apply Cov.candidate Cov.verdict Cov.elementOf Cov.isLive Cov.entered Cov.stepStar Cov.stepInf Cov.stepped Cov.ended Cov.periodOf Cov.covRun
+unfolding Cov.sdAt Cov.sdOf Cov.fStarBy Cov.fInfBy Cov.diffuseTest Cov.scaledTest Cov.boundTerm Cov.bound Cov.against Cov.dust Cov.byDust Cov.usually Cov.diffusely Cov.judge Cov.k1At Cov.k1Of Cov.rootLess Cov.apply Cov.candidate Cov.verdict Cov.elementOf Cov.isLive Cov.entered Cov.stepStar Cov.stepInf Cov.stepped Cov.ended Cov.periodOf Cov.covRun
 ofCov = tt
 
 unfoldable ofMean : Unit {0}

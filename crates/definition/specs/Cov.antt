@@ -43,9 +43,13 @@ pub record Inner : Type 0 where
   pub root : List Float
   pub taken : List ℕ
 
--- what becomes of an element, with F*, F∞, M* and M∞
+-- why an element is passed over: its reading is a gap; F* is too small against its scale, or below the dust line; or the replay failed it
+pub data Cause : Type 0 where
+  atGap tooSmall belowDust failedReplay : Cause
+
+-- what becomes of an element: passed over, with the cause; or taken, with F*, F∞, M* and M∞
 pub data Decision : Type 0 where
-  skipped : Decision
+  skipped : Cause → Decision
   usual : Float → List Float → Decision
   diffuse : Float → Float → List Float → List Float → Decision
 
@@ -102,11 +106,11 @@ dust m z h pre sd fresh f* =
     let rest = against f* (absQuadForm m z pre ⊕ h) in
     cond fresh clear (cond (f* >ᶠ suspect-tol ⊗ (b ⊗ b ⊕ h)) clear rest)
 
--- a suspect is accepted in a diffuse period, and else by the root replayed over the elements taken
-unfoldable pub passes : Bool → Float → Dust → Bool
-passes live again clear = true
-passes live again below = false
-passes live again (suspect reference) = live || (again >ᶠ cancel-tol ⊗ reference)
+-- the dust test's part, F* and M* at hand: a suspect is accepted in a diffuse period, and else by the root replayed over the elements taken
+unfoldable pub byDust : Bool → Float → Float → List Float → Dust → Decision
+byDust live again f* m* clear = usual f* m*
+byDust live again f* m* below = skipped belowDust
+byDust live again f* m* (suspect reference) = cond (live || (again >ᶠ cancel-tol ⊗ reference)) (usual f* m*) (skipped failedReplay)
 
 -- What an element is judged by: its row z of the design and its noise h; of its period whether it is diffuse, the predicted P* with its standard
 -- deviations, and P∞ with nothing resolved; whether no element of the period is taken yet, and F by the star root after those that are; and P*,
@@ -124,12 +128,12 @@ pub record Candidate : Type 0 where
   pub pinf : List Float
   pub root : List Float
 
-unfoldable pub usualTest : ℕ → Candidate → Float → Bool
-usualTest m e f* = scaledTest m (e .z) (e .h) (e .star) f* && passes (e .live) (e .again) (dust m (e .z) (e .h) (e .pre) (e .sd) (e .fresh) f*)
-
--- the usual verdict, with F* and M* at hand
+-- the usual verdict, with F* and M* at hand. The first test that fails is the cause: an element that fails its scale test is named for that, even if
+-- it would also fall to the dust line
 unfoldable pub usually : ℕ → Candidate → Float → List Float → Decision
-usually m e f* m* = cond (usualTest m e f*) (usual f* m*) skipped
+usually m e f* m* =
+    let d = dust m (e .z) (e .h) (e .pre) (e .sd) (e .fresh) f* in
+    cond (scaledTest m (e .z) (e .h) (e .star) f*) (byDust (e .live) (e .again) f* m* d) (skipped tooSmall)
 
 -- the diffuse verdict or else the usual one, F* and M* at hand; then the verdict on an element that is there
 unfoldable pub diffusely : ℕ → Candidate → Float → List Float → Decision
@@ -157,7 +161,7 @@ unfoldable pub rootLess : ℕ → List Float → List Float → List Float
 rootLess m z root = let u = matTVec m root z in outerSub m root (matVec m root u) (over m u (dot m u u))
 
 unfoldable pub apply : ℕ → List Float → ℕ → Inner → Decision → Inner
-apply m z i s skipped = s
+apply m z i s (skipped c) = s
 apply m z i s (usual f* m*) = record { star = outerSub m (s .star) m* (over m m* f*); pinf = s .pinf; root = s .root; taken = s .taken ++ (i ∷ []) }
 apply m z i s (diffuse f* f∞ m* m∞) =
     let k0 = over m m∞ f∞ in
@@ -186,7 +190,7 @@ candidate p m h f i s =
     }
 
 unfoldable pub verdict : ℕ → ℕ → List Float → Fixed → ℕ → Inner → Bool → Decision
-verdict p m h f i s true = skipped
+verdict p m h f i s true = skipped atGap
 verdict p m h f i s false = judge m (candidate p m h f i s)
 
 unfoldable pub elementOf : ℕ → ℕ → List Float → Fixed → ℕ → Inner → Bool → Decision × Inner

@@ -1,4 +1,5 @@
--- Cases in which a test meets its tolerance exactly, so that > and ≥ part (document 01, "Easy to get wrong", 4). One theorem, by computation.
+-- Cases in which a test meets its tolerance exactly, so that > and ≥ part (document 01, "Easy to get wrong", 4), or in which two tests could name the
+-- cause of a skip. One theorem, by computation.
 -- Each row: a call's inputs, and what it must come to: a refusal before the run, or 0, and then the records' kinds, whatever the finite readings are.
 use Prim.Native.Nat.{ℕ}
 use mathlib.Core.Bool.{true, false}
@@ -57,7 +58,7 @@ abbrev -1ᶠ : Float
 abbrev both : List Class
 both = finite ∷ finite ∷ []
 
--- F* = h at 1e-10 of its scale, 4 + h: the four terms of z P* z' cancel. Skipped
+-- F* = h at 1e-10 of its scale, 4 + h: the four terms of z P* z' cancel. Too small
 abbrev scaled-edge : Edge
 scaled-edge =
     record {
@@ -102,7 +103,7 @@ root-edge =
       readings = both;
     }
 
--- F* = h at 1e-14 of the reference, 1 + h, in a diffuse period: the first element pins the state that both see. Below, so skipped
+-- F* = h at 1e-14 of the reference, 1 + h, in a diffuse period: the first element pins the state that both see. Below
 abbrev below-edge : Edge
 below-edge =
     record {
@@ -117,7 +118,7 @@ below-edge =
       readings = both;
     }
 
--- F* = 2 b at 1e-6 of the bound's square, 1: suspect, and refused by the root, which does not see the indefinite part of P*
+-- F* = 2 b at 1e-6 of the bound's square, 1: suspect, and failed by the root, which does not see the indefinite part of P*
 abbrev bound-edge : Edge
 bound-edge =
     let b = half ⊗ suspect-tol in
@@ -133,7 +134,7 @@ bound-edge =
       readings = both;
     }
 
--- F* = 2 b at 1e-6 of the reference, 2 + 2 b, and below that of the bound's square, 4: suspect, and refused likewise
+-- F* = 2 b at 1e-6 of the reference, 2 + 2 b, and below that of the bound's square, 4: suspect, and failed likewise
 abbrev suspect-edge : Edge
 suspect-edge =
     let b = ofBits binary64 0x3eb0c6f8ba2f9811 in
@@ -149,7 +150,7 @@ suspect-edge =
       readings = both;
     }
 
--- F by the replayed root, h, at 1e-14 of the reference, 1 + 2 b + h, of a suspect: refused
+-- F by the replayed root, h, at 1e-14 of the reference, 1 + 2 b + h, of a suspect: failed
 abbrev replay-edge : Edge
 replay-edge =
     let b = ofBits binary64 0x3e10000000000000 in
@@ -180,16 +181,48 @@ washed-edge =
       readings = gap ∷ finite ∷ [];
     }
 
+-- F* = 0, after an element that pins the state: against its scale, 0, and against the reference, 1. Named for its scale
+abbrev both-edge : Edge
+both-edge =
+    record {
+      m = 1;
+      p = 2;
+      n = 1;
+      z = 1ᶠ ∷ 1ᶠ ∷ [];
+      h = zeros 4;
+      t = zeros 1;
+      pStar = 1ᶠ ∷ [];
+      flags = 0 ∷ [];
+      readings = both;
+    }
+
+-- F* and its scale overflow, and P* does not: too small
+abbrev vast-edge : Edge
+vast-edge =
+    record {
+      m = 1;
+      p = 1;
+      n = 1;
+      z = ofBits binary64 0x7fe0000000000000 ∷ [];
+      h = 1ᶠ ∷ [];
+      t = zeros 1;
+      pStar = 1ᶠ ∷ [];
+      flags = 0 ∷ [];
+      readings = finite ∷ [];
+    }
+
 abbrev rows : List (List ℕ × List ℕ)
 rows =
-    (came scaled-edge, 0 ∷ 0 ∷ [])
+    (came scaled-edge, 0 ∷ 3 ∷ [])
     ∷ (came diffuse-edge, 0 ∷ 2 ∷ 1 ∷ [])
     ∷ (came root-edge, 0 ∷ 2 ∷ 1 ∷ [])
-    ∷ (came below-edge, 0 ∷ 1 ∷ 0 ∷ [])
-    ∷ (came bound-edge, 0 ∷ 1 ∷ 0 ∷ [])
-    ∷ (came suspect-edge, 0 ∷ 1 ∷ 0 ∷ [])
-    ∷ (came replay-edge, 0 ∷ 1 ∷ 0 ∷ [])
+    ∷ (came below-edge, 0 ∷ 1 ∷ 4 ∷ [])
+    ∷ (came bound-edge, 0 ∷ 1 ∷ 5 ∷ [])
+    ∷ (came suspect-edge, 0 ∷ 1 ∷ 5 ∷ [])
+    ∷ (came replay-edge, 0 ∷ 1 ∷ 5 ∷ [])
     ∷ (came washed-edge, 0 ∷ 0 ∷ 1 ∷ [])
+    ∷ (came both-edge, 0 ∷ 1 ∷ 3 ∷ [])
+    ∷ (came vast-edge, 0 ∷ 3 ∷ [])
     ∷ []
 
 pub edges : T (hold rows)

@@ -39,7 +39,7 @@ innovation m z d a reading = reading ⊖ d ⊖ dot m z a
 
 -- a skipped element's v is +0.0
 unfoldable pub vOf : ℕ → List Float → Float → List Float → Float → Decision → Float
-vOf m z d a reading skipped = 0ᶠ
+vOf m z d a reading (skipped c) = 0ᶠ
 vOf m z d a reading (usual f m*) = innovation m z d a reading
 vOf m z d a reading (diffuse f f∞ m* m∞) = innovation m z d a reading
 
@@ -51,7 +51,7 @@ unfoldable pub diffuseTerm : Float → Float → Float
 diffuseTerm l f∞ = l ⊖ half ⊗ (lnTwoPi ⊕ lnOf f∞)
 
 unfoldable pub heed : ℕ → Mean → Float → Decision → Mean
-heed m s v skipped = s
+heed m s v (skipped c) = s
 heed m s v (usual f m*) = record { a = axpy m (s .a) v (over m m* f); loglik = usualTerm (s .loglik) f v }
 heed m s v (diffuse f f∞ m* m∞) = record { a = axpy m (s .a) v (over m m∞ f∞); loglik = diffuseTerm (s .loglik) f∞ }
 

@@ -8,10 +8,10 @@ use lib.Dec.{leb, ltb, eqb}
 use lib.Ieee.{Float}
 use Rattle.definition.specs.Num.{0ᶠ, zeros}
 use Rattle.definition.specs.Run.{anyOf, count, chunks, join, pairs, lay}
-use Rattle.definition.specs.Cov.{Cov, Decision, CovPeriod, covRun}
+use Rattle.definition.specs.Cov.{Cov, atGap, Decision, CovPeriod, covRun}
 use Rattle.definition.specs.Mean.{Mean, MeanPeriod, meanRun}
 use Rattle.definition.specs.Smooth.{smoothCov, smoothMean}
-use Rattle.definition.specs.Parts.{CovPart, predCov, predInf, filtCov, fStar, fInf, mStar, mInf, MeanPart, predMean, filtMean, innovations, kindBlock, covBlock, meanBlock, isNews}
+use Rattle.definition.specs.Parts.{CovPart, predCov, predInf, filtCov, fStar, fInf, mStar, mInf, MeanPart, predMean, filtMean, innovations, kindBlock, covBlock, meanBlock, causeNo, isNews}
 use Rattle.definition.specs.Inputs.{Model, Offsets, Class, classOf, isGap, isInfinity, systemOf, frameOf, startOf, gapRows}
 use Rattle.definition.specs.Refusals.{refusal}
 use Rattle.definition.specs.Reports.{covReport, meanReport}
@@ -91,7 +91,7 @@ unfoldable pub meanOf : Model → Offsets → List CovPeriod → List Float → 
 meanOf x o cs y =
     meanRun (frameOf x) (record { c = o .c; d = o .d }) 0 (record { a = o .a1; loglik = 0ᶠ }) (pairs (decisionsOf cs) (chunks (x .n) (x .p) y))
 
--- ---- the counts: diffuse periods; readings that are not NaN; records that are not skipped
+-- ---- the counts: diffuse periods; readings that are not NaN; records that are usual or diffuse
 
 pub record Counts : Type 0 where
   pub dDiffuse : ℕ
@@ -172,7 +172,7 @@ module _ (x : Model) where
         covOff = reportIn f t;
         parts =
             record {
-              kinds = after f (kindsWritten r) (replicate (kindsNeed x) 0) (b .kinds);
+              kinds = after f (kindsWritten r) (replicate (kindsNeed x) (causeNo atGap)) (b .kinds);
               part = λ q. after f (covWritten (x .m) r q) (zeros (covNeed x q)) (b .part q);
             };
       }

@@ -1,13 +1,13 @@
 -- The lent outputs by name, and what a period leaves in its block of each. Records are flat: kind, v, F*, F∞, M*, M∞ per element
--- (document 01, "Sizes and lent parts": kind 0 skipped, 1 usual, 2 diffuse; unused numbers and gain vectors are +0.0).
+-- (document 01, "Sizes and lent parts": kind 1 usual, 2 diffuse; unused numbers and gain vectors are +0.0). A skip is told by its cause (document 02,
+-- request a): 0 at a gap, 3 too small against its scale, 4 below the dust line, 5 failed on replay.
 use Prim.Native.Nat.{ℕ}
-use mathlib.Core.Bool.{Bool, not}
+use mathlib.Core.Bool.{Bool, true, false}
 use mathlib.Core.List.{List, map}
-use lib.Dec.{eqb}
 use lib.Ieee.{Float}
 use Rattle.definition.specs.Num.{0ᶠ, zeros}
 use Rattle.definition.specs.Run.{join}
-use Rattle.definition.specs.Cov.{Decision, skipped, usual, diffuse, CovPeriod}
+use Rattle.definition.specs.Cov.{Cause, atGap, tooSmall, belowDust, failedReplay, Decision, skipped, usual, diffuse, CovPeriod}
 use Rattle.definition.specs.Mean.{MeanPeriod}
 
 -- the parts that only the covariances reach (besides the kinds), and those that the means reach
@@ -17,32 +17,40 @@ pub data CovPart : Type 0 where
 pub data MeanPart : Type 0 where
   predMean filtMean innovations : MeanPart
 
+abbrev pub causeNo : Cause → ℕ
+causeNo atGap = 0
+causeNo tooSmall = 3
+causeNo belowDust = 4
+causeNo failedReplay = 5
+
 abbrev pub kindNo : Decision → ℕ
-kindNo skipped = 0
+kindNo (skipped c) = causeNo c
 kindNo (usual f m*) = 1
 kindNo (diffuse f f∞ m* m∞) = 2
 
 -- news: a record that is not skipped
 abbrev pub isNews : Decision → Bool
-isNews d = not (eqb (kindNo d) 0)
+isNews (skipped c) = false
+isNews (usual f m*) = true
+isNews (diffuse f f∞ m* m∞) = true
 
 abbrev pub fStarOf : Decision → Float
-fStarOf skipped = 0ᶠ
+fStarOf (skipped c) = 0ᶠ
 fStarOf (usual f m*) = f
 fStarOf (diffuse f f∞ m* m∞) = f
 
 abbrev pub fInfOf : Decision → Float
-fInfOf skipped = 0ᶠ
+fInfOf (skipped c) = 0ᶠ
 fInfOf (usual f m*) = 0ᶠ
 fInfOf (diffuse f f∞ m* m∞) = f∞
 
 abbrev pub mStarOf : ℕ → Decision → List Float
-mStarOf m skipped = zeros m
+mStarOf m (skipped c) = zeros m
 mStarOf m (usual f m*) = m*
 mStarOf m (diffuse f f∞ m* m∞) = m*
 
 abbrev pub mInfOf : ℕ → Decision → List Float
-mInfOf m skipped = zeros m
+mInfOf m (skipped c) = zeros m
 mInfOf m (usual f m*) = zeros m
 mInfOf m (diffuse f f∞ m* m∞) = m∞
 

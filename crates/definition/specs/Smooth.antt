@@ -74,7 +74,7 @@ diffuseN2 m z f2 l0 l1 n =
 
 -- a usual element moves N1, to N1 L, in a diffuse period alone, and N2 never
 unfoldable pub backN : ℕ → Bool → List Float → Ns → Decision → Ns
-backN m live z n skipped = n
+backN m live z n (skipped c) = n
 backN m live z n (usual f m*) =
     let l = lUsual m z f m* in
     let n1 = mul m (n .n1) l in
@@ -93,7 +93,7 @@ unfoldable pub diffuseR : ℕ → List Float → Float → Float → List Float 
 diffuseR m z v f1 l0 l1 r = axpy m (axpy m (matTVec m l0 (r .r1)) 1ᶠ (matTVec m l1 (r .r0))) (v ⊗ f1) z
 
 unfoldable pub backR : ℕ → List Float → Rs → Decision → Float → Rs
-backR m z r skipped v = r
+backR m z r (skipped c) v = r
 backR m z r (usual f m*) v = record { r0 = usualR m z v (fOne f) (lUsual m z f m*) (r .r0); r1 = r .r1 }
 backR m z r (diffuse f f∞ m* m∞) v =
     let l0 = lUsual m z f∞ m∞ in

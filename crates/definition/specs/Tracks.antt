@@ -1,18 +1,19 @@
 -- The two tracks apart, and a skip that moves nothing: the facts of the definition on which demand 3, request k and the counts rest.
 use mathlib.Core.Path.{_≡_, refl, ap, ap₂}
 use Prim.Native.Nat.{ℕ, _+_}
-use mathlib.Core.Bool.{Bool, not, cond}
+use mathlib.Core.Bool.{Bool, false, not, cond}
 use mathlib.Core.List.{List, [], _∷_, map}
 use lib.ListN.{length}
 use lib.Dec.{T}
 use lib.Ieee.{Float, nan, inf, fin, isNan}
 use Rattle.definition.specs.Num.{0ᶠ, isFinite}
 use Rattle.definition.specs.Run.{anyOf, count}
-use Rattle.definition.specs.Cov.{Inner, CovPeriod, skipped, apply}
+use Rattle.definition.specs.Cov.{Cause, Inner, CovPeriod, skipped, apply}
 use Rattle.definition.specs.Mean.{Mean, vOf, heed, hear}
 use Rattle.definition.specs.Smooth.{Ns, Rs, backN, backR}
 use Rattle.definition.specs.Inputs.{Model, Offsets, Class, finite, classOf, isGap, isInfinity}
 use Rattle.definition.specs.Refusals.{refusal}
+use Rattle.definition.specs.Parts.{isNews}
 use Rattle.definition.specs.Outcome.{CovParts, MeanParts, countsOf, ending, roomy, roomySmoothed, outcome, outcomeAt, smoothOutcome, smoothOutcomeAt}
 use Rattle.definition.specs.Stretch.{From, pastIn, badFrom, stretchRefusal, roomyStretch, stretchEnding, stretchOutcome}
 
@@ -57,27 +58,31 @@ module _ (x : Model) (o o′ : Offsets) (y : List Float) (b : CovParts) (b′ c�
     unfolding stretchOutcome stretchEnding
     stretch-by-refusal e = rw e refl
 
--- ---- skipped: nothing moves (document 01, "One period forward"), neither forward nor back, and its v is +0.0 whatever was read
+-- ---- skipped, whatever the cause: nothing moves (document 01, "One period forward"), neither forward nor back, its v is +0.0 whatever was read,
+-- and it is no news
 
-pub skip-stays : (m : ℕ) (z : List Float) (i : ℕ) (s : Inner) → apply m z i s skipped ≡ s
+pub skip-stays : (c : Cause) (m : ℕ) (z : List Float) (i : ℕ) (s : Inner) → apply m z i s (skipped c) ≡ s
 unfolding apply
-skip-stays m z i s = refl
+skip-stays c m z i s = refl
 
-pub skip-unheard : (m : ℕ) (design ds : List Float) (i : ℕ) (s : Mean) (reading : Float) → hear m design ds i s (skipped, reading) ≡ (0ᶠ, s)
+pub skip-unheard : (c : Cause) (m : ℕ) (design ds : List Float) (i : ℕ) (s : Mean) (reading : Float) → hear m design ds i s (skipped c, reading) ≡ (0ᶠ, s)
 unfolding hear vOf heed
-skip-unheard m design ds i s reading = refl
+skip-unheard c m design ds i s reading = refl
 
-pub skip-stays-back : (m : ℕ) (live : Bool) (z : List Float) (n : Ns) → backN m live z n skipped ≡ n
+pub skip-stays-back : (c : Cause) (m : ℕ) (live : Bool) (z : List Float) (n : Ns) → backN m live z n (skipped c) ≡ n
 unfolding backN
-skip-stays-back m live z n = refl
+skip-stays-back c m live z n = refl
 
-pub skip-unheard-back : (m : ℕ) (z : List Float) (r : Rs) (v : Float) → backR m z r skipped v ≡ r
+pub skip-unheard-back : (c : Cause) (m : ℕ) (z : List Float) (r : Rs) (v : Float) → backR m z r (skipped c) v ≡ r
 unfolding backR
-skip-unheard-back m z r v = refl
+skip-unheard-back c m z r v = refl
+
+pub skip-no-news : (c : Cause) → isNews (skipped c) ≡ false
+skip-no-news c = refl
 
 -- ---- heard counts the readings that are not NaN
 
-gap-is-nan : (v : Float) → isGap (classOf v) ≡ isNan v
+pub gap-is-nan : (v : Float) → isGap (classOf v) ≡ isNan v
 unfolding classOf isNan
 gap-is-nan nan = refl
 gap-is-nan (inf s) = refl

@@ -135,8 +135,8 @@ smoothedAt o t = bits (at (o .1 .smoothed) t ∷ at (o .0 .smoothed) t ∷ [])
 
 -- ---- what 01 says
 
-abbrev skippedRecord : List ℕ
-skippedRecord = 0 ∷ bits (0ᶠ ∷ 0ᶠ ∷ 0ᶠ ∷ [])
+abbrev skippedRecord : ℕ → List ℕ
+skippedRecord cause = cause ∷ bits (0ᶠ ∷ 0ᶠ ∷ 0ᶠ ∷ [])
 
 abbrev usualRecord : Float → Float → List ℕ
 usualRecord v f = 1 ∷ bits (v ∷ f ∷ 0ᶠ ∷ [])
@@ -194,8 +194,8 @@ figures =
     ∷ (f .0 .counts .dDiffuse ∷ [], 1 ∷ [])
     ∷ (filteredAt f 1, bits (num 1 ∷ num 1 ∷ []))
     ∷ (g .0 .counts .dDiffuse ∷ [], 2 ∷ [])
-    -- H: second skipped, filtered 2, 0, heard 2, news 1
-    ∷ (recordAt h 1, skippedRecord)
+    -- H: second skipped (too small against its scale: 3), filtered 2, 0, heard 2, news 1
+    ∷ (recordAt h 1, skippedRecord 3)
     ∷ (filteredAt h 0, bits (num 2 ∷ num 0 ∷ []))
     ∷ (h .0 .counts .heard ∷ h .0 .counts .news ∷ [], 2 ∷ 1 ∷ [])
     -- I: refusal 12. J: y = [infinity]: 9. L: 1
@@ -204,10 +204,10 @@ figures =
     ∷ (filter nine .0 .refused ∷ [], 1 ∷ [])
     -- K: logarithm of 1 is +0.0
     ∷ (bits (lnOf 1ᶠ ∷ []), bits (0ᶠ ∷ []))
-    -- not starred: second element clear at h = 2^-10, suspect and accepted at 2^-40, below and skipped at 2^-50
+    -- not starred: second element clear at h = 2^-10, suspect and accepted at 2^-40, below and skipped for it (4) at 2^-50
     ∷ (secondOf (modelOf (pinned 10)), 0 ∷ 1 ∷ 1 ∷ [])
     ∷ (secondOf (modelOf (pinned 40)), 2 ∷ 1 ∷ 1 ∷ [])
-    ∷ (secondOf (modelOf (pinned 50)), 1 ∷ 1 ∷ 0 ∷ [])
+    ∷ (secondOf (modelOf (pinned 50)), 1 ∷ 1 ∷ 4 ∷ [])
     -- m = 8 and n = 4096 pass; n = 4097 gives 1
     ∷ (refusalFor 4096 ∷ refusalFor 4097 ∷ [], 0 ∷ 1 ∷ [])
     ∷ []

@@ -1,6 +1,7 @@
 pub mod Figures
 pub mod Unheard
 pub mod Values
+pub mod Recorded
 pub mod Totals
 pub mod Reports
 pub mod Conditions

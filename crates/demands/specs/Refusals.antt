@@ -339,7 +339,7 @@ module _ (x : Model) (o : Offsets) (y : List Float) (b : CovParts) (b′ : MeanP
         ap (λ (f : Ending). meanOutcome x f o (map classOf y) y b′ .parts) f,
       )
 
-  -- 12 sets the needed stretch of every output to +0.0 and every record to skipped
+  -- 12 sets the needed stretch of every output to +0.0 and every record to a gap
   pub blanked : outcome x o y b b′ .0 .refused ≡ 12 → Blank x b b′ (outcome x o y b b′)
   unfolding outcome outcomeAt covOutcome meanOutcome ending
   blanked e =

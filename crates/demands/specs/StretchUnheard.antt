@@ -1,6 +1,6 @@
 -- Demand 3 of a stretch, the second half: a finite reading that was judged no news, where there was news elsewhere or the stretch is not the last.
 -- Another finite number in its place changes nothing, not the saved bytes either; a gap there changes only the count of readings heard, in the answer
--- and in what is saved (`no-news`, `less-saved`, `gap-saved`).
+-- and in what is saved, and the cause in its record (`no-news`, `less-saved`, `gap-saved`).
 use mathlib.Core.Path.{_≡_, refl, sym, ap, ap₂, _∙_, subst}
 use mathlib.Core.Logic.{_⊎_, inl, inr, ⊎-elim}
 use Prim.Native.Nat.{ℕ, zero, suc, _+_, _*_, _/_, _%_, _<_}
@@ -13,10 +13,10 @@ use lib.ListN.{length, replicate, getD, set, take, length-map}
 use lib.Ieee.{Float, nan}
 use Rattle.definition.specs.Num.{isFinite, at}
 use Rattle.definition.specs.Run.{join, count, anyOf, lay}
-use Rattle.definition.specs.Cov.{Cov, CovPeriod, diffuse}
+use Rattle.definition.specs.Cov.{Cov, CovPeriod, atGap}
 use Rattle.definition.specs.Mean.{Mean, MeanPeriod}
 use Rattle.definition.specs.Inputs.{Model, Offsets, Class, gap, classOf, isInfinity}
-use Rattle.definition.specs.Parts.{isNews}
+use Rattle.definition.specs.Parts.{causeNo}
 use Rattle.definition.specs.Reports.{covReport, meanReport, toldBefore}
 use Rattle.definition.specs.Outcome.{CovParts, MeanParts, CovOutcome, MeanOutcome, Counts, Ending, answered, endingOf, numberOf, after, countsIn, reportIn, countsOf, decisionsOf, noInformation, kindsNeed, kindsWritten, meanEnded}
 use Rattle.definition.specs.Carried.{Past, Carried, covFrom, meanFrom, plus, pastOn, meanOn, meanOffOn, went}
@@ -26,8 +26,8 @@ use Rattle.laws.specs.Accepted.{lengths-pass}
 use Rattle.laws.specs.SavedBack.{Savable, read}
 use Rattle.laws.specs.AcceptedStretch.{passes, Ready}
 use Rattle.laws.specs.AcceptedStretch as stretch
-use Rattle.demands.specs.Unheard.{deaf, quiet, gap-classes, same-classes, one-less, same-many, same-infinity, informed, within, answered-by, zero-answers, place}
-use Rattle.demands.specs.Values.{OneLess, partsFrom}
+use Rattle.demands.specs.Unheard.{deaf, kinds-long, run-with-gap, gap-deaf, gap-classes, same-classes, one-less, same-many, same-infinity, informed, within, answered-by, zero-answers, place}
+use Rattle.demands.specs.Values.{OneLess, one-less-in}
 
 -- the same past, but for one reading less heard
 pub record PastLess (p p′ : Past) : Type 0 where
@@ -38,19 +38,19 @@ pub record PastLess (p p′ : Past) : Type 0 where
   pub news : p′ .counts .news ≡ p .counts .news
   pub covOff : p′ .covOff ≡ p .covOff
 
--- period t, element i of a stretch of x from the state s, whose record stands in the lent kinds as skipped: a gap there, or another number
-module _ (x : Model) (o : Offsets) (s : Carried) (y : List Float) (old : List ℕ) (t i : ℕ) (inT : t < x .n) (inI : i < x .p) (fit : length (map classOf y) ≡ x .n * x .p) (read : T (isFinite (at y (t * x .p + i)))) (skip : getD (lay (kindsWritten (covFrom x (s .past) (map classOf y))) old) (t * x .p + i) 9 ≡ 0) where
+-- period t, element i of a stretch of x from the state s, whose record stands in the lent kinds as 3, 4 or 5: a gap there, or another number
+module _ (x : Model) (o : Offsets) (s : Carried) (y : List Float) (old : List ℕ) (t i : ℕ) (inT : t < x .n) (inI : i < x .p) (fit : length (map classOf y) ≡ x .n * x .p) (read : T (isFinite (at y (t * x .p + i)))) (skip : 2 < getD (lay (kindsWritten (covFrom x (s .past) (map classOf y))) old) (t * x .p + i) 0) where
   quiet-past : PastLess (pastOn x (s .past) (map classOf y)) (pastOn x (s .past) (set (map classOf y) (t * x .p + i) gap))
   unfolding pastOn plus countsOf
   quiet-past =
-      let same = quiet x o s y old t i inT inI fit read skip in
+      let g = run-with-gap x o s y old t i inT inI fit read skip in
       record {
         done = refl;
-        cov = ap (λ (r : List CovPeriod × Cov). r .1) same;
-        dDiffuse = ap (λ (r : List CovPeriod × Cov). s .past .counts .dDiffuse + count (λ (c : CovPeriod). c .diffuse) (r .0)) same;
+        cov = g .state;
+        dDiffuse = ap (λ (j : ℕ). s .past .counts .dDiffuse + j) (g .dDiffuse);
         heard = sym (add-suc (s .past .counts .heard) _) ∙ ap (λ (j : ℕ). s .past .counts .heard + j) (one-less x o s y old t i inT inI fit read skip);
-        news = ap (λ (r : List CovPeriod × Cov). s .past .counts .news + count isNews (join (decisionsOf (r .0)))) same;
-        covOff = ap (λ (r : List CovPeriod × Cov). toldBefore (s .past .covOff) (covReport (s .past .done) (r .0))) same;
+        news = ap (λ (j : ℕ). s .past .counts .news + j) (g .news);
+        covOff = ap (toldBefore (s .past .covOff)) (g .covOff (s .past .done));
       }
 
   -- the refusals before the run are the same
@@ -68,17 +68,16 @@ module _ (x : Model) (o : Offsets) (s : Carried) (y : List Float) (old : List �
   unfolding meanOn
   gap-means =
       ap (λ (ks : List Class). meanFrom x o (s .past .done) (s .mean) (covFrom x (s .past) ks .0) (set y (t * x .p + i) nan)) (gap-classes x o s y old t i inT inI fit read skip)
-      ∙ ap (λ (r : List CovPeriod × Cov). meanFrom x o (s .past .done) (s .mean) (r .0) (set y (t * x .p + i) nan)) (quiet x o s y old t i inT inI fit read skip)
-      ∙ deaf x o s y old t i inT inI fit read skip nan
+      ∙ gap-deaf x o s y old t i inT inI fit read skip nan
 
 -- ---- a call
 
--- an answered stretch judged the finite reading at place k of y no news: its record, in the lent kinds, is skipped; and there was news since the run
+-- an answered stretch judged the finite reading at place k of y no news: its record, in the lent kinds, is 3, 4 or 5; and there was news since the run
 -- began, or it is not the last
 pub record NoNews (y : List Float) (last : Bool) (c : CovOutcome) (k : ℕ) : Type 0 where
   pub read : T (isFinite (at y k))
   pub answers : c .refused ≡ 0
-  pub skip : getD (c .parts .kinds) k 9 ≡ 0
+  pub skip : 2 < getD (c .parts .kinds) k 0
   pub news : (0 < c .counts .news) ⊎ (last ≡ false)
 
 informs : (last heard : Bool) (news : ℕ) → (0 < news) ⊎ (last ≡ false) → (last && (heard && eqb news 0)) ≡ false
@@ -94,8 +93,8 @@ pub record Less (s s′ : Carried) : Type 0 where
 pub record Unmoved (x : Model) (o : Offsets) (w : From) (last : Bool) (y : List Float) (b : CovParts) (b′ : MeanParts) (save : List ℕ) (k : ℕ) : Type 0 where
   -- another finite number at place k changes nothing
   pub number : (v : Float) → T (isFinite v) → stretchOutcome x o w last (set y k v) b b′ save ≡ stretchOutcome x o w last y b b′ save
-  -- a gap there changes only the count of readings heard
-  pub gapCov : OneLess (stretchOutcome x o w last y b b′ save .cov) (stretchOutcome x o w last (set y k nan) b b′ save .cov)
+  -- a gap there changes only the count of readings heard and the cause in its record
+  pub gapCov : OneLess (stretchOutcome x o w last y b b′ save .cov) (stretchOutcome x o w last (set y k nan) b b′ save .cov) k
   pub gapMean : stretchOutcome x o w last (set y k nan) b b′ save .mean ≡ stretchOutcome x o w last y b b′ save .mean
   pub gapState : Less (went x o (carriedIn x o w) y) (went x o (carriedIn x o w) (set y k nan))
 
@@ -124,9 +123,9 @@ module _ (x : Model) (o : Offsets) (w : From) (last : Bool) (y : List Float) (b 
     inside : k < x .n * x .p
     inside = let l : length y ≡ x .n * x .p = sym (length-map y classOf) ∙ fit in omega (arith, within y k (h .read))
 
-    real-skip : getD (lay (kindsWritten (covFrom x (pastIn x w) (map classOf y))) (b .kinds)) k 9 ≡ 0
+    real-skip : 2 < getD (lay (kindsWritten (covFrom x (pastIn x w) (map classOf y))) (b .kinds)) k 0
     unfolding stretchOutcome covStretch after
-    real-skip = subst (λ (f : Ending). getD (after f (kindsWritten (covFrom x (pastIn x w) (map classOf y))) (replicate (kindsNeed x) 0) (b .kinds)) k 9 ≡ 0) ok (h .skip)
+    real-skip = subst (λ (f : Ending). 2 < getD (after f (kindsWritten (covFrom x (pastIn x w) (map classOf y))) (replicate (kindsNeed x) (causeNo atGap)) (b .kinds)) k 0) ok (h .skip)
 
     real-news : (0 < pastOn x (pastIn x w) (map classOf y) .counts .news) ⊎ (last ≡ false)
     unfolding stretchOutcome covStretch countsIn
@@ -143,9 +142,6 @@ module _ (x : Model) (o : Offsets) (w : From) (last : Bool) (y : List Float) (b 
     less-heard : PastLess (pastOn x (pastIn x w) (map classOf y)) (pastOn x (pastIn x w) muted)
     less-heard = quiet-past x o (carriedIn x o w) y (b .kinds) t i inT inI (fit (t * x .p + i) h) (h .read) (real-skip (t * x .p + i) h)
 
-    same-covs : covFrom x (pastIn x w) muted ≡ covFrom x (pastIn x w) (map classOf y)
-    same-covs = quiet x o (carriedIn x o w) y (b .kinds) t i inT inI (fit (t * x .p + i) h) (h .read) (real-skip (t * x .p + i) h)
-
     -- answered still, as long as there is news or another stretch to come
     still-answered : endingAt muted ≡ answered
     unfolding stretchEnding endingOf noInformation
@@ -154,22 +150,12 @@ module _ (x : Model) (o : Offsets) (w : From) (last : Bool) (y : List Float) (b 
         let n : (0 < pastOn x (pastIn x w) muted .counts .news) ⊎ (last ≡ false) = rw (less-heard .news) (real-news (t * x .p + i) h) in
         ap₂ endingOf e (informs last (ltb 0 (pastOn x (pastIn x w) muted .counts .heard)) (pastOn x (pastIn x w) muted .counts .news) n)
 
-    gap-cov : OneLess (covStretch x (endingAt (map classOf y)) (pastIn x w) (map classOf y) b) (covStretch x (endingAt muted) (pastIn x w) muted b)
-    unfolding covStretch countsIn
+    gap-cov : OneLess (covStretch x (endingAt (map classOf y)) (pastIn x w) (map classOf y) b) (covStretch x (endingAt muted) (pastIn x w) muted b) (t * x .p + i)
+    unfolding covStretch
     gap-cov =
-        let ks = map classOf y in
-        let counted : (f : Ending) (l : Counts) → f ≡ answered → countsIn f l ≡ l = λ f l e. ap (λ (f : Ending). countsIn f l) e in
-        let old = counted (endingAt ks) (pastOn x (pastIn x w) ks .counts) (ok (t * x .p + i) h) in
-        let new = counted (endingAt muted) (pastOn x (pastIn x w) muted .counts) still-answered in
-        let ended : endingAt muted ≡ endingAt ks = still-answered ∙ sym (ok (t * x .p + i) h) in
-        record {
-          heard = ap (λ (l : Counts). suc (l .heard)) new ∙ less-heard .heard ∙ sym (ap (λ (l : Counts). l .heard) old);
-          news = ap (λ (l : Counts). l .news) new ∙ less-heard .news ∙ sym (ap (λ (l : Counts). l .news) old);
-          dDiffuse = ap (λ (l : Counts). l .dDiffuse) new ∙ less-heard .dDiffuse ∙ sym (ap (λ (l : Counts). l .dDiffuse) old);
-          covOff = ap₂ (λ (f : Ending) (t : ℕ). reportIn f t) ended (less-heard .covOff);
-          refusals = ap numberOf ended;
-          parts = ap₂ (λ (f : Ending) (r : List CovPeriod × Cov). partsFrom x f r b) ended same-covs;
-        }
+        let g = run-with-gap x o (carriedIn x o w) y (b .kinds) t i inT inI (fit (t * x .p + i) h) (h .read) (real-skip (t * x .p + i) h) in
+        let long = kinds-long x o (carriedIn x o w) y (b .kinds) t i inT inI (fit (t * x .p + i) h) (h .read) (real-skip (t * x .p + i) h) in
+        one-less-in x b (ok (t * x .p + i) h) still-answered g long (less-heard .heard) (less-heard .news) (less-heard .dDiffuse) (less-heard .covOff)
 
   -- the whole outcome, by the kinds and the means
   abbrev half : List Class → CovOutcome
@@ -206,7 +192,7 @@ module _ (x : Model) (o : Offsets) (w : From) (last : Bool) (y : List Float) (b 
       let ended : endingAt gs ≡ endingAt ks = still-answered t i inT inI h ∙ sym (ok k h) in
       record {
         number = λ v fv. ap₂ all (kinds v fv) (same v fv);
-        gapCov = subst (λ (gs : List Class). OneLess (half ks) (half gs)) (sym gaps) (gap-cov t i inT inI h);
+        gapCov = subst (λ (gs : List Class). OneLess (half ks) (half gs) k) (sym gaps) (gap-cov t i inT inI h);
         gapMean = ap₂ means (ap endingAt gaps ∙ ended) still;
         gapState =
             record {

@@ -1,29 +1,30 @@
 -- The counts of an answered call, the filter's or the smoother's: heard is the number of readings that are not NaN, news the number of records that are
--- not skipped, and d_diffuse the number of diffuse periods, which are the first ones.
-use mathlib.Core.Path.{_≡_, refl, sym, ap, ap₂, _∙_}
+-- usual or diffuse, and d_diffuse the number of diffuse periods, which are the first ones. And the kinds in its records.
+use mathlib.Core.Path.{_≡_, refl, sym, ap, ap₂, _∙_, subst}
 use Prim.Native.Nat.{ℕ, zero, suc, _+_, _*_, _≤_, _<_}
 use native.Mathlib.Nat.{le-refl}
 use native.Mathlib.Omega.{arith}
 use mathlib.Core.Bool.{Bool, true, false, not, _&&_}
 use mathlib.Core.List.{List, [], _∷_, map}
-use lib.Dec.{ltb, eqb}
-use lib.ListN.{length, getD, take, drop, replicate, getD-replicate, length-map}
-use lib.Seq.{take-at}
+use lib.Dec.{ltb}
+use lib.ListN.{length, getD, replicate, getD-replicate}
 use lib.Ieee.{Float, nan, isNan}
 use Rattle.definition.specs.Num.{_⊕_, _⊗_, _>ᶠ_, 0ᶠ, rank-tol, zeros, sumFrom}
 use Rattle.definition.specs.Dense.{sqTerm, sqTo, frobSq}
-use Rattle.definition.specs.Run.{scan, count, join}
-use Rattle.definition.specs.Cov.{System, Cov, CovPeriod, isLive, entered, ended, periodOf, period, covRun}
+use Rattle.definition.specs.Run.{scan, count, lay}
+use Rattle.definition.specs.Cov.{System, Cov, CovPeriod, atGap, isLive, entered, ended, periodOf, period, covRun}
 use Rattle.definition.specs.Inputs.{Model, Offsets, classOf, systemOf, startOf, gapRows, systemFrom}
-use Rattle.definition.specs.Parts.{kindNo}
-use Rattle.definition.specs.Outcome.{CovParts, MeanParts, CovOutcome, Counts, Ending, answered, endingOf, numberOf, ending, after, countsIn, kindsNeed, kindsWritten, covOf, countsOf, decisionsOf, roomy, roomySmoothed, covOutcome, outcome, outcomeAt, smoothOutcome, smoothOutcomeAt}
+use Rattle.definition.specs.Parts.{causeNo}
+use Rattle.definition.specs.Outcome.{CovParts, MeanParts, CovOutcome, Counts, Ending, answered, ending, after, countsIn, kindsNeed, kindsWritten, covOf, countsOf, roomy, roomySmoothed, covOutcome, outcome, outcomeAt, smoothOutcome, smoothOutcomeAt}
 use Rattle.definition.specs.Computed.{opened}
 use Rattle.definition.specs.Tracks.{heard-is}
-use Rattle.laws.specs.Lists.{length-join, length-chunks, place-lt}
+use Rattle.definition.specs.Carried.{begunPast, covFrom}
+use Rattle.laws.specs.Lists.{length-chunks, place-lt}
 use Rattle.laws.specs.All.{AllOf}
-use Rattle.laws.specs.ReadBack.{kinds-join, kinds-count, each-many}
-use Rattle.laws.specs.Shapes.{run-whole, run-length, first-ones, period-first}
-use Rattle.demands.specs.Unheard.{answered-by, readings-fit, noPeriod}
+use Rattle.laws.specs.Shapes.{first-ones, period-first}
+use Rattle.laws.specs.Kinds.{ofKind}
+use Rattle.demands.specs.Unheard.{answered-by, zero-answers, readings-fit, noPeriod}
+use Rattle.demands.specs.Recorded.{records, Recorded, by-run, news-told}
 
 -- the periods of a call's run, as the covariance track leaves them: each says whether it is diffuse
 abbrev pub periodsOf : Model → List Float → List CovPeriod
@@ -31,7 +32,8 @@ periodsOf x y = covOf x (map classOf y) .0
 
 pub record Totals (x : Model) (y : List Float) (c : CovOutcome) : Type 0 where
   pub heard : c .counts .heard ≡ count (λ (v : Float). not (isNan v)) y
-  pub news : c .counts .news ≡ count (λ (k : ℕ). not (eqb k 0)) (take (kindsNeed x) (c .parts .kinds))
+  pub news : c .counts .news ≡ ofKind 1 (records x (c .parts .kinds)) + ofKind 2 (records x (c .parts .kinds))
+  pub recorded : Recorded x y (c .parts .kinds)
   pub dDiffuse : c .counts .dDiffuse ≡ count (λ (c : CovPeriod). c .diffuse) (periodsOf x y)
   -- period t is diffuse exactly when t is below that count
   pub firsts : (t : ℕ) → t < x .n → getD (periodsOf x y) t noPeriod .diffuse ≡ ltb t (c .counts .dDiffuse)
@@ -90,12 +92,6 @@ all-shown y (g ∷ gs) t c = (period-shown y t c g, all-shown y gs (suc t) (peri
 
 -- ---- the counts
 
-none-refused : (r : ℕ) (q : Bool) → numberOf (endingOf r q) ≡ 0 → endingOf r q ≡ answered
-unfolding endingOf numberOf
-none-refused zero true e = absurd (omega arith)
-none-refused zero false e = refl
-none-refused (suc r) q e = absurd (omega arith)
-
 module _ (x : Model) (o : Offsets) (y : List Float) (b : CovParts) (room : Bool) (ok : ending x o (map classOf y) room ≡ answered) where
   fit : length (map classOf y) ≡ x .n * x .p
   unfolding ending
@@ -105,20 +101,17 @@ module _ (x : Model) (o : Offsets) (y : List Float) (b : CovParts) (room : Bool)
   unfolding countsIn
   counted = ap (λ (f : Ending). countsIn f (countsOf (periodsOf x y) (map classOf y))) ok
 
-  written : length (kindsWritten (covOf x (map classOf y))) ≡ kindsNeed x
-  unfolding kindsWritten kindsNeed covOf
-  written =
-      let cs = periodsOf x y in
-      let each = each-many (x .p) (systemOf x .m) cs (run-whole (systemOf x) 0 (startOf x) (map classOf y) (x .n) (x .p) fit) in
-      ap length (kinds-join cs)
-      ∙ length-map (join (decisionsOf cs)) kindNo
-      ∙ length-join (x .p) (decisionsOf cs) each
-      ∙ ap (λ (k : ℕ). k * x .p) (length-map cs _ ∙ run-length (systemOf x) 0 (startOf x) (map classOf y) (x .n) (x .p))
+  run-recorded : Recorded x y (lay (kindsWritten (covOf x (map classOf y))) (b .kinds))
+  unfolding covOf covFrom begunPast
+  run-recorded = by-run x (begunPast x) y (b .kinds) fit
 
-  news-is : countsOf (periodsOf x y) (map classOf y) .news ≡ count (λ (k : ℕ). not (eqb k 0)) (kindsWritten (covOf x (map classOf y)))
-  unfolding countsOf kindsWritten
-  news-is =
-      sym (kinds-count (λ (k : ℕ). not (eqb k 0)) (periodsOf x y))
+  news-is : let ks = lay (kindsWritten (covOf x (map classOf y))) (b .kinds) in countsOf (periodsOf x y) (map classOf y) .news ≡ ofKind 1 (records x ks) + ofKind 2 (records x ks)
+  unfolding countsOf covOf covFrom begunPast
+  news-is = news-told x (begunPast x) y (b .kinds) fit
+
+  kinds-are : covOutcome x (ending x o (map classOf y) room) (map classOf y) b .parts .kinds ≡ lay (kindsWritten (covOf x (map classOf y))) (b .kinds)
+  unfolding covOutcome after
+  kinds-are = ap (λ (f : Ending). after f (kindsWritten (covOf x (map classOf y))) (replicate (kindsNeed x) (causeNo atGap)) (b .kinds)) ok
 
   rows : length (gapRows (x .n) (x .p) (map classOf y)) ≡ x .n
   unfolding gapRows
@@ -134,19 +127,12 @@ module _ (x : Model) (o : Offsets) (y : List Float) (b : CovParts) (room : Bool)
   run-shown = all-shown (systemOf x) (gapRows (x .n) (x .p) (map classOf y)) 0 (startOf x)
 
   total : Totals x y (covOutcome x (ending x o (map classOf y) room) (map classOf y) b)
-  unfolding covOutcome countsOf after
+  unfolding covOutcome countsOf
   total =
-      let w = kindsWritten (covOf x (map classOf y)) in
       record {
         heard = ap (λ (l : Counts). l .heard) counted ∙ heard-is (periodsOf x y) y;
-        news =
-            ap (λ (l : Counts). l .news) counted
-            ∙ news-is
-            ∙ ap
-            (count (λ (k : ℕ). not (eqb k 0)))
-            (sym
-            (ap (λ (f : Ending). take (kindsNeed x) (after f w (replicate (kindsNeed x) 0) (b .kinds))) ok
-            ∙ take-at w (drop (length w) (b .kinds)) (kindsNeed x) written));
+        news = ap (λ (l : Counts). l .news) counted ∙ news-is ∙ ap (λ (ks : List ℕ). ofKind 1 (records x ks) + ofKind 2 (records x ks)) (sym kinds-are);
+        recorded = subst (Recorded x y) (sym kinds-are) run-recorded;
         dDiffuse = ap (λ (l : Counts). l .dDiffuse) counted;
         shown = run-shown;
         firsts = λ t h. sym (diffuse-first t h) ∙ ap (λ (l : Counts). ltb t (l .dDiffuse)) (sym counted);
@@ -155,8 +141,8 @@ module _ (x : Model) (o : Offsets) (y : List Float) (b : CovParts) (room : Bool)
 module _ (x : Model) (o : Offsets) (y : List Float) (b : CovParts) (b′ : MeanParts) where
   pub totals : outcome x o y b b′ .0 .refused ≡ 0 → Totals x y (outcome x o y b b′ .0)
   unfolding outcome outcomeAt covOutcome ending
-  totals e = total x o y b (roomy x b b′) (none-refused _ _ e)
+  totals e = total x o y b (roomy x b b′) (zero-answers _ _ e)
 
   pub totals-smooth : (sm sc : List Float) → smoothOutcome x o y b b′ sm sc .0 .filter .refused ≡ 0 → Totals x y (smoothOutcome x o y b b′ sm sc .0 .filter)
   unfolding smoothOutcome smoothOutcomeAt covOutcome ending
-  totals-smooth sm sc e = total x o y b (roomySmoothed x b b′ sm sc) (none-refused _ _ e)
+  totals-smooth sm sc e = total x o y b (roomySmoothed x b b′ sm sc) (zero-answers _ _ e)

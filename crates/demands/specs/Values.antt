@@ -1,5 +1,6 @@
 -- Demand 3 of document 00, for the filter's call and the smoother's: a finite reading's value reaches no refusal, covariance, decision, variance, gain
--- or count, nor the report on the covariances; and a finite reading that a run with news elsewhere judged no news reaches nothing, but that it was heard.
+-- or count, nor the report on the covariances; and a finite reading that a run with news elsewhere judged no news reaches nothing, but that it was heard,
+-- and why its record was skipped.
 use mathlib.Core.Path.{_≡_, refl, sym, ap, ap₂, _∙_, subst}
 use Prim.Native.Nat.{ℕ, suc, _+_, _*_, _/_, _%_, _<_}
 use native.Mathlib.Nat.{div-add-mod'}
@@ -13,19 +14,20 @@ use lib.Seq.{ext-getD}
 use lib.Ieee.{Float, nan}
 use Rattle.definition.specs.Num.{zeros, isFinite, at}
 use Rattle.definition.specs.Run.{join, count, anyOf, lay}
-use Rattle.definition.specs.Cov.{Cov, CovPeriod, diffuse}
+use Rattle.definition.specs.Cov.{Cov, CovPeriod, atGap}
 use Rattle.definition.specs.Mean.{Mean, MeanPeriod}
-use Rattle.definition.specs.Smooth.{smoothCov, smoothMean}
+use Rattle.definition.specs.Smooth.{smoothMean}
 use Rattle.definition.specs.Inputs.{Model, Offsets, Class, gap, classOf, isGap, isInfinity, frameOf}
-use Rattle.definition.specs.Parts.{predCov, predInf, filtCov, fStar, fInf, mStar, mInf, isNews}
-use Rattle.definition.specs.Outcome.{CovParts, MeanParts, CovOutcome, MeanOutcome, SmoothedCov, SmoothedMean, Counts, Ending, turned, silent, answered, endingOf, ending, noInformation, after, countsIn, reportIn, numberOf, roomy, roomySmoothed, kindsWritten, kindsNeed, covNeed, covWritten, meanEnded, smoothedCovNeed, smoothedMeanNeed, covOf, meanOf, countsOf, decisionsOf, covOutcome, meanOutcome, outcome, outcomeAt, smoothedCov, smoothedMean, smoothOutcome, smoothOutcomeAt}
+use Rattle.definition.specs.Parts.{CovPart, predCov, predInf, filtCov, fStar, fInf, mStar, mInf, causeNo}
+use Rattle.definition.specs.Outcome.{CovParts, MeanParts, CovOutcome, MeanOutcome, SmoothedCov, SmoothedMean, Counts, Ending, turned, silent, answered, endingOf, ending, noInformation, after, countsIn, reportIn, numberOf, roomy, roomySmoothed, kindsWritten, kindsNeed, covEnded, meanEnded, smoothedCovNeed, smoothedMeanNeed, covOf, meanOf, countsOf, covOutcome, meanOutcome, outcome, outcomeAt, smoothedCov, smoothedMean, smoothOutcome, smoothOutcomeAt}
 use Rattle.definition.specs.Refusals.{refusal}
-use Rattle.definition.specs.Reports.{covReport, meanReport}
+use Rattle.definition.specs.Reports.{meanReport}
 use Rattle.definition.specs.Carried.{begunPast, begunMean, covFrom, meanFrom}
 use Rattle.definition.specs.Tracks.{finite-class, by-classes, smooth-by-classes}
-use Rattle.laws.specs.Lists.{map-set}
+use Rattle.laws.specs.Lists.{map-set, lay-set, place-lt}
+use Rattle.laws.specs.Unseen.{OtherCause}
 use Rattle.laws.specs.Kept.{begun}
-use Rattle.demands.specs.Unheard.{deaf, same-classes, quiet, one-less, same-many, same-infinity, informed, within, readings-fit, answered-by, place}
+use Rattle.demands.specs.Unheard.{deaf, same-classes, kinds-long, run-with-gap, gap-deaf, one-less, same-many, same-infinity, informed, within, readings-fit, answered-by, place}
 
 -- ---- the first half
 
@@ -90,20 +92,21 @@ module _ (x : Model) (o : Offsets) (y y′ : List Float) (alike : Alike y y′) 
 
 -- ---- the second half
 
--- a run that found news somewhere judged the finite reading at place k of y no news: its record, in the lent kinds, is skipped
+-- a run that found news somewhere judged the finite reading at place k of y no news: its record, in the lent kinds, is 3, 4 or 5
 pub record NoNews (y : List Float) (c : CovOutcome) (k : ℕ) : Type 0 where
   pub read : T (isFinite (at y k))
   pub news : 0 < c .counts .news
-  pub skip : getD (c .parts .kinds) k 9 ≡ 0
+  pub skip : 2 < getD (c .parts .kinds) k 0
 
--- the second is the first but for the count of readings heard, which is one less
-pub record OneLess (c c′ : CovOutcome) : Type 0 where
+-- the second is the first but for the count of readings heard, which is one less, and the cause in the record at place k, which is gap
+pub record OneLess (c c′ : CovOutcome) (k : ℕ) : Type 0 where
   pub heard : suc (c′ .counts .heard) ≡ c .counts .heard
   pub news : c′ .counts .news ≡ c .counts .news
   pub dDiffuse : c′ .counts .dDiffuse ≡ c .counts .dDiffuse
   pub covOff : c′ .covOff ≡ c .covOff
   pub refusals : c′ .refused ≡ c .refused
-  pub parts : c′ .parts ≡ c .parts
+  pub kinds : c′ .parts .kinds ≡ set (c .parts .kinds) k (causeNo atGap)
+  pub covs : (q : CovPart) → c′ .parts .part q ≡ c .parts .part q
 
 -- news tells of an answer
 news-answers : (f : Ending) (l : Counts) → 0 < countsIn f l .news → f ≡ answered
@@ -112,13 +115,21 @@ news-answers (turned k) l h = absurd (omega arith)
 news-answers silent l h = absurd (omega arith)
 news-answers answered l h = refl
 
--- the lent covariance parts after a run r
-abbrev pub partsFrom : Model → Ending → List CovPeriod × Cov → CovParts → CovParts
-partsFrom x f r b =
-    record {
-      kinds = after f (kindsWritten r) (replicate (kindsNeed x) 0) (b .kinds);
-      part = λ q. after f (covWritten (x .m) r q) (zeros (covNeed x q)) (b .part q);
-    }
+-- of two answered runs, r and r′: the counts l and l′, the reports u and u′
+pub one-less-in : (x : Model) (b : CovParts) {t i u u′ : ℕ} {f f′ : Ending} {r r′ : List CovPeriod × Cov} {l l′ : Counts} → f ≡ answered → f′ ≡ answered
+    → OtherCause (x .p) (x .m) t i atGap r r′ → t * x .p + i < length (kindsWritten r) → suc (l′ .heard) ≡ l .heard → l′ .news ≡ l .news → l′ .dDiffuse ≡ l .dDiffuse → u′ ≡ u
+    → OneLess (covEnded x f r l u b) (covEnded x f′ r′ l′ u′ b) (t * x .p + i)
+unfolding numberOf countsIn reportIn after
+one-less-in x b {t} {i} {r = r} e e′ g long heard news dDiffuse covOff =
+    rw (e, e′) (record {
+      heard = heard;
+      news = news;
+      dDiffuse = dDiffuse;
+      covOff = covOff;
+      refusals = refl;
+      kinds = ap (λ (w : List ℕ). lay w (b .kinds)) (g .kinds) ∙ lay-set (kindsWritten r) (b .kinds) (t * x .p + i) (causeNo atGap) long;
+      covs = λ q. ap (λ (w : List Float). lay w (b .part q)) (g .parts q);
+    })
 
 -- period t, element i, in a call with this much room: what becomes of the outcome's halves, f being the call's ending
 module _ (x : Model) (o : Offsets) (y : List Float) (b : CovParts) (room : Bool) (t i : ℕ) (inT : t < x .n) (inI : i < x .p) (h : NoNews y (covOutcome x (ending x o (map classOf y) room) (map classOf y) b) (t * x .p + i)) where
@@ -126,11 +137,11 @@ module _ (x : Model) (o : Offsets) (y : List Float) (b : CovParts) (room : Bool)
   unfolding covOutcome
   ok = news-answers (ending x o (map classOf y) room) (countsOf (covOf x (map classOf y) .0) (map classOf y)) (h .news)
 
-  real-skip : getD (lay (kindsWritten (covOf x (map classOf y))) (b .kinds)) (t * x .p + i) 9 ≡ 0
+  real-skip : 2 < getD (lay (kindsWritten (covOf x (map classOf y))) (b .kinds)) (t * x .p + i) 0
   unfolding covOutcome after
   real-skip =
       subst
-      (λ (f : Ending). getD (after f (kindsWritten (covOf x (map classOf y))) (replicate (kindsNeed x) 0) (b .kinds)) (t * x .p + i) 9 ≡ 0)
+      (λ (f : Ending). 2 < getD (after f (kindsWritten (covOf x (map classOf y))) (replicate (kindsNeed x) (causeNo atGap)) (b .kinds)) (t * x .p + i) 0)
       ok
       (h .skip)
 
@@ -145,7 +156,7 @@ module _ (x : Model) (o : Offsets) (y : List Float) (b : CovParts) (room : Bool)
   fit : length (map classOf y) ≡ x .n * x .p
   fit = readings-fit x o _ _ _ passed
 
-  -- another finite number, or whatever, leaves the mean run; a gap leaves the ending and the covariance run
+  -- another finite number, or whatever, leaves the mean run; a gap leaves the ending, and the covariance run but for the cause
   means : (v : Float) → meanOf x o (covOf x (map classOf y) .0) (set y (t * x .p + i) v) ≡ meanOf x o (covOf x (map classOf y) .0) y
   unfolding covOf meanOf covFrom meanFrom begunPast begunMean
   means = deaf x o (begun x o) y (b .kinds) t i inT inI fit (h .read) real-skip
@@ -161,9 +172,17 @@ module _ (x : Model) (o : Offsets) (y : List Float) (b : CovParts) (room : Bool)
   unfolding classOf
   gap-classes = map-set classOf y (t * x .p + i) nan
 
-  muted-run : covOf x muted ≡ covOf x (map classOf y)
+  muted-run : OtherCause (x .p) (x .m) t i atGap (covOf x (map classOf y)) (covOf x muted)
   unfolding covOf covFrom begunPast
-  muted-run = quiet x o (begun x o) y (b .kinds) t i inT inI fit (h .read) real-skip
+  muted-run = run-with-gap x o (begun x o) y (b .kinds) t i inT inI fit (h .read) real-skip
+
+  muted-means : (v : Float) → meanOf x o (covOf x muted .0) (set y (t * x .p + i) v) ≡ meanOf x o (covOf x (map classOf y) .0) y
+  unfolding covOf meanOf covFrom meanFrom begunPast begunMean
+  muted-means = gap-deaf x o (begun x o) y (b .kinds) t i inT inI fit (h .read) real-skip
+
+  long : t * x .p + i < length (kindsWritten (covOf x (map classOf y)))
+  unfolding covOf covFrom begunPast
+  long = kinds-long x o (begun x o) y (b .kinds) t i inT inI fit (h .read) real-skip
 
   less : suc (count not (map isGap muted)) ≡ count not (map isGap (map classOf y))
   unfolding covOf covFrom begunPast
@@ -177,44 +196,22 @@ module _ (x : Model) (o : Offsets) (y : List Float) (b : CovParts) (room : Bool)
       let many = same-many x o (begun x o) y (b .kinds) t i inT inI fit (h .read) real-skip in
       let infinity = same-infinity x o (begun x o) y (b .kinds) t i inT inI fit (h .read) real-skip in
       let r : refusal x o (length muted) (anyOf isInfinity muted) room ≡ 0 = ap₂ (λ (l : ℕ) (q : Bool). refusal x o l q room) many infinity ∙ passed in
-      let n : 0 < countsOf (covOf x muted .0) muted .news = rw muted-run real-news in
+      let n : 0 < countsOf (covOf x muted .0) muted .news = rw (muted-run .news) real-news in
       ap₂ endingOf r (informed (ltb 0 (countsOf (covOf x muted .0) muted .heard)) (countsOf (covOf x muted .0) muted .news) n)
 
   gap-ending : ending x o (map classOf (set y (t * x .p + i) nan)) room ≡ ending x o (map classOf y) room
   gap-ending = ap (λ (ks : List Class). ending x o ks room) gap-classes ∙ still ∙ sym ok
 
-  gap-run : covOf x (map classOf (set y (t * x .p + i) nan)) ≡ covOf x (map classOf y)
-  gap-run = ap (covOf x) gap-classes ∙ muted-run
+  gap-run : OtherCause (x .p) (x .m) t i atGap (covOf x (map classOf y)) (covOf x (map classOf (set y (t * x .p + i) nan)))
+  gap-run = rw gap-classes muted-run
 
   gap-means : meanOf x o (covOf x (map classOf (set y (t * x .p + i) nan)) .0) (set y (t * x .p + i) nan) ≡ meanOf x o (covOf x (map classOf y) .0) y
-  gap-means = ap (λ (r : List CovPeriod × Cov). meanOf x o (r .0) (set y (t * x .p + i) nan)) gap-run ∙ means nan
+  gap-means = rw gap-classes (muted-means nan)
 
-  gap-covs : OneLess (covOutcome x (ending x o (map classOf y) room) (map classOf y) b) (covOutcome x (ending x o (map classOf (set y (t * x .p + i) nan)) room) (map classOf (set y (t * x .p + i) nan)) b)
-  unfolding covOutcome countsIn countsOf
+  gap-covs : OneLess (covOutcome x (ending x o (map classOf y) room) (map classOf y) b) (covOutcome x (ending x o (map classOf (set y (t * x .p + i) nan)) room) (map classOf (set y (t * x .p + i) nan)) b) (t * x .p + i)
+  unfolding covOutcome countsOf
   gap-covs =
-      let ks = map classOf y in
-      let gs = map classOf (set y (t * x .p + i) nan) in
-      let counted : (f : Ending) (l : Counts) → f ≡ answered → countsIn f l ≡ l = λ f l e. ap (λ (f : Ending). countsIn f l) e in
-      let old = counted (ending x o ks room) (countsOf (covOf x ks .0) ks) ok in
-      let new = counted (ending x o gs room) (countsOf (covOf x gs .0) gs) (gap-ending ∙ ok) in
-      record {
-        heard =
-            ap (λ (l : Counts). suc (l .heard)) new
-            ∙ ap (λ (ks : List Class). suc (count not (map isGap ks))) gap-classes
-            ∙ less
-            ∙ sym (ap (λ (l : Counts). l .heard) old);
-        news =
-            ap (λ (l : Counts). l .news) new
-            ∙ ap (λ (r : List CovPeriod × Cov). count isNews (join (decisionsOf (r .0)))) gap-run
-            ∙ sym (ap (λ (l : Counts). l .news) old);
-        dDiffuse =
-            ap (λ (l : Counts). l .dDiffuse) new
-            ∙ ap (λ (r : List CovPeriod × Cov). count (λ (c : CovPeriod). c .diffuse) (r .0)) gap-run
-            ∙ sym (ap (λ (l : Counts). l .dDiffuse) old);
-        covOff = ap₂ (λ (f : Ending) (r : List CovPeriod × Cov). reportIn f (covReport 0 (r .0))) gap-ending gap-run;
-        refusals = ap numberOf gap-ending;
-        parts = ap₂ (λ (f : Ending) (r : List CovPeriod × Cov). partsFrom x f r b) gap-ending gap-run;
-      }
+      one-less-in x b ok (gap-ending ∙ ok) gap-run long (ap (λ (ks : List Class). suc (count not (map isGap ks))) gap-classes ∙ less) (gap-run .news) (gap-run .dDiffuse) (gap-run .covOff 0)
 
 -- a place is some element of some period
 module _ (x : Model) (o : Offsets) (y : List Float) (b : CovParts) (room : Bool) (k : ℕ) (h : NoNews y (covOutcome x (ending x o (map classOf y) room) (map classOf y) b) k) where
@@ -229,10 +226,11 @@ module _ (x : Model) (o : Offsets) (y : List Float) (b : CovParts) (room : Bool)
 -- ---- the filter's call
 
 pub record Unmoved (x : Model) (o : Offsets) (y : List Float) (b : CovParts) (b′ : MeanParts) (k : ℕ) : Type 0 where
+  pub place : k < x .n * x .p
   -- another finite number at place k changes nothing
   pub number : (v : Float) → T (isFinite v) → outcome x o (set y k v) b b′ ≡ outcome x o y b b′
-  -- a gap there changes only the count of readings heard
-  pub gapCov : OneLess (outcome x o y b b′ .0) (outcome x o (set y k nan) b b′ .0)
+  -- a gap there changes only the count of readings heard and the cause in its record
+  pub gapCov : OneLess (outcome x o y b b′ .0) (outcome x o (set y k nan) b b′ .0) k
   pub gapMean : outcome x o (set y k nan) b b′ .1 ≡ outcome x o y b b′ .1
 
 module _ (x : Model) (o : Offsets) (y : List Float) (b : CovParts) (b′ : MeanParts) where
@@ -243,6 +241,7 @@ module _ (x : Model) (o : Offsets) (y : List Float) (b : CovParts) (b′ : MeanP
       let f = ending x o (map classOf y) room in
       let made : Ending → List MeanPeriod × Mean → MeanOutcome = λ f r. meanEnded x f r (meanReport 0 (r .0)) b′ in
       record {
+        place = place-lt (x .n) (x .p) t i inT inI;
         number = λ v fv.
             ap (λ (ks : List Class). outcomeAt x o ks (set y (t * x .p + i) v) b b′) (classes x o y b room t i inT inI h v fv)
             ∙ ap (λ (r : List MeanPeriod × Mean). (covOutcome x f (map classOf y) b, made f r)) (means x o y b room t i inT inI h v);
@@ -263,8 +262,9 @@ module _ (x : Model) (o : Offsets) (y : List Float) (b : CovParts) (b′ : MeanP
 -- ---- the smoother's call
 
 pub record UnmovedSmooth (x : Model) (o : Offsets) (y : List Float) (b : CovParts) (b′ : MeanParts) (sm sc : List Float) (k : ℕ) : Type 0 where
+  pub place : k < x .n * x .p
   pub number : (v : Float) → T (isFinite v) → smoothOutcome x o (set y k v) b b′ sm sc ≡ smoothOutcome x o y b b′ sm sc
-  pub gapCov : OneLess (smoothOutcome x o y b b′ sm sc .0 .filter) (smoothOutcome x o (set y k nan) b b′ sm sc .0 .filter)
+  pub gapCov : OneLess (smoothOutcome x o y b b′ sm sc .0 .filter) (smoothOutcome x o (set y k nan) b b′ sm sc .0 .filter) k
   pub gapSmoothed : smoothOutcome x o (set y k nan) b b′ sm sc .0 .smoothed ≡ smoothOutcome x o y b b′ sm sc .0 .smoothed
   pub gapMean : smoothOutcome x o (set y k nan) b b′ sm sc .1 ≡ smoothOutcome x o y b b′ sm sc .1
 
@@ -274,25 +274,24 @@ module _ (x : Model) (o : Offsets) (y : List Float) (b : CovParts) (b′ : MeanP
   at-element-smooth t i inT inI h =
       let room = roomySmoothed x b b′ sm sc in
       let f = ending x o (map classOf y) room in
-      let made : Ending → List CovPeriod → List MeanPeriod × Mean → SmoothedMean =
-      λ f cs r. record {
-        filter = meanEnded x f r (meanReport 0 (r .0)) b′;
-        smoothed = after f (join (smoothMean (frameOf x) cs (r .0))) (zeros (smoothedMeanNeed x)) sm;
-      } in
+      let with-smoothed : Ending → List MeanPeriod × Mean → List (List Float) → SmoothedMean =
+      λ f r l. record { filter = meanEnded x f r (meanReport 0 (r .0)) b′; smoothed = after f (join l) (zeros (smoothedMeanNeed x)) sm } in
+      let made : Ending → List CovPeriod → List MeanPeriod × Mean → SmoothedMean = λ f cs r. with-smoothed f r (smoothMean (frameOf x) cs (r .0)) in
       let cs = covOf x (map classOf y) .0 in
       record {
+        place = place-lt (x .n) (x .p) t i inT inI;
         number = λ v fv.
             ap (λ (ks : List Class). smoothOutcomeAt x o ks (set y (t * x .p + i) v) b b′ sm sc) (classes x o y b room t i inT inI h v fv)
             ∙ ap (λ (r : List MeanPeriod × Mean). (record { filter = covOutcome x f (map classOf y) b; smoothed = smoothedCov x f (map classOf y) sc }, made f cs r)) (means x o y b room t i inT inI h v);
         gapCov = gap-covs x o y b room t i inT inI h;
         gapSmoothed =
             ap₂
-            (λ (f : Ending) (r : List CovPeriod × Cov). after f (join (smoothCov (frameOf x) (r .0))) (zeros (smoothedCovNeed x)) sc)
+            (λ (f : Ending) (l : List (List Float)). after f (join l) (zeros (smoothedCovNeed x)) sc)
             (gap-ending x o y b room t i inT inI h)
-            (gap-run x o y b room t i inT inI h);
+            (gap-run x o y b room t i inT inI h .smoothedCov (frameOf x));
         gapMean =
-            ap₂ (λ (f : Ending) (r : List CovPeriod × Cov). made f (r .0) (meanOf x o (r .0) (set y (t * x .p + i) nan))) (gap-ending x o y b room t i inT inI h) (gap-run x o y b room t i inT inI h)
-            ∙ ap (made f cs) (means x o y b room t i inT inI h nan);
+            ap₂ (λ (f : Ending) (r : List MeanPeriod × Mean). made f (covOf x (map classOf (set y (t * x .p + i) nan)) .0) r) (gap-ending x o y b room t i inT inI h) (gap-means x o y b room t i inT inI h)
+            ∙ ap (λ (l : List (List Float)). with-smoothed f (meanOf x o cs y) l) (gap-run x o y b room t i inT inI h .smoothedMean (frameOf x) (meanOf x o cs y .0));
       }
 
   pub no-news-smooth : (k : ℕ) → NoNews y (smoothOutcome x o y b b′ sm sc .0 .filter) k → UnmovedSmooth x o y b b′ sm sc k

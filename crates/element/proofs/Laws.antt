@@ -1,7 +1,7 @@
 -- What the calls of a function give, put together: equations over plain variables.
 use Prim.Native.Nat.{ℕ, _≤_, _<_, _+_}
 use mathlib.Core.Path.{_≡_, refl, sym, ap, _∙_, subst}
-use mathlib.Core.Bool.{Bool, true, false, cond}
+use mathlib.Core.Bool.{Bool, true, false}
 use mathlib.Core.List.{List, [], _∷_, _++_}
 use native.Mathlib.Omega.{arith}
 use native.Mathlib.Numerals.{add-one}
@@ -11,6 +11,8 @@ use lib.Ieee.{Float}
 use Rattle.definition.specs.Num.{0ᶠ, ent}
 use Rattle.definition.specs.Dense.{matVec, matTVec, outerSub, over, dot, row}
 use Rattle.definition.specs.Cov.{
+  Cause,
+  atGap,
   Decision,
   skipped,
   usual,
@@ -20,7 +22,6 @@ use Rattle.definition.specs.Cov.{
   rootLess,
   k1Of,
   dust,
-  usualTest,
   usually,
   diffusely,
   judge,
@@ -32,8 +33,10 @@ use Rattle.definition.specs.Cov.{
   none-yet,
   sdOf,
 }
+use Rattle.definition.specs.Parts.{causeNo}
 use Rattle.definition.specs.Star.{againOf}
 use Rattle.laws.specs.Flat.{Flat}
+use Rattle.promise.specs.declared.Cause as told
 use Rattle.dense.specs.Views.{vec, mat, rect}
 use Rattle.dense.proofs.Laws as dense
 use Rattle.star.specs.Views.{Sound, Replayed, Downdated, projectedAt}
@@ -41,7 +44,10 @@ use Rattle.star.specs.declared.StarRoot.{StarRoot}
 use Rattle.star.proofs.Laws as roots
 use Rattle.acceptance.specs.declared.Finding.{Finding}
 use Rattle.acceptance.specs.declared.Finding.the-variants as finding
-use Rattle.acceptance.specs.Views.{decisionBy, judgedAs, judgedBy, UsualBy, Judged}
+use Rattle.acceptance.specs.declared.Found.{Found}
+use Rattle.acceptance.specs.declared.Found.the-variants as found
+use Rattle.promise.specs.Records.{causeIn}
+use Rattle.acceptance.specs.Views.{decisionBy, decisionOn, judgedAs, judgedBy, UsualBy, Judged}
 use Rattle.element.specs.declared.Step.{Step}
 use Rattle.element.specs.declared.Step.the-variants as step
 use Rattle.element.specs.Views.{Updated, Carried, carried, innerOf, fixedOf, Entered, Recorded, takenBy, Applied, Settled, ElementIs, ElementDone, WithoutRoot, ByRoot}
@@ -67,17 +73,17 @@ one-more l i x e h = rw add-one (take-suc-set l i x (omega arith))
 
 -- unused gain vectors are +0.0
 module _ (i m : ℕ) {n n′ : Flat} (h : m ≤ 8) where
-  pub recorded-skipped : Entered i m 0 0ᶠ 0ᶠ (vec m (replicate 8 0ᶠ)) (vec m (replicate 8 0ᶠ)) n n′ → Recorded m i skipped n n′
-  recorded-skipped w = record { kinds = w .kinds; fStars = w .fStars; fInfs = w .fInfs; mStars = w .mStars ∙ ap (λ (x : List Float). rect i m (n .mStars) ++ x) (dense.vec-zeros m 8 h); mInfs = w .mInfs ∙ ap (λ (x : List Float). rect i m (n .mInfs) ++ x) (dense.vec-zeros m 8 h) }
+  pub recorded-skipped : (c : Cause) {k : ℕ} → k ≡ causeNo c → Entered i m k 0ᶠ 0ᶠ (vec m (replicate 8 0ᶠ)) (vec m (replicate 8 0ᶠ)) n n′ → Recorded m i (skipped c) n n′
+  recorded-skipped c e w = record { kinds = w .kinds ∙ ap (λ (x : ℕ). take i (n .kinds) ++ (x ∷ [])) e; fStars = w .fStars; fInfs = w .fInfs; mStars = w .mStars ∙ ap (λ (x : List Float). rect i m (n .mStars) ++ x) (dense.vec-zeros m 8 h); mInfs = w .mInfs ∙ ap (λ (x : List Float). rect i m (n .mInfs) ++ x) (dense.vec-zeros m 8 h) }
 
   pub recorded-usual : (f : Float) (a : List Float) → Entered i m 1 f 0ᶠ a (vec m (replicate 8 0ᶠ)) n n′ → Recorded m i (usual f a) n n′
   recorded-usual f a w = record { kinds = w .kinds; fStars = w .fStars; fInfs = w .fInfs; mStars = w .mStars; mInfs = w .mInfs ∙ ap (λ (x : List Float). rect i m (n .mInfs) ++ x) (dense.vec-zeros m 8 h) }
 
 -- ---- a decision, carried out
 module _ (m i : ℕ) (z : List Float) (b b′ : Carried) where
-  pub moved-none : b′ .star ≡ b .star → b′ .pinf ≡ b .pinf → b′ .root ≡ b .root → Recorded m i skipped (b .flat) (b′ .flat) → Applied m i z skipped step.Passed b b′
+  pub moved-none : (c : Cause) → b′ .star ≡ b .star → b′ .pinf ≡ b .pinf → b′ .root ≡ b .root → Recorded m i (skipped c) (b .flat) (b′ .flat) → Applied m i z (skipped c) step.Passed b b′
   unfolding apply
-  moved-none e1 e2 e3 w = record { inner = λ taken. rw (e1, e2, e3); recorded = w; told = refl }
+  moved-none c e1 e2 e3 w = record { inner = λ taken. rw (e1, e2, e3); recorded = w; told = refl }
 
   pub moved-usual : (f : Float) (a : List Float) → mat m (b′ .star) ≡ outerSub m (mat m (b .star)) a (over m a f) → b′ .pinf ≡ b .pinf → b′ .root ≡ b .root
       → Recorded m i (usual f a) (b .flat) (b′ .flat) → Applied m i z (usual f a) step.Taken b b′
@@ -90,9 +96,9 @@ module _ (m i : ℕ) (z : List Float) (b b′ : Carried) where
   moved-diffuse f g a c u e w = record { inner = λ taken. rw (u .star, u .pinf, e); recorded = w; told = refl }
 
 module _ (m i : ℕ) (z : List Float) (f : Float) {d : Finding} (a c : List Float) {r : Step} (b b′ : Carried) where
-  pub settled-nothing : d ≡ finding.Nothing → Applied m i z skipped r b b′ → Settled m i z f d a c r b b′
+  pub settled-nothing : (why : told.Cause) → d ≡ finding.Nothing why → Applied m i z (skipped (causeIn why)) r b b′ → Settled m i z f d a c r b b′
   unfolding Settled
-  settled-nothing e w = rw e w
+  settled-nothing why e w = rw e w
 
   pub settled-usual : d ≡ finding.Usual → Applied m i z (usual f (vec m a)) r b b′ → Settled m i z f d a c r b b′
   unfolding Settled
@@ -111,7 +117,7 @@ module _ (m i : ℕ) (z : List Float) (f : Float) {d : Finding} (a c : List Floa
 -- before the period's first update the standard deviations are not read
 judged-known : (m : ℕ) (z : List Float) (h : Float) (live : Bool) (pre sd sd′ : List Float) (again : Float) (fresh : Bool) (unres star pinf root : List Float) (f : Float) (m* : List Float)
     → (fresh ≡ false → sd ≡ sd′) → judgedBy m (judgedAs z h live pre sd unres fresh again star pinf root) f m* ≡ judgedBy m (judgedAs z h live pre sd′ unres fresh again star pinf root) f m*
-unfolding judgedBy diffusely usually usualTest dust
+unfolding judgedBy diffusely usually dust
 judged-known m z h live pre sd sd′ again true unres star pinf root f m* k = refl
 judged-known m z h live pre sd sd′ again false unres star pinf root f m* k = rw (k refl)
 
@@ -123,12 +129,12 @@ judged-is m z h live pre sd again fresh unres star pinf root e1 e2 = rw (e2, e1)
 -- the elements taken, after a decision
 pub applied-taken : (m : ℕ) (z : List Float) (i : ℕ) (s : Inner) (d : Decision) → apply m z i s d .taken ≡ takenBy d (s .taken) i
 unfolding apply
-applied-taken m z i s skipped = refl
+applied-taken m z i s (skipped c) = refl
 applied-taken m z i s (usual f m*) = refl
 applied-taken m z i s (diffuse f f∞ m* m∞) = refl
 
 module _ (p m : ℕ) (hs : List Float) (fix : Fixed) (i : ℕ) (s : Inner) where
-  gap-is : {gap : Bool} → gap ≡ true → (skipped, s) ≡ elementOf p m hs fix i s gap
+  gap-is : {gap : Bool} → gap ≡ true → (skipped atGap, s) ≡ elementOf p m hs fix i s gap
   unfolding elementOf verdict apply
   gap-is e = rw e
 
@@ -144,9 +150,9 @@ did m i z d {want} taken r b b′ e w = subst (λ (x : Decision × Inner). Eleme
     (record { inner = ap (λ (t : List ℕ). innerOf m b′ t) (applied-taken m z i (innerOf m b taken) d) ∙ w .inner taken; recorded = w .recorded; told = w .told })
 
 module _ (p m : ℕ) (hs : List Float) (fix : Fixed) (fresh : Bool) (i : ℕ) {gap : Bool} (b b′ : Carried) where
-  pub went-gap : gap ≡ true → b′ .star ≡ b .star → b′ .pinf ≡ b .pinf → b′ .root ≡ b .root → Recorded m i skipped (b .flat) (b′ .flat) → WithoutRoot p m hs fix fresh i gap b b′ step.Passed
+  pub went-gap : gap ≡ true → b′ .star ≡ b .star → b′ .pinf ≡ b .pinf → b′ .root ≡ b .root → Recorded m i (skipped atGap) (b .flat) (b′ .flat) → WithoutRoot p m hs fix fresh i gap b b′ step.Passed
   unfolding WithoutRoot apply
-  went-gap e e1 e2 e3 w = λ taken k. did m i [] skipped taken step.Passed b b′ (gap-is p m hs fix i (innerOf m b taken) e) (moved-none m i [] b b′ e1 e2 e3 w)
+  went-gap e e1 e2 e3 w = λ taken k. did m i [] (skipped atGap) taken step.Passed b b′ (gap-is p m hs fix i (innerOf m b taken) e) (moved-none m i [] b b′ atGap e1 e2 e3 w)
 
   module _ {z : List Float} {h f : Float} (a c : List Float) {sd : List Float} (r : Step) (e : gap ≡ false) (ez : z ≡ row m (fix .z) i) (eh : h ≡ ent p hs i i) (ek : fresh ≡ false → sd ≡ sdOf m (fix .pre))
       (ea : vec m a ≡ matVec m (mat m (b .star)) z) (ef : f ≡ fStarBy m z h (vec m a)) where
@@ -166,7 +172,7 @@ module _ (p m : ℕ) (hs : List Float) (fix : Fixed) (fresh : Bool) (i : ℕ) {g
 
     pub went : (d : Finding) → Judges d → Settled m i z f d a c r b b′ → WithoutRoot p m hs fix fresh i gap b b′ r
     unfolding Settled WithoutRoot decisionBy
-    went finding.Nothing w v = rw (v .told) (rw (v .told) at (done finding.Nothing skipped w (λ again. refl) v))
+    went (finding.Nothing why) w v = rw (v .told) (rw (v .told) at (done (finding.Nothing why) (skipped (causeIn why)) w (λ again. refl) v))
     went finding.Usual w v = rw (v .told) (rw (v .told) at (done finding.Usual (usual f (vec m a)) w (λ again. refl) v))
     went (finding.Diffuse g) w v = rw (v .told) (rw (v .told) at (done (finding.Diffuse g) (diffuse f g (vec m a) (vec m c)) w (λ again. refl) v))
     went (finding.Doubtful x) w v = rw (v .0) (record { same = v .1; settled = w .doubts x refl .0; stale = w .doubts x refl .1 })
@@ -191,32 +197,34 @@ module _ (p m : ℕ) (hs design pre : List Float) (i : ℕ) (gap : Bool) (star :
       ap (λ (x : Decision × Inner). x .1 .taken) (sym e) ∙ applied-taken m z i (innerOf m (carried star p∞ b n) taken) d in
       record { inner = g .inner; recorded = g .recorded; replayed = rw t (keeps taken s w .0); stale = rw t (keeps taken s w .1) }
 
-  pub by-root-gap : gap ≡ true → star′ ≡ star → Recorded m i skipped n n′ → ByRoot p m hs design pre i gap star n root star′ n′ root
+  pub by-root-gap : gap ≡ true → star′ ≡ star → Recorded m i (skipped atGap) n n′ → ByRoot p m hs design pre i gap star n root star′ n′ root
   unfolding apply
-  by-root-gap e s v = by-root [] skipped root step.Passed
+  by-root-gap e s v = by-root [] (skipped atGap) root step.Passed
       (λ p∞ b unres taken k w. gap-is p m hs (fixedOf p m false design pre unres) i (innerOf m (carried star p∞ b n) taken) e)
-      (λ p∞ b. moved-none m i [] (carried star p∞ b n) (carried star′ p∞ b n′) s refl refl v)
+      (λ p∞ b. moved-none m i [] (carried star p∞ b n) (carried star′ p∞ b n′) atGap s refl refl v)
       (λ taken k w. (w, k))
 
-  module _ {z : List Float} {h f : Float} {a sd : List Float} {t : Bool} (e : gap ≡ false) (ez : z ≡ row m (rect p m design) i) (eh : h ≡ ent p hs i i) (ek : sd ≡ sdOf m (mat m pre))
-      (ea : a ≡ matVec m (mat m star) z) (ef : f ≡ fStarBy m z h a) (et : UsualBy m z h false (mat m pre) sd false (projectedAt root z h) (mat m star) f t) where
-    decided : (d : Decision) → d ≡ cond t (usual f a) skipped → (p∞ b unres : List Float) (taken : List ℕ) → none-yet taken ≡ false → Replayed p m (rect p m design) hs (mat m pre) taken root
+  module _ {z : List Float} {h f : Float} {a sd : List Float} {r : Found} (e : gap ≡ false) (ez : z ≡ row m (rect p m design) i) (eh : h ≡ ent p hs i i) (ek : sd ≡ sdOf m (mat m pre))
+      (ea : a ≡ matVec m (mat m star) z) (ef : f ≡ fStarBy m z h a) (er : UsualBy m z h (mat m pre) sd (projectedAt root z h) (mat m star) f r) where
+    decided : (d : Decision) → d ≡ decisionOn f a r → (p∞ b unres : List Float) (taken : List ℕ) → none-yet taken ≡ false → Replayed p m (rect p m design) hs (mat m pre) taken root
         → (d, apply m z i (innerOf m (carried star p∞ b n) taken) d) ≡ elementOf p m hs (fixedOf p m false design pre unres) i (innerOf m (carried star p∞ b n) taken) gap
-    unfolding judge usually
+    unfolding judge
     decided d g p∞ b unres taken k w =
         let again : projectedAt root z h ≡ againOf p m (rect p m design) hs (mat m pre) i taken = rw (ez, eh) (roots.kept-again p m (rect p m design) hs (mat m pre) taken root w i) in
-        element-is p m hs (fixedOf p m false design pre unres) i (innerOf m (carried star p∞ b n) taken) e ez eh (rw (k, sym again, sym ek, sym ea, sym ef, sym (et .says (mat m unres) (mat m p∞) (mat m b))) g)
+        element-is p m hs (fixedOf p m false design pre unres) i (innerOf m (carried star p∞ b n) taken) e ez eh (rw (k, sym again, sym ek, sym ea, sym ef) (g ∙ er .finds (mat m unres) (mat m p∞) (mat m b) a))
 
     -- the test hands the root back: what goes on, or is downdated, is that one
     module _ {back : StarRoot} (q : Sound m root) (handed : back ≡ root) where
-      pub by-root-no : t ≡ false → star′ ≡ star → Recorded m i skipped n n′ → Sound m back × ByRoot p m hs design pre i gap star n root star′ n′ back
-      by-root-no g s v = rw handed (
+      pub by-root-no : (why : told.Cause) → r ≡ found.Nothing why → star′ ≡ star → Recorded m i (skipped (causeIn why)) n n′ → Sound m back × ByRoot p m hs design pre i gap star n root star′ n′ back
+      unfolding decisionOn
+      by-root-no why g s v = let c = causeIn why in rw handed (
         q,
-        by-root z skipped root step.Passed (decided skipped (rw g)) (λ p∞ b. moved-none m i z (carried star p∞ b n) (carried star′ p∞ b n′) s refl refl v) (λ taken k w. (w, k)),
+        by-root z (skipped c) root step.Passed (decided (skipped c) (rw g)) (λ p∞ b. moved-none m i z (carried star p∞ b n) (carried star′ p∞ b n′) c s refl refl v) (λ taken k w. (w, k)),
       )
 
-      pub by-root-yes : (root′ : StarRoot) → t ≡ true → mat m star′ ≡ outerSub m (mat m star) a (over m a f) → Recorded m i (usual f a) n n′ → Downdated z h back root′
+      pub by-root-yes : (root′ : StarRoot) → r ≡ found.Usual → mat m star′ ≡ outerSub m (mat m star) a (over m a f) → Recorded m i (usual f a) n n′ → Downdated z h back root′
           → Sound m root′ × ByRoot p m hs design pre i gap star n root star′ n′ root′
+      unfolding decisionOn
       by-root-yes root′ g s v u =
           let d : Downdated z h root root′ = rw handed at u in (
             roots.sound-by m z h root root′ q d,

@@ -14,6 +14,7 @@ use Rattle.star.specs.Views.{Replayed}
 use Rattle.star.specs.declared.StarRoot.{StarRoot}
 use Rattle.acceptance.specs.declared.Finding.{Finding}
 use Rattle.acceptance.specs.declared.Finding.the-variants as finding
+use Rattle.promise.specs.Records.{causeIn}
 use Rattle.element.specs.declared.Step.{Step}
 use Rattle.element.specs.declared.Step.the-variants as step
 
@@ -57,13 +58,13 @@ Recorded m i d n n′ = Entered i m (kindNo d) (fStarOf d) (fInfOf d) (mStarOf m
 
 -- how an element ended, by the decision on it
 abbrev pub stepOf : Decision → Step
-stepOf skipped = step.Passed
+stepOf (skipped c) = step.Passed
 stepOf (usual f m*) = step.Taken
 stepOf (diffuse f f∞ m* m∞) = step.Taken
 
 -- the elements taken, after a decision on element i
 abbrev pub takenBy : Decision → List ℕ → ℕ → List ℕ
-takenBy skipped t i = t
+takenBy (skipped c) t i = t
 takenBy (usual f m*) t i = t ++ (i ∷ [])
 takenBy (diffuse f f∞ m* m∞) t i = t ++ (i ∷ [])
 
@@ -76,7 +77,7 @@ pub record Applied (m i : ℕ) (z : List Float) (d : Decision) (r : Step) (b b�
 -- and what a finding brings, M* and M∞ being the arrays a and c
 unfoldable pub Settled : ℕ → ℕ → List Float → Float → Finding → List Float → List Float → Step → Carried → Carried
     → Type 0
-Settled m i z f finding.Nothing a c r b b′ = Applied m i z skipped r b b′
+Settled m i z f (finding.Nothing why) a c r b b′ = Applied m i z (skipped (causeIn why)) r b b′
 Settled m i z f finding.Usual a c r b b′ = Applied m i z (usual f (vec m a)) r b b′
 Settled m i z f (finding.Diffuse g) a c r b b′ = Applied m i z (diffuse f g (vec m a) (vec m c)) r b b′
 Settled m i z f (finding.Doubtful x) a c r b b′ = (r ≡ step.Doubtful) × (b′ ≡ b)

@@ -9,7 +9,9 @@ ghost use Rattle.definition.specs.Dense.{outerSub, over};
 ghost use Rattle.laws.specs.Flat.{flatIn};
 ghost use Rattle.dense.specs.Views.{vec, mat};
 ghost use Rattle.star.specs.Views.{Sound};
+ghost use Rattle.promise.specs.Records.{causeIn};
 ghost use Rattle.element.specs.Views.{carried, fixedOf, Updated, Entered, Recorded, Settled, InPeriod, SdKnown, WithoutRoot, ByRoot};
+use promise::Cause;
 
 // How an element ended: nothing moved, or it was taken; or it is left as it was, since the star root has to say.
 pub enum Step {
@@ -112,11 +114,12 @@ fn record_skipped(
     fi: &mut [f64; 8],
     ms: &mut [f64; 64],
     mi: &mut [f64; 64],
+    cause: Cause,
     i: usize,
     m: usize,
 )
     requires { ⌜ (i < 8) × (m ≤ 8) ⌝ }
-    ensures { λ _. ⌜ Recorded m i skipped
+    ensures { λ _. ⌜ Recorded m i (skipped (causeIn cause))
         (flatIn (now (kinds .entry)) (now (fs .entry)) (now (fi .entry)) (now (ms .entry)) (now (mi .entry)))
         (flatIn (now (kinds .exit)) (now (fs .exit)) (now (fi .exit)) (now (ms .exit)) (now (mi .exit))) ⌝ }
 {
@@ -127,7 +130,7 @@ fn record_skipped(
         fi,
         ms,
         mi,
-        promise::SKIPPED,
+        record::number(cause),
         0.0,
         0.0,
         &none,
@@ -197,8 +200,8 @@ fn settle(
         (flatIn (now (kinds .exit)) (now (fs .exit)) (now (fi .exit)) (now (ms .exit)) (now (mi .exit)))) ⌝ }
 {
     match d {
-        acceptance::Finding::Nothing => {
-            record_skipped(kinds, fs, fi, ms, mi, i, m);
+        acceptance::Finding::Nothing(cause) => {
+            record_skipped(kinds, fs, fi, ms, mi, cause, i, m);
             Step::Passed
         }
         acceptance::Finding::Usual => {
@@ -262,7 +265,7 @@ pub fn element(
         (flatIn (now (kinds .exit)) (now (fs .exit)) (now (fi .exit)) (now (ms .exit)) (now (mi .exit)))) r ⌝ }
 {
     if gap {
-        record_skipped(kinds, fs, fi, ms, mi, i, m);
+        record_skipped(kinds, fs, fi, ms, mi, Cause::Gap, i, m);
         return Step::Passed;
     }
     let z = dense::row_to_vec(design, p, m, i);
@@ -333,7 +336,7 @@ pub fn element_by_root(
         (flatIn (now (kinds .exit)) (now (fs .exit)) (now (fi .exit)) (now (ms .exit)) (now (mi .exit))) r) ⌝ }
 {
     if gap {
-        record_skipped(kinds, fs, fi, ms, mi, i, m);
+        record_skipped(kinds, fs, fi, ms, mi, Cause::Gap, i, m);
         return root;
     }
     let z = dense::row_to_vec(design, p, m, i);
@@ -343,13 +346,18 @@ pub fn element_by_root(
     let f = acceptance::f_star(&z, h, &m_star, m);
     let asked = acceptance::is_usual(root, &z, h, pre, sd, star, f, m);
     let root = asked.root;
-    if asked.usual {
-        usual_update(star, &m_star, f, m);
-        record_usual(kinds, fs, fi, ms, mi, f, &m_star, i, m);
-        return root.downdate(&z, h, m);
+    let found = asked.found;
+    match found {
+        acceptance::Found::Nothing(cause) => {
+            record_skipped(kinds, fs, fi, ms, mi, cause, i, m);
+            root
+        }
+        acceptance::Found::Usual => {
+            usual_update(star, &m_star, f, m);
+            record_usual(kinds, fs, fi, ms, mi, f, &m_star, i, m);
+            root.downdate(&z, h, m)
+        }
     }
-    record_skipped(kinds, fs, fi, ms, mi, i, m);
-    root
 }
 
 // The standard deviation of state j by P*; 0 where the variance is not above 0.

@@ -12,6 +12,7 @@ ghost use Rattle.dense.specs.Views.{vec, mat};
 ghost use Rattle.dense.specs.Places.{Within};
 ghost use Rattle.laws.specs.Flat.{decisionOf};
 ghost use Rattle.element_back.specs.View.{nsIn};
+use promise::Kind;
 
 // The period before t: the step back from t takes its T, which led into t. Nothing reads the step back from period 0, and it takes the T of 0.
 pub fn before(t: usize) -> usize
@@ -247,7 +248,7 @@ fn back_diffuse(
 }
 
 // One element, by what was decided of it: its kind as it stands in the flat parts, F*, F∞, M* and M∞. Nothing moves where it was skipped. It is handed
-// no record: v is the means' alone.
+// no v, which is the means' alone: the kind is made without it.
 pub fn back_element(
     n0: &mut [f64; 64],
     n1: &mut [f64; 64],
@@ -266,9 +267,9 @@ pub fn back_element(
         (nsIn m (now (n0 .entry)) (now (n1 .entry)) (now (n2 .entry)))
         (decisionOf kind f «f_inf» (vec m (now («m_star» .entry))) (vec m (now («m_inf» .entry)))) ⌝ }
 {
-    match kind {
-        promise::SKIPPED => {}
-        promise::USUAL => back_usual(n0, n1, live, z, f, m_star, m),
-        _ => back_diffuse(n0, n1, n2, z, f, f_inf, m_star, m_inf, m),
+    match record::kind_from(kind, 0.0, f, f_inf) {
+        Kind::Skipped(_) => {}
+        Kind::Usual(_, f) => back_usual(n0, n1, live, z, f, m_star, m),
+        Kind::Diffuse(_, f, f_inf) => back_diffuse(n0, n1, n2, z, f, f_inf, m_star, m_inf, m),
     }
 }

@@ -1,5 +1,5 @@
-// What the library makes of a sheet: its call, and the numbers of its answer that are shown. The outputs of 4096 periods stand on the stack, and a T for
-// each, 2.4 MB.
+// What the library makes of a sheet: its call, the numbers of its answer that are shown, and the kinds, which say what became of each check. The other
+// outputs of 4096 periods stand on the stack, and a T for each, 2.4 MB.
 ghost use Prim.Native.Nat.{_≤_};
 use sheet::answers::Settings;
 
@@ -8,7 +8,7 @@ pub fn estimate(
     n: usize,
     y: &[f64],
     rows: &mut [f64],
-    fates: &mut [u8],
+    kinds: &mut [u8],
 ) -> goxundar::Outcome
     requires { ⌜ n ≤ 4096 ⌝ }
 {
@@ -17,7 +17,6 @@ pub fn estimate(
     let mut pred_inf = [0.0; 36873];
     let mut filt_mean = [0.0; 12288];
     let mut filt_cov = [0.0; 36864];
-    let mut kinds = [0u8; 8192];
     let mut v = [0.0; 8192];
     let mut f_star = [0.0; 8192];
     let mut f_inf = [0.0; 8192];
@@ -52,7 +51,7 @@ pub fn estimate(
         &mut pred_inf,
         &mut filt_mean,
         &mut filt_cov,
-        &mut kinds,
+        kinds,
         &mut v,
         &mut f_star,
         &mut f_inf,
@@ -65,12 +64,11 @@ pub fn estimate(
         rows,
         n,
         &pred_inf,
-        &kinds,
+        kinds,
         &filt_mean,
         &filt_cov,
         &sm_mean,
         &sm_cov,
     );
-    rows::fill_fates(fates, n, &kinds, y);
     outcome
 }

@@ -23,13 +23,13 @@ use Rattle.laws.specs.Accepted.{as-long}
 use Rattle.laws.specs.Lists.{length-tab, length-scan, length-pairs, length-chunks}
 use Rattle.laws.specs.Flat.{flatIn, decisionRows, blockAt}
 use Rattle.laws.specs.Passes.{Laid, count-le}
-use Rattle.laws.specs.ReadBack.{rows-back, kinds-count}
+use Rattle.laws.specs.ReadBack.{rows-back, kinds-join}
+use Rattle.laws.specs.Kinds.{newsKind, news-counted}
 use Rattle.laws.specs.Shapes.{Sized, run-whole, run-length}
 use Rattle.laws.specs.Told.{offAt, cov-told, mean-told}
 use Rattle.model.specs.Past.{design-fits, transition-fits, start-fits}
 use Rattle.carried.specs.State.{StateFits, covIn, covFrom, meanFrom, meanKept}
 use Rattle.carried.specs.Beside.{mean-beside}
-use Rattle.cov.specs.Counts.{isKept}
 use Rattle.cov.specs.declared.Ended.{Ended}
 use Rattle.cov.specs.View as covs
 use Rattle.dense.specs.Views.{mat}
@@ -125,10 +125,11 @@ module _ {x : Model} {o : Offsets} {y : ℕ} {rqr : List Float} {w : CovParts} {
 
 -- ---- what the covariance pass left, read back
 
-news-are : (k : ℕ) (r : List CovPeriod × Cov) (ks₀ ks : List ℕ) → Laid k (kindsWritten r) ks₀ ks → count isKept (take k ks) ≡ count isNews (join (decisionsOf (r .0)))
+news-are : (k : ℕ) (r : List CovPeriod × Cov) (ks₀ ks : List ℕ) → Laid k (kindsWritten r) ks₀ ks → count newsKind (take k ks) ≡ count isNews (join (decisionsOf (r .0)))
 unfolding kindsWritten
 news-are k r ks₀ ks l =
-    ap (count isKept) (ap (take k) (l .is) ∙ take-at (join (map kindBlock (r .0))) (drop (length (join (map kindBlock (r .0)))) ks₀) k (l .long)) ∙ kinds-count isKept (r .0)
+    ap (count newsKind) (ap (take k) (l .is) ∙ take-at (join (map kindBlock (r .0))) (drop (length (join (map kindBlock (r .0)))) ks₀) k (l .long) ∙ kinds-join (r .0))
+    ∙ news-counted (join (decisionsOf (r .0)))
 
 module _ (x : Model) (y s : List Float) (live : Bool) where
   -- the covariance pass's run, by the R Q R' that it was handed
@@ -232,13 +233,13 @@ module _ (x : Model) (o : Offsets) (y rqr s s₁ s₂ : List Float) (live : Bool
       let c : CovPassed (run x y s live) = subst CovPassed (cov-run x y s live rqr (f .noise)) cp in
       omega (arith, c .diffuse, diffuse-few x y s live)
 
-  pub few-counts : FitOn x o (length y) rqr (covParts pc₀ pi₀ fc₀ ks₀ fs₀ fi₀ ms₀ mi₀) (meanParts pm₀ fm₀ vs₀) (length s) done before → CovPassed (covRan x y s live rqr) → heard ≡ count not (map isGap (map classOf y)) → news ≡ count isKept (take (x .n * x .p) ks) → x .n * x .p ≤ length ks → Few before (end .diffuse) heard news
+  pub few-counts : FitOn x o (length y) rqr (covParts pc₀ pi₀ fc₀ ks₀ fs₀ fi₀ ms₀ mi₀) (meanParts pm₀ fm₀ vs₀) (length s) done before → CovPassed (covRan x y s live rqr) → heard ≡ count not (map isGap (map classOf y)) → news ≡ count newsKind (take (x .n * x .p) ks) → x .n * x .p ≤ length ks → Few before (end .diffuse) heard news
   few-counts f cp eh en lk =
       record {
         tallies = f .tallies;
         diffuse = omega (arith, few-diffuse f cp, f .sizes .n4096);
         heard = omega (arith, count-le not (map isGap (map classOf y)), length-map (map classOf y) isGap, length-map y classOf, few f);
-        news = omega (arith, count-le isKept (take (x .n * x .p) ks), length-take-le (x .n * x .p) ks lk, few-records f);
+        news = omega (arith, count-le newsKind (take (x .n * x .p) ks), length-take-le (x .n * x .p) ks lk, few-records f);
       }
 
   -- what was looked at is what the run has
@@ -262,7 +263,7 @@ module _ (x : Model) (o : Offsets) (y rqr s s₁ s₂ : List Float) (live : Bool
       periods : length (run x y s live .0) ≡ x .n
       periods = run-many x y s live
 
-  pub ran : (final : Answer) → FitOn x o (length y) rqr (covParts pc₀ pi₀ fc₀ ks₀ fs₀ fi₀ ms₀ mi₀) (meanParts pm₀ fm₀ vs₀) (length s) done before → CovPassed (covRan x y s live rqr) → heard ≡ count not (map isGap (map classOf y)) → news ≡ count isKept (take (x .n * x .p) ks)
+  pub ran : (final : Answer) → FitOn x o (length y) rqr (covParts pc₀ pi₀ fc₀ ks₀ fs₀ fi₀ ms₀ mi₀) (meanParts pm₀ fm₀ vs₀) (length s) done before → CovPassed (covRan x y s live rqr) → heard ≡ count not (map isGap (map classOf y)) → news ≡ count newsKind (take (x .n * x .p) ks)
       → cov-off ≡ firstFrom done (tabulate (cond (notFinite (blockAt (x .m * x .m) pc (x .n))) (x .n) (end .diffuse)) (offAt (x .m * x .m) pc pi fc))
       → with-counts ≡ counts → MeanPassed (meanRan (with-counts .loglik)) with-counts
       → mean-off ≡ firstFrom done (tabulate (cond (notFinite (blockAt (x .m) pm (x .n))) (x .n) 0) (offAt (x .m) pm fm fm)) → final ≡ reportedOn a mean-off

@@ -8,7 +8,7 @@ use lib.ListN.{length, getD}
 use lib.Dec.{ltb}
 use lib.Ieee.{Float}
 use Rattle.definition.specs.Num.{tabulate, at}
-use Rattle.definition.specs.Cov.{Decision, skipped, usual, diffuse, CovPeriod}
+use Rattle.definition.specs.Cov.{Cause, atGap, tooSmall, belowDust, failedReplay, Decision, skipped, usual, diffuse, CovPeriod}
 use Rattle.definition.specs.Mean.{MeanPeriod}
 use Rattle.laws.specs.Lists.{tab-at, length-tab}
 
@@ -40,25 +40,36 @@ fewer {m} h g =
       mi = omega (arith, g .mi, mul-le-mul-right m h);
     }
 
+-- no run writes a kind above 5
 unfoldable pub decisionOf : ℕ → Float → Float → List Float → List Float → Decision
-decisionOf zero f g a b = skipped
+decisionOf zero f g a b = skipped atGap
 decisionOf (suc zero) f g a b = usual f a
-decisionOf (suc (suc k)) f g a b = diffuse f g a b
+decisionOf (suc (suc zero)) f g a b = diffuse f g a b
+decisionOf (suc (suc (suc zero))) f g a b = skipped tooSmall
+decisionOf (suc (suc (suc (suc zero)))) f g a b = skipped belowDust
+decisionOf (suc (suc (suc (suc (suc k))))) f g a b = skipped failedReplay
+
+-- where none stands
+abbrev pub noDecision : Decision
+noDecision = skipped atGap
 
 -- by the kind as a test finds it
-pub kind-skipped : (k : ℕ) (f g : Float) (a b : List Float) → k ≡ 0 → decisionOf k f g a b ≡ skipped
+pub kind-skipped : (k : ℕ) (f g : Float) (a b : List Float) → (k ≡ 1 → ⊥) → (k ≡ 2 → ⊥) → (c : Cause) × (decisionOf k f g a b ≡ skipped c)
 unfolding decisionOf
-kind-skipped k f g a b e = rw e refl
+kind-skipped zero f g a b h l = (atGap, refl)
+kind-skipped (suc zero) f g a b h l = absurd (h refl)
+kind-skipped (suc (suc zero)) f g a b h l = absurd (l refl)
+kind-skipped (suc (suc (suc zero))) f g a b h l = (tooSmall, refl)
+kind-skipped (suc (suc (suc (suc zero)))) f g a b h l = (belowDust, refl)
+kind-skipped (suc (suc (suc (suc (suc k))))) f g a b h l = (failedReplay, refl)
 
 pub kind-usual : (k : ℕ) (f g : Float) (a b : List Float) → k ≡ 1 → decisionOf k f g a b ≡ usual f a
 unfolding decisionOf
 kind-usual k f g a b e = rw e refl
 
-pub kind-diffuse : (k : ℕ) (f g : Float) (a b : List Float) → (k ≡ 0 → ⊥) → (k ≡ 1 → ⊥) → decisionOf k f g a b ≡ diffuse f g a b
+pub kind-diffuse : (k : ℕ) (f g : Float) (a b : List Float) → k ≡ 2 → decisionOf k f g a b ≡ diffuse f g a b
 unfolding decisionOf
-kind-diffuse zero f g a b h l = absurd (h refl)
-kind-diffuse (suc zero) f g a b h l = absurd (l refl)
-kind-diffuse (suc (suc k)) f g a b h l = refl
+kind-diffuse k f g a b e = rw e refl
 
 -- the record at place k of the flat lists; the p of period t; and those of n periods
 unfoldable pub readBack : ℕ → Flat → ℕ → Decision
@@ -73,9 +84,9 @@ module _ (p m t : ℕ) (r : Flat) where
   unfolding decisionsAt
   decisions-long = length-tab p 0 (λ i. readBack m r (t * p + i))
 
-  pub decision-at : (i : ℕ) → i < p → getD (decisionsAt p m r t) i skipped ≡ readBack m r (t * p + i)
+  pub decision-at : (i : ℕ) → i < p → getD (decisionsAt p m r t) i noDecision ≡ readBack m r (t * p + i)
   unfolding decisionsAt
-  decision-at i h = tab-at p 0 i (λ i. readBack m r (t * p + i)) skipped h ∙ ap (λ (j : ℕ). readBack m r (t * p + j)) (zero-add i)
+  decision-at i h = tab-at p 0 i (λ i. readBack m r (t * p + i)) noDecision h ∙ ap (λ (j : ℕ). readBack m r (t * p + j)) (zero-add i)
 
 unfoldable pub decisionRows : ℕ → ℕ → ℕ → Flat → List (List Decision)
 decisionRows n p m r = tabulate n (decisionsAt p m r)

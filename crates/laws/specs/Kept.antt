@@ -117,7 +117,7 @@ either-doubles false k u v h g = g
 
 root-kept : (m : ℕ) (z : List Float) (i : ℕ) (s : Inner) (d : Decision) → Doubles (m * m) (s .root) → Doubles (m * m) (apply m z i s d .root)
 unfolding apply rootLess
-root-kept m z i s skipped h = h
+root-kept m z i s (skipped c) h = h
 root-kept m z i s (usual f a) h = h
 root-kept m z i s (diffuse f g a b) h = outer-doubles m (s .root) _ _ (h .each)
 
@@ -140,7 +140,7 @@ cov-step y t c g h =
 
 pub heed-kept : (m : ℕ) (s : Mean) (v : Float) (d : Decision) → MeanKept m s → MeanKept m (heed m s v d)
 unfolding heed usualTerm diffuseTerm
-heed-kept m s v skipped h = h
+heed-kept m s v (skipped c) h = h
 heed-kept m s v (usual f a) h = record { a = axpy-doubles m _ _ _; loglik = sub-fits binary64 _ _ }
 heed-kept m s v (diffuse f g a b) h = record { a = axpy-doubles m _ _ _; loglik = sub-fits binary64 _ _ }
 

@@ -24,8 +24,11 @@ pub mod RootLaws
 -- the run: its shapes, and what it wrote read back
 pub mod Flat
 pub mod ReadBack
+pub mod Verdicts
 pub mod Long
 pub mod Shapes
+pub mod Kinds
+pub mod Unseen
 pub mod Looked
 pub mod Entries
 pub mod Reports

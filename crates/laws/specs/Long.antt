@@ -35,7 +35,7 @@ sandwich-long m a b = product-long m _ _
 
 root-long : (m : ℕ) (z : List Float) (i : ℕ) (s : Inner) (d : Decision) → length (s .root) ≡ m * m → length (apply m z i s d .root) ≡ m * m
 unfolding apply rootLess outerSub
-root-long m z i s skipped h = h
+root-long m z i s (skipped c) h = h
 root-long m z i s (usual f a) h = h
 root-long m z i s (diffuse f g a b) h = length-tab (m * m) 0 _
 

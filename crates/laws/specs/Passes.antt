@@ -33,11 +33,6 @@ module _ {A B : Type 0} where
   map-append g [] ys = refl
   map-append g (x ∷ xs) ys = ap (λ (l : List B). g x ∷ l) (map-append g xs ys)
 
-  pub count-map : (q : B → Bool) (g : A → B) (l : List A) → count q (map g l) ≡ count (λ (a : A). q (g a)) l
-  unfolding count
-  count-map q g [] = refl
-  count-map q g (a ∷ l) = ap (λ (k : ℕ). cond (q (g a)) 1 0 + k) (count-map q g l)
-
 -- the blocks of two runs in a row
 module _ {A B : Type 0} (g : A → List B) where
   pub blocks-append : (xs ys : List A) → join (map g (xs ++ ys)) ≡ join (map g xs) ++ join (map g ys)

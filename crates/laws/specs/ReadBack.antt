@@ -2,19 +2,18 @@
 use mathlib.Core.Path.{_≡_, refl, sym, ap, _∙_}
 use Prim.Native.Nat.{ℕ, zero, suc, _+_, _*_, _<_}
 use native.Mathlib.Nat.{zero-add, not-suc-le-zero, le-of-suc-le-suc}
-use mathlib.Core.Bool.{Bool}
 use mathlib.Core.List.{List, [], _∷_, _++_, map}
 use lib.ListN.{length, getD, length-map, List·getD-append}
 use lib.Seq.{ext-getD}
 use lib.Ieee.{Float, nan}
 use Rattle.definition.specs.Num.{tabFrom, tabulate, at}
-use Rattle.definition.specs.Run.{join, count}
-use Rattle.definition.specs.Cov.{Decision, skipped, usual, diffuse, CovPeriod}
+use Rattle.definition.specs.Run.{join}
+use Rattle.definition.specs.Cov.{atGap, tooSmall, belowDust, failedReplay, Decision, skipped, usual, diffuse, CovPeriod}
 use Rattle.definition.specs.Parts.{fStar, fInf, mStar, mInf, kindNo, fStarOf, fInfOf, mStarOf, mInfOf, kindBlock, covBlock}
 use Rattle.laws.specs.All.{AllOf, all-append, all-at}
-use Rattle.laws.specs.Flat.{Flat, decisionOf, readBack, decisionsAt, decisionRows}
+use Rattle.laws.specs.Flat.{Flat, decisionOf, noDecision, readBack, decisionsAt, decisionRows}
 use Rattle.laws.specs.Lists.{Each, join-at, length-join, each-at, place-lt, tab-at, length-tab}
-use Rattle.laws.specs.Passes.{map-append, join-append, count-map}
+use Rattle.laws.specs.Passes.{map-append, join-append}
 
 pub record Shaped (m : ℕ) (d : Decision) : Type 0 where
   pub star : length (mStarOf m d) ≡ m
@@ -65,46 +64,46 @@ each-inf m (d ∷ l) h = (h .0 .inf, each-inf m l (h .1))
 
 again : (m : ℕ) (d : Decision) → decisionOf (kindNo d) (fStarOf d) (fInfOf d) (mStarOf m d) (mInfOf m d) ≡ d
 unfolding decisionOf
-again m skipped = refl
+again m (skipped atGap) = refl
+again m (skipped tooSmall) = refl
+again m (skipped belowDust) = refl
+again m (skipped failedReplay) = refl
 again m (usual f a) = refl
 again m (diffuse f g a b) = refl
 
 -- a vector of m places, read entry by entry from the joined list
-vector-back : (m : ℕ) (g : Decision → List Float) (l : List Decision) (tail : List Float) (k : ℕ) → Each m (map g l) → k < length l → length (g (getD l k skipped)) ≡ m → tabulate m (λ j. at (join (map g l) ++ tail) (k * m + j)) ≡ g (getD l k skipped)
+vector-back : (m : ℕ) (g : Decision → List Float) (l : List Decision) (tail : List Float) (k : ℕ) → Each m (map g l) → k < length l → length (g (getD l k noDecision)) ≡ m → tabulate m (λ j. at (join (map g l) ++ tail) (k * m + j)) ≡ g (getD l k noDecision)
 vector-back m g l tail k each h e =
-    ext-getD nan (tabFrom 0 m (λ j. at (join (map g l) ++ tail) (k * m + j))) (g (getD l k skipped)) (length-tab m 0 (λ j. at (join (map g l) ++ tail) (k * m + j)) ∙ sym e) (λ j b.
+    ext-getD nan (tabFrom 0 m (λ j. at (join (map g l) ++ tail) (k * m + j))) (g (getD l k noDecision)) (length-tab m 0 (λ j. at (join (map g l) ++ tail) (k * m + j)) ∙ sym e) (λ j b.
     let j< : j < m = rw length-tab at b in
     let k< : k < length (map g l) = rw length-map h in
     let in-join : k * m + j < length (join (map g l)) = rw (length-join m (map g l) each, length-map l g) (place-lt (length l) m k j h j<) in
     tab-at m 0 j (λ j. at (join (map g l) ++ tail) (k * m + j)) nan j< ∙ ap (λ (i : ℕ). at (join (map g l) ++ tail) (k * m + i)) (zero-add j) ∙ List·getD-append (join (map g l)) tail nan (k * m + j) in-join ∙ join-at m (map g l) k j nan each k< j<
-    ∙ ap (λ (v : List Float). getD v j nan) (getD-map-in g l k skipped [] h))
+    ∙ ap (λ (v : List Float). getD v j nan) (getD-map-in g l k noDecision [] h))
 
-number-back : {B : Type 0} (g : Decision → B) (l : List Decision) (tail : List B) (k : ℕ) (e : B) → k < length l → getD (map g l ++ tail) k e ≡ g (getD l k skipped)
-number-back g l tail k e h = List·getD-append (map g l) tail e k (rw length-map h) ∙ getD-map-in g l k skipped e h
+number-back : {B : Type 0} (g : Decision → B) (l : List Decision) (tail : List B) (k : ℕ) (e : B) → k < length l → getD (map g l ++ tail) k e ≡ g (getD l k noDecision)
+number-back g l tail k e h = List·getD-append (map g l) tail e k (rw length-map h) ∙ getD-map-in g l k noDecision e h
 
 -- the flat parts, whatever stands after them
 module _ (m : ℕ) (l : List Decision) (sh : AllOf (Shaped m) l) (tk : List ℕ) (t1 t2 t3 t4 : List Float) where
   pub flatOf : Flat
   flatOf = record { kinds = map kindNo l ++ tk; fStars = map fStarOf l ++ t1; fInfs = map fInfOf l ++ t2; mStars = join (map (mStarOf m) l) ++ t3; mInfs = join (map (mInfOf m) l) ++ t4 }
 
-  pub read-back : (k : ℕ) → k < length l → readBack m flatOf k ≡ getD l k skipped
+  pub read-back : (k : ℕ) → k < length l → readBack m flatOf k ≡ getD l k noDecision
   unfolding readBack flatOf
   read-back k h =
-      let d = getD l k skipped in
-      let s = all-at (Shaped m) l k skipped sh h in
+      let d = getD l k noDecision in
+      let s = all-at (Shaped m) l k noDecision sh h in
       rw (number-back kindNo l tk k 0 h, number-back fStarOf l t1 k nan h, number-back fInfOf l t2 k nan h, vector-back m (mStarOf m) l t3 k (each-star m l sh) h (s .star), vector-back m (mInfOf m) l t4 k (each-inf m l sh) h (s .inf)) (again m d)
 
 -- something of each decision, period by period
 pub flat-of : {B : Type 0} (g : Decision → B) (cs : List CovPeriod) → join (map (λ c. map g (c .decisions)) cs) ≡ map g (join (map (λ c. c .decisions) cs))
 flat-of g cs = ap join (sym (map-map (map g) (λ c. c .decisions) cs)) ∙ map-join g (map (λ c. c .decisions) cs)
 
--- the kinds of all periods, and how many of them are of a sort
+-- the kinds of all periods
 pub kinds-join : (cs : List CovPeriod) → join (map kindBlock cs) ≡ map kindNo (join (map (λ c. c .decisions) cs))
 unfolding kindBlock
 kinds-join cs = flat-of kindNo cs
-
-pub kinds-count : (q : ℕ → Bool) (cs : List CovPeriod) → count q (join (map kindBlock cs)) ≡ count (λ (d : Decision). q (kindNo d)) (join (map (λ c. c .decisions) cs))
-kinds-count q cs = ap (count q) (kinds-join cs) ∙ count-map q kindNo (join (map (λ c. c .decisions) cs))
 
 -- p decisions in each period
 pub each-many : (p m : ℕ) (cs : List CovPeriod) → AllOf (λ c. Whole p m (c .decisions)) cs → Each p (map (λ c. c .decisions) cs)
@@ -153,7 +152,7 @@ module _ (p m : ℕ) (cs : List CovPeriod) (wh : AllOf (λ c. Whole p m (c .deci
       let t< : t < n = rw length-tab at b in
       let t<′ : t < length dss = rw ln t< in
       tab-at n 0 t (decisionsAt p m r) [] t< ∙ ap (decisionsAt p m r) (zero-add t)
-      ∙ ext-getD skipped (decisionsAt p m r t) (getD dss t []) (length-tab p 0 (λ i. readBack m r (t * p + i)) ∙ sym (each-at p dss t each t<′)) (λ i g.
+      ∙ ext-getD noDecision (decisionsAt p m r t) (getD dss t []) (length-tab p 0 (λ i. readBack m r (t * p + i)) ∙ sym (each-at p dss t each t<′)) (λ i g.
       let i< : i < p = rw length-tab at g in
       let in-join : t * p + i < length (join dss) = rw (length-join p dss each, ln) (place-lt n p t i t< i<) in
-      tab-at p 0 i (λ i. readBack m r (t * p + i)) skipped i< ∙ ap (λ (j : ℕ). readBack m r (t * p + j)) (zero-add i) ∙ read-back m (join dss) sh tk t1 t2 t3 t4 (t * p + i) in-join ∙ join-at p dss t i skipped each t<′ i<)))
+      tab-at p 0 i (λ i. readBack m r (t * p + i)) noDecision i< ∙ ap (λ (j : ℕ). readBack m r (t * p + j)) (zero-add i) ∙ read-back m (join dss) sh tk t1 t2 t3 t4 (t * p + i) in-join ∙ join-at p dss t i noDecision each t<′ i<)))

@@ -114,7 +114,7 @@ module _ (m i j : ℕ) (i< : i < m) (j< : j < m) where
 
   apply-off : (z : List Float) (k : ℕ) (s : Inner) (d : Decision) → Off (ent m (s .star) i j) → Off (ent m (apply m z k s d .star) i j)
   unfolding apply
-  apply-off z k s skipped h = h
+  apply-off z k s (skipped c) h = h
   apply-off z k s (usual f m*) h = outer-off (s .star) m* (over m m* f) h
   apply-off z k s (diffuse f f∞ m* m∞) h =
       let k0 = over m m∞ f∞ in outer-off (outerSub m (s .star) m* k0) m∞ (k1Of m m* k0 f f∞) (outer-off (s .star) m* k0 h)
@@ -295,7 +295,7 @@ module _ (m i : ℕ) (i< : i < m) where
 
   heed-off : (s : Mean) (v : Float) (d : Decision) → Off (at (s .a) i) → Off (at (heed m s v d .a) i)
   unfolding heed
-  heed-off s v skipped h = h
+  heed-off s v (skipped c) h = h
   heed-off s v (usual f m*) h = axpy-off (s .a) v (over m m* f) h
   heed-off s v (diffuse f f∞ m* m∞) h = axpy-off (s .a) v (over m m∞ f∞) h
 
@@ -307,7 +307,7 @@ module _ (m i : ℕ) (i< : i < m) where
 
 heed-long : (m : ℕ) (s : Mean) (v : Float) (d : Decision) → length (s .a) ≡ m → length (heed m s v d .a) ≡ m
 unfolding heed axpy
-heed-long m s v skipped h = h
+heed-long m s v (skipped c) h = h
 heed-long m s v (usual f m*) h = length-tab m 0 _
 heed-long m s v (diffuse f f∞ m* m∞) h = length-tab m 0 _
 

@@ -10,53 +10,40 @@ use lib.Dec.{ltb}
 use lib.Ieee.{Float}
 use borrow.Author.Tests.{lt-ltb, le-ltb, ltb-true, ltb-false}
 use Rattle.definition.specs.Num.{0ᶠ, zeros}
-use Rattle.definition.specs.Dense.{dot, matVec, matTVec}
+use Rattle.definition.specs.Dense.{matVec}
 use Rattle.definition.specs.Run.{scan, chunks, count}
-use Rattle.definition.specs.Cov.{System, Cov, Fixed, Inner, Decision, skipped, usual, diffuse, CovPeriod, Candidate, usually, usualTest, diffusely, diffuseTest, fStarBy, fInfBy, judge, candidate, verdict, elementOf, isLive, entered, ended, stepped, stepStar, stepInf, periodOf, period, covRun}
+use Rattle.definition.specs.Cov.{System, Cov, Fixed, Inner, Cause, atGap, tooSmall, belowDust, failedReplay, skipped, CovPeriod, candidate, verdict, elementOf, isLive, entered, ended, stepped, stepStar, stepInf, periodOf, period, covRun}
 use Rattle.definition.specs.Inputs.{Class, isGap, gapRows}
 use Rattle.laws.specs.Lists.{chunks-each, length-tab, length-scan, length-chunks}
 use Rattle.laws.specs.All.{AllOf, all-true, each-all, scan-all, scan-leaves}
 use Rattle.laws.specs.ReadBack.{Shaped, Whole}
+use Rattle.laws.specs.Verdicts.{judge-by}
 use Rattle.laws.specs.Long.{either, symmetrise-long}
 
 -- ---- the decisions
 
-skipped-shaped : (m : ℕ) → Shaped m skipped
-skipped-shaped m = record { star = length-replicate m 0ᶠ; inf = length-replicate m 0ᶠ }
+skipped-shaped : (m : ℕ) (c : Cause) → Shaped m (skipped c)
+skipped-shaped m c = record { star = length-replicate m 0ᶠ; inf = length-replicate m 0ᶠ }
 
 matVec-long : (m : ℕ) (a x : List Float) → length (matVec m a x) ≡ m
 unfolding matVec
 matVec-long m a x = length-tab m 0 _
 
-cond-shaped : (m : ℕ) (b : Bool) (d e : Decision) → Shaped m d → Shaped m e → Shaped m (cond b d e)
-cond-shaped m true d e h g = h
-cond-shaped m false d e h g = g
-
-module _ (m : ℕ) (e : Candidate) where
-  usually-shaped : (f : Float) (m* : List Float) → length m* ≡ m → Shaped m (usually m e f m*)
-  unfolding usually
-  usually-shaped f m* h = cond-shaped m (usualTest m e f) (usual f m*) skipped (record { star = h; inf = length-replicate m 0ᶠ }) (skipped-shaped m)
-
-  diffusely-shaped : (f : Float) (m* : List Float) → length m* ≡ m → Shaped m (diffusely m e f m*)
-  unfolding diffusely
-  diffusely-shaped f m* h =
-      let m∞ = matVec m (e .pinf) (e .z) in
-      let f∞ = fInfBy m (e .z) m∞ in
-      let u = matTVec m (e .root) (e .z) in
-      cond-shaped m (diffuseTest m (e .z) (e .pinf) (e .unres) f∞ (dot m u u)) (diffuse f f∞ m* m∞) (usually m e f m*) (record { star = h; inf = matVec-long m (e .pinf) (e .z) }) (usually-shaped f m* h)
-
-  judge-shaped : Shaped m (judge m e)
-  unfolding judge
-  judge-shaped =
-      let m* = matVec m (e .star) (e .z) in
-      let f = fStarBy m (e .z) (e .h) m* in
-      let h = matVec-long m (e .star) (e .z) in
-      cond-shaped m (e .live) (diffusely m e f m*) (usually m e f m*) (diffusely-shaped f m* h) (usually-shaped f m* h)
-
 verdict-shaped : (p m : ℕ) (h : List Float) (f : Fixed) (i : ℕ) (s : Inner) (gap : Bool) → Shaped m (verdict p m h f i s gap)
 unfolding verdict
-verdict-shaped p m h f i s true = skipped-shaped m
-verdict-shaped p m h f i s false = judge-shaped m (candidate p m h f i s)
+verdict-shaped p m h f i s true = skipped-shaped m atGap
+verdict-shaped p m h f i s false =
+    let e = candidate p m h f i s in
+    let h = matVec-long m (e .star) (e .z) in
+    judge-by
+    (Shaped m)
+    m
+    e
+    (λ f f∞. record { star = h; inf = matVec-long m (e .pinf) (e .z) })
+    (λ f. record { star = h; inf = length-replicate m 0ᶠ })
+    (skipped-shaped m tooSmall)
+    (skipped-shaped m belowDust)
+    (skipped-shaped m failedReplay)
 
 period-whole : (y : System) (p t : ℕ) (c : Cov) (gaps : List Bool) → length gaps ≡ p → Whole p (y .m) (period y t c gaps .0 .decisions)
 unfolding periodOf ended elementOf

@@ -17,10 +17,11 @@ use borrow.Author.Tests.{ne-eqb, eq-eqb, eqb-true, le-ltb}
 use Rattle.definition.specs.Num.{_⊖_, _⊗_, _⊘_, _>ᶠ_, 0ᶠ, 1ᶠ, cancel-tol, rank-tol, isZero, isFinite, absOf, sumFrom, at, ent}
 use Rattle.definition.specs.Dense.{dot, over, overAt, matVec, matTVec, matTVecAt, matTVecTerm, lessOf, outerSub, outerSubAt, product, productAt, productTerm, absQuadForm, absTo, absColumn, absTerm, row, rowAt}
 use Rattle.definition.specs.Run.{scan, count, chunks}
-use Rattle.definition.specs.Cov.{System, Cov, Fixed, Inner, Decision, skipped, usual, diffuse, Candidate, usually, usualTest, diffusely, diffuseTest, judge, candidate, verdict, apply, rootLess, fInfBy, fStarBy, elementOf, isLive, entered, ended, stepped, periodOf, period, covRun}
+use Rattle.definition.specs.Cov.{System, Cov, Fixed, Inner, Decision, diffuse, Candidate, usually, diffusely, diffuseTest, judge, candidate, verdict, apply, rootLess, fInfBy, fStarBy, elementOf, isLive, entered, ended, stepped, periodOf, period, covRun}
 use Rattle.definition.specs.Inputs.{Model, Offsets, Class, isGap, partFrom, designFrom, systemOf, systemFrom, gapRows, isFlagged, flagsBefore, startRoot, startRootAt, startOf, startFrom}
 use Rattle.definition.specs.Refusals.{notFinite, badSystem}
 use Rattle.definition.specs.Carried.{Past, begunPast, covFrom, pastOn}
+use Rattle.laws.specs.Verdicts.{cond-by, usually-by}
 use Rattle.laws.specs.Any.{either-false, both-true}
 use Rattle.laws.specs.All.{AllOf, all-true, each-all}
 use Rattle.laws.specs.Accepted.{Chosen, InputsFit}
@@ -145,17 +146,13 @@ module _ (m k : ℕ) (root : List Float) (spare : Spare m k root) where
 
 -- ---- one element
 
-cond-by : {A : Type 0} (P : A → Type 0) (b : Bool) (d e : A) → (b ≡ true → P d) → P e → P (cond b d e)
-cond-by P true d e h g = h refl
-cond-by P false d e h g = g
-
 module _ (p m k : ℕ) (h : List Float) (f : Fixed) (i : ℕ) (s : Inner) (spare : Spare m k (s .root)) (fine : Finite m (row m (f .z) i)) where
   abbrev After : Decision → Type 0
   After d = Spare m k (apply m (row m (f .z) i) i s d .root)
 
   usually-spare : (e : Candidate) (f* : Float) (m* : List Float) → After (usually m e f* m*)
-  unfolding usually apply
-  usually-spare e f* m* = cond-by After (usualTest m e f*) (usual f* m*) skipped (λ q. spare) spare
+  unfolding apply
+  usually-spare e f* m* = usually-by After m e f* m* spare spare spare spare
 
   diffusely-spare : (f* : Float) (m* : List Float) → After (diffusely m (candidate p m h f i s) f* m*)
   unfolding diffusely diffuseTest apply candidate

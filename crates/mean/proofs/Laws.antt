@@ -7,20 +7,23 @@ use mathlib.Core.List.{List}
 use lib.ListN.{length, getD, take, drop, set, length-take, length-drop, length-set}
 use lib.Seq.{getD-take, getD-drop, take-suc-set, take-all}
 use lib.Ieee.{Float, nan}
-use Rattle.definition.specs.Num.{_⊕_, _⊗_, _⊘_, at, tabulate}
+use Rattle.definition.specs.Num.{0ᶠ, _⊕_, _⊗_, _⊘_, at, tabulate}
 use Rattle.definition.specs.Dense.{axpy, axpyAt, over, overAt, row}
 use Rattle.definition.specs.Run.{scan}
-use Rattle.definition.specs.Cov.{Decision, skipped}
+use Rattle.definition.specs.Cov.{Decision}
 use Rattle.definition.specs.Mean.{Mean, vOf, heed, usualTerm, diffuseTerm, hear, meanStep, meanEnded, meanPeriodOf}
 use Rattle.laws.specs.Lists.{tab-cong, vector-at, pairs-at, length-pairs, scan-next}
-use Rattle.laws.specs.Flat.{Flat, decisionOf, readBack, decisionsAt, decisions-long, decision-at, blockAt, kind-diffuse}
+use Rattle.laws.specs.Flat.{Flat, noDecision, readBack, decisionsAt, decisions-long, decision-at, blockAt}
 use Rattle.laws.specs.Backward.{part-block, part-row}
 use Rattle.dense.specs.Views.{vec}
 use Rattle.dense.proofs.Laws.{both, vec-at}
-use Rattle.promise.specs.declared.Kind.the-variants.{Usual, Diffuse}
+use Rattle.promise.specs.declared.Cause.{Cause}
+use Rattle.promise.specs.declared.Kind.{Kind}
+use Rattle.promise.specs.declared.Kind.the-variants.{Skipped, Usual, Diffuse}
 use Rattle.promise.specs.declared.Record.{Record}
 use Rattle.promise.specs.declared.FlatRecord.{FlatRecord}
-use Rattle.promise.specs.Records.{skippedRecord, recordOf, flatOf}
+use Rattle.promise.specs.Records.{recordOf, flatOf, kindFrom}
+use Rattle.record.specs.Read.{read}
 use Rattle.record.specs.RoundTrip.{v-told}
 use Rattle.mean.specs.View.{meanIn, entryAt, heardAt, leftIn, Followed, Recorded}
 
@@ -43,24 +46,22 @@ moved-all v f m a gain =
 pub followed-at : (i k : ℕ) (design gains : List Float) {m : ℕ} {a a′ : List Float} {d x f v : Float} → i * m + m ≤ length design → k * m + m ≤ length gains → Followed m (take (i * m + m - i * m) (drop (i * m) design)) d x (take (k * m + m - k * m) (drop (k * m) gains)) f a a′ v → Followed m (row m design i) d x (blockAt m gains k) f a a′ v
 followed-at i k design gains {m} hd hg h = rw (part-row i m design hd, part-block k m gains hg) at h
 
--- what is heard of element i by the decision at place k
-module _ (m : ℕ) (r : Flat) (design ds : List Float) (i k : ℕ) (a : List Float) (l x : Float) where
-  pub heard-none : getD (r .kinds) k 0 ≡ 0 → Recorded m design ds i (meanIn m a l) (readBack m r k) x skippedRecord (meanIn m a l)
-  unfolding hear readBack decisionOf vOf heed recordOf
-  heard-none e = record { is = rw e refl; after = rw e refl }
+-- what is heard of element i by the kind that is told at place k, where there is no v yet
+module _ (m : ℕ) (r : Flat) (design ds : List Float) (i k : ℕ) (a : List Float) (l x : Float) {q : Kind} (told : q ≡ kindFrom (getD (r .kinds) k 0) 0ᶠ (at (r .fStars) k) (at (r .fInfs) k)) where
+  pub heard-none : {c : Cause} → q ≡ Skipped c → Recorded m design ds i (meanIn m a l) (readBack m r k) x (record { kind = Skipped c }) (meanIn m a l)
+  unfolding hear vOf heed recordOf
+  heard-none e = let t = read m r 0ᶠ k told e in record { is = rw (t .2, t .1) refl; after = rw (t .2) refl }
 
-  module _ {v l′ : Float} {a′ : List Float} where
-    pub heard-usual : getD (r .kinds) k 0 ≡ 1 → Followed m (row m design i) (at ds i) x (blockAt m (r .mStars) k) (at (r .fStars) k) a a′ v → l′ ≡ usualTerm l (at (r .fStars) k) v
-        → Recorded m design ds i (meanIn m a l) (readBack m r k) x (record { kind = Usual v (at (r .fStars) k) }) (meanIn m a′ l′)
-    unfolding hear readBack decisionOf vOf heed blockAt recordOf
-    heard-usual e h el = record { is = rw (e, h .is) refl; after = rw (e, h .moved, el, h .is) refl }
+  module _ {v₀ v f l′ : Float} {a′ : List Float} where
+    pub heard-usual : q ≡ Usual v₀ f → Followed m (row m design i) (at ds i) x (blockAt m (r .mStars) k) f a a′ v → l′ ≡ usualTerm l f v
+        → Recorded m design ds i (meanIn m a l) (readBack m r k) x (record { kind = Usual v f }) (meanIn m a′ l′)
+    unfolding hear vOf heed recordOf
+    heard-usual e h el = let t = read m r 0ᶠ k told e in record { is = rw (t .1, h .is) refl; after = rw (t .1, h .moved, el, h .is) refl }
 
-    pub heard-diffuse : (getD (r .kinds) k 0 ≡ 0 → ⊥) → (getD (r .kinds) k 0 ≡ 1 → ⊥) → Followed m (row m design i) (at ds i) x (blockAt m (r .mInfs) k) (at (r .fInfs) k) a a′ v → l′ ≡ diffuseTerm l (at (r .fInfs) k)
-        → Recorded m design ds i (meanIn m a l) (readBack m r k) x (record { kind = Diffuse v (at (r .fStars) k) (at (r .fInfs) k) }) (meanIn m a′ l′)
-    unfolding hear readBack vOf heed blockAt recordOf
-    heard-diffuse n o h el =
-        let q = kind-diffuse (getD (r .kinds) k 0) (at (r .fStars) k) (at (r .fInfs) k) (blockAt m (r .mStars) k) (blockAt m (r .mInfs) k) n o in
-        record { is = rw (q, h .is) refl; after = rw (q, h .moved, el, h .is) refl }
+    pub heard-diffuse : {f∞ : Float} → q ≡ Diffuse v₀ f f∞ → Followed m (row m design i) (at ds i) x (blockAt m (r .mInfs) k) f∞ a a′ v → l′ ≡ diffuseTerm l f∞
+        → Recorded m design ds i (meanIn m a l) (readBack m r k) x (record { kind = Diffuse v f f∞ }) (meanIn m a′ l′)
+    unfolding hear vOf heed recordOf
+    heard-diffuse e h el = let t = read m r 0ᶠ k told e in record { is = rw (t .1, h .is) refl; after = rw (t .1, h .moved, el, h .is) refl }
 
 -- what is written of its record is v
 pub v-written : (m : ℕ) (design ds : List Float) (i : ℕ) (s : Mean) (d : Decision) (x : Float) {r : Record} {y : FlatRecord} {s′ : Mean} → Recorded m design ds i s d x r s′ → y ≡ flatOf r → _≡_ (y .v, s′) (hear m design ds i s (d, x))
@@ -83,10 +84,10 @@ module _ (p m t : ℕ) (r : Flat) (ys : List Float) where
   unfolding entryAt
   heard-long room = length-pairs p (decisionsAt p m r t) (take p (drop (t * p) ys)) (decisions-long p m t r) (readings-long room)
 
-  heard-at : t * p + p ≤ length ys → (i : ℕ) → i < p → getD (heardAt p m r ys t) i (skipped, nan) ≡ (readBack m r (t * p + i), at ys (t * p + i))
+  heard-at : t * p + p ≤ length ys → (i : ℕ) → i < p → getD (heardAt p m r ys t) i (noDecision, nan) ≡ (readBack m r (t * p + i), at ys (t * p + i))
   unfolding entryAt
   heard-at room i h =
-      pairs-at (decisionsAt p m r t) (take p (drop (t * p) ys)) i skipped nan (skipped, nan) (rw (decisions-long p m t r) h) (rw (readings-long room) h)
+      pairs-at (decisionsAt p m r t) (take p (drop (t * p) ys)) i noDecision nan (noDecision, nan) (rw (decisions-long p m t r) h) (rw (readings-long room) h)
       ∙ ap₂ (λ (d : Decision) (x : Float). (d, x)) (decision-at p m t r i h) (getD-take p (drop (t * p) ys) i nan h ∙ getD-drop (t * p) ys i nan)
 
   -- the loop over them: what holds before element i
@@ -105,7 +106,7 @@ module _ (p m t : ℕ) (r : Flat) (ys : List Float) where
         record {
           low = omega arith;
           long = length-set v i x ∙ g .long;
-          ran = scan-wrote (hear m design ds) (heardAt p m r ys t) i s₀ s s′ (skipped, nan) v x (rw (heard-long room) h) (rw (g .long) h) (g .ran) (e ∙ ap (hear m design ds i s) (sym (heard-at room i h)));
+          ran = scan-wrote (hear m design ds) (heardAt p m r ys t) i s₀ s s′ (noDecision, nan) v x (rw (heard-long room) h) (rw (g .long) h) (g .ran) (e ∙ ap (hear m design ds i s) (sym (heard-at room i h)));
         }
 
     pub along-all : {i : ℕ} {v : List Float} {s : Mean} → Along i v s → p ≤ i → t * p + p ≤ length ys → (v, s) ≡ scan (hear m design ds) 0 s₀ (heardAt p m r ys t)

@@ -90,8 +90,8 @@ fn follow_at(
     follow(a, y[k], d[i], &design[row..row_end], &gains[from..to], f, m)
 }
 
-// One element, by the decision that stands at place k of the flat parts: its record, with v in it. a and the log-likelihood move by its kind; of a
-// skipped one nothing moves.
+// One element, by the decision that stands at place k of the flat parts, where there is no v yet: its record, with v in it. a and the log-likelihood
+// move by its kind; of a skipped one nothing moves, and the record has its cause.
 fn hear(
     a: &mut [f64; 8],
     loglik: f64,
@@ -114,15 +114,14 @@ fn hear(
         (now («m_star» .entry)) (now («m_inf» .entry))) k) (at (now (y .entry)) k)
         (r .record) (meanIn m (now (a .exit)) (r .loglik)) ⌝ }
 {
-    match kinds[k] {
-        promise::SKIPPED => Heard {
+    match record::kind_from(kinds[k], 0.0, f_star[k], f_inf[k]) {
+        Kind::Skipped(c) => Heard {
             record: Record {
-                kind: Kind::Skipped,
+                kind: Kind::Skipped(c),
             },
             loglik,
         },
-        promise::USUAL => {
-            let f = f_star[k];
+        Kind::Usual(_, f) => {
             let v = follow_at(a, design, d, y, f, m_star, m, i, k);
             Heard {
                 record: Record {
@@ -131,14 +130,13 @@ fn hear(
                 loglik: usual_term(loglik, f, v),
             }
         }
-        _ => {
-            let f = f_inf[k];
-            let v = follow_at(a, design, d, y, f, m_inf, m, i, k);
+        Kind::Diffuse(_, f, f_inf) => {
+            let v = follow_at(a, design, d, y, f_inf, m_inf, m, i, k);
             Heard {
                 record: Record {
-                    kind: Kind::Diffuse(v, f_star[k], f),
+                    kind: Kind::Diffuse(v, f, f_inf),
                 },
-                loglik: diffuse_term(loglik, f),
+                loglik: diffuse_term(loglik, f_inf),
             }
         }
     }

@@ -11,17 +11,18 @@ use lib.Ieee.{Float, nan, neg}
 use Rattle.definition.specs.Num.{_⊕_, _⊗_, 1ᶠ, isZero, at, sumBut}
 use Rattle.definition.specs.Dense.{axpy, scaled, row, matVec, matTVec, matTVecTerm, matVecTerm, zeroAt}
 use Rattle.definition.specs.Run.{foldBack, pairs}
-use Rattle.definition.specs.Cov.{Decision, skipped, diffuse}
+use Rattle.definition.specs.Cov.{Decision, diffuse}
 use Rattle.definition.specs.Smooth.{Rs, lZero, lZeroAt, lOne, lOneAt, fOne, kOne, lUsual, lDiffuse, usualR, diffuseR, backR, backMeanElement, elementsR, backA, stepRs, backMeanOf}
 use Rattle.laws.specs.Lists.{tab-at, length-tab, matrix-at, pairs-at, length-pairs}
-use Rattle.laws.specs.Flat.{Flat, readBack, decisionsAt, decisions-long, decision-at, blockAt, lookAt, meanLookAt}
+use Rattle.laws.specs.Flat.{Flat, noDecision, readBack, decisionsAt, decisions-long, decision-at, blockAt, lookAt, meanLookAt}
 use Rattle.dense.proofs.Laws.{but-next, loaded-row}
 use Rattle.dense.specs.Views.{vec}
 use Rattle.laws.specs.Backward.{fold-none, fold-step, part-block}
+use Rattle.promise.specs.declared.Cause.{Cause}
+use Rattle.promise.specs.declared.Kind.{Kind}
 use Rattle.promise.specs.declared.Kind.the-variants.{Skipped, Usual, Diffuse}
-use Rattle.promise.specs.declared.Record.{Record}
-use Rattle.promise.specs.Records.{recordAt}
-use Rattle.record.specs.Read.{read-skipped, read-usual, read-diffuse}
+use Rattle.promise.specs.Records.{kindFrom}
+use Rattle.record.specs.Read.{read}
 use Rattle.mean_back.specs.View.{lookedAt}
 
 -- ---- L' r by the entries of L
@@ -54,19 +55,19 @@ module _ (m : ℕ) (z : List Float) where
   unfolding backR diffuseR lUsual lDiffuse
   diffuse-r _ _ _ _ _ _ _ _ _ _ _ _ _ _ _ _ _ e1 e2 e3 e4 e5 e6 e7 e8 e9 e10 = cc
 
-  -- by the record that is read at place k
-  module _ (l : Flat) (vs : List Float) (k : ℕ) {r : Record} (read : r ≡ recordAt (l .kinds) vs (l .fStars) (l .fInfs) k) where
-    pub back-none : (s : Rs) → r .kind ≡ Skipped → s ≡ backR m z s (readBack m l k) (at vs k)
+  -- by the kind that is told at place k
+  module _ (l : Flat) (vs : List Float) (k : ℕ) {q : Kind} (so : q ≡ kindFrom (getD (l .kinds) k 0) (at vs k) (at (l .fStars) k) (at (l .fInfs) k)) where
+    pub back-none : (s : Rs) {c : Cause} → q ≡ Skipped c → s ≡ backR m z s (readBack m l k) (at vs k)
     unfolding backR
-    back-none s e = rw (read-skipped m l vs k read e) refl
+    back-none s e = rw (read m l (at vs k) k so e .2) refl
 
-    pub back-usual : (a b a′ : List Float) {v f : Float} → r .kind ≡ Usual v f → a′ ≡ usualR m z v (fOne f) (lUsual m z f (blockAt m (l .mStars) k)) a
+    pub back-usual : (a b a′ : List Float) {v f : Float} → q ≡ Usual v f → a′ ≡ usualR m z v (fOne f) (lUsual m z f (blockAt m (l .mStars) k)) a
         → _≡_ {A = Rs} (record { r0 = a′; r1 = b }) (backR m z (record { r0 = a; r1 = b }) (readBack m l k) (at vs k))
     unfolding backR
-    back-usual a b a′ e h = let q = read-usual m l vs k read e in rw (q .1, q .0, h) refl
+    back-usual a b a′ e h = let t = read m l (at vs k) k so e in rw (t .1, t .0, h) refl
 
-    pub back-diffuse : (s s′ : Rs) {v f f∞ : Float} → r .kind ≡ Diffuse v f f∞ → s′ ≡ backR m z s (diffuse f f∞ (blockAt m (l .mStars) k) (blockAt m (l .mInfs) k)) v → s′ ≡ backR m z s (readBack m l k) (at vs k)
-    back-diffuse s s′ e h = let q = read-diffuse m l vs k read e in rw (q .1, q .0) h
+    pub back-diffuse : (s s′ : Rs) {v f f∞ : Float} → q ≡ Diffuse v f f∞ → s′ ≡ backR m z s (diffuse f f∞ (blockAt m (l .mStars) k) (blockAt m (l .mInfs) k)) v → s′ ≡ backR m z s (readBack m l k) (at vs k)
+    back-diffuse s s′ e h = let t = read m l (at vs k) k so e in rw (t .1, t .0) h
 
 -- ---- the row of the design, loaded, and the parts that an element and a period read
 
@@ -94,10 +95,10 @@ module _ (p m t : ℕ) (r : Flat) (vs : List Float) where
   told-long : length told ≡ p
   told-long = length-pairs p (decisionsAt p m r t) (blockAt p vs t) (decisions-long p m t r) news-long
 
-  told-at : (i : ℕ) → i < p → getD told i (skipped, nan) ≡ (readBack m r (t * p + i), at vs (t * p + i))
+  told-at : (i : ℕ) → i < p → getD told i (noDecision, nan) ≡ (readBack m r (t * p + i), at vs (t * p + i))
   unfolding blockAt
   told-at i h =
-      pairs-at (decisionsAt p m r t) (blockAt p vs t) i skipped nan (skipped, nan) (rw (decisions-long p m t r) h) (rw news-long h)
+      pairs-at (decisionsAt p m r t) (blockAt p vs t) i noDecision nan (noDecision, nan) (rw (decisions-long p m t r) h) (rw news-long h)
       ∙ ap₂ (λ (d : Decision) (x : Float). (d, x)) (decision-at p m t r i h) (tab-at p 0 i (λ i. at vs (t * p + i)) nan h ∙ ap (λ (j : ℕ). at vs (t * p + j)) (zero-add i))
 
   -- the loop over them: what holds with the elements from i on done
@@ -118,7 +119,7 @@ module _ (p m t : ℕ) (r : Flat) (vs : List Float) where
         let st : s ≡ foldBack f (suc (i - 1)) s₀ (drop (suc (i - 1)) told) = g .state ∙ ap (λ (k : ℕ). foldBack f k s₀ (drop k told)) up in
         record {
           low = omega (arith, g .low);
-          state = e ∙ ap₂ (λ (u : Rs) (x : Decision × Float). backR m (row m design (i - 1)) u (x .0) (x .1)) st (sym (told-at (i - 1) b)) ∙ sym (fold-step f told s₀ (i - 1) (skipped, nan) (rw told-long b));
+          state = e ∙ ap₂ (λ (u : Rs) (x : Decision × Float). backR m (row m design (i - 1)) u (x .0) (x .1)) st (sym (told-at (i - 1) b)) ∙ sym (fold-step f told s₀ (i - 1) (noDecision, nan) (rw told-long b));
         }
 
     pub down-all : {i : ℕ} {s : Rs} → Down i s → i ≤ 0 → s ≡ elementsR m design s₀ told

@@ -16,7 +16,6 @@ ghost use Rattle.laws.specs.Passes.{Laid};
 ghost use Rattle.dense.specs.Views.{vec, mat};
 ghost use Rattle.element_back.specs.View.{rsIn};
 ghost use Rattle.mean_back.specs.View.{lookedAt, looked, Vectors, Square, Entry, Element, Period, Smoothed, Block, Periods};
-use promise::FlatRecord;
 use promise::Kind;
 
 // ---- L' r, with the entries of L worked out as they are read
@@ -190,7 +189,7 @@ fn diffuse_at(
     );
 }
 
-// One element back, by the record that stands at place k of the flat parts: where it was skipped nothing moves.
+// One element back, by the kind that the flat parts tell at place k: where it was skipped nothing moves.
 fn back_element(
     r0: &mut [f64; 8],
     r1: &mut [f64; 8],
@@ -212,15 +211,8 @@ fn back_element(
         (readBack m (flatIn (now (kinds .entry)) (now («f_star» .entry)) (now («f_inf» .entry))
         (now («m_star» .entry)) (now («m_inf» .entry))) k) (at (now (v .entry)) k) ⌝ }
 {
-    let r = record::from_flat(FlatRecord {
-        kind: kinds[k],
-        v: v[k],
-        f_star: f_star[k],
-        f_inf: f_inf[k],
-    });
-    let kind = r.kind;
-    match kind {
-        Kind::Skipped => {}
+    match record::kind_from(kinds[k], v[k], f_star[k], f_inf[k]) {
+        Kind::Skipped(_) => {}
         Kind::Usual(v, f) => usual_at(r0, design, v, f, m_star, m, i, k),
         Kind::Diffuse(v, f, f_inf) => {
             diffuse_at(r0, r1, design, v, f, f_inf, m_star, m_inf, m, i, k)

@@ -14,10 +14,10 @@ fn show(s: sheet::answers::Settings, n: usize, y: &[f64], o: options::Options)
     requires { ⌜ n ≤ 4096 ⌝ }
 {
     let mut rows = rows::rows();
-    let mut fates = rows::fates();
+    let mut kinds = rows::kinds();
     let inputs = s.inputs;
     let period = s.period;
-    let outcome = estimate::estimate(s, n, y, &mut rows, &mut fates);
+    let outcome = estimate::estimate(s, n, y, &mut rows, &mut kinds);
     match outcome {
         goxundar::Outcome::Refused(k) => told::refusal(k),
         goxundar::Outcome::Answered(a) => {
@@ -26,7 +26,7 @@ fn show(s: sheet::answers::Settings, n: usize, y: &[f64], o: options::Options)
                 if fd < 0 {
                     return;
                 }
-                picture::draw(fd, n, period, y, &fates, &rows);
+                picture::draw(fd, n, period, y, &kinds, &rows);
                 libc::close(fd);
             }
             table::print(
@@ -39,7 +39,7 @@ fn show(s: sheet::answers::Settings, n: usize, y: &[f64], o: options::Options)
                 0,
                 n,
                 y,
-                &fates,
+                &kinds,
                 &rows,
             );
             table::totals(

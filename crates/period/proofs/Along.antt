@@ -96,12 +96,12 @@ module _ (p m : ℕ) (h : List Float) (fix : Fixed) (gaps : List Bool) (s : Inne
 
 -- whether none was taken, after a decision
 passed-none : (d : Decision) (t : List ℕ) (i : ℕ) → step.Passed ≡ stepOf d → none-yet (takenBy d t i) ≡ none-yet t
-passed-none skipped t i e = refl
+passed-none (skipped c) t i e = refl
 passed-none (usual f a) t i e = absurd (let z : _≡_ {A = ℕ} 0 1 = cc in omega arith)
 passed-none (diffuse f g a c) t i e = absurd (let z : _≡_ {A = ℕ} 0 1 = cc in omega arith)
 
 taken-some : (d : Decision) (t : List ℕ) (i : ℕ) → step.Taken ≡ stepOf d → none-yet (takenBy d t i) ≡ false
-taken-some skipped t i e = absurd (let z : _≡_ {A = ℕ} 0 1 = cc in omega arith)
+taken-some (skipped c) t i e = absurd (let z : _≡_ {A = ℕ} 0 1 = cc in omega arith)
 taken-some (usual f a) t i e = stale-next t i
 taken-some (diffuse f g a c) t i e = stale-next t i
 

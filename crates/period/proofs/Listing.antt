@@ -5,7 +5,6 @@ use mathlib.Core.Bool.{Bool, true, false, cond}
 use mathlib.Core.List.{List, [], _∷_, _++_, map, append-nil, append-assoc}
 use native.Mathlib.Omega.{arith}
 use native.Mathlib.Numerals.{add-one}
-use lib.Dec.{eqb}
 use lib.ListN.{take, getD, set, length, length-set}
 use lib.Seq.{take-suc, take-suc-set, getD-take, length-take-le}
 use lib.Ieee.{Float}
@@ -14,6 +13,7 @@ use Rattle.definition.specs.Run.{scan}
 use Rattle.definition.specs.Cov.{Decision, skipped, usual, diffuse, Inner, Fixed, elementOf}
 use Rattle.definition.specs.Parts.{kindNo}
 use Rattle.laws.specs.Flat.{Flat}
+use Rattle.laws.specs.Kinds.{newsKind, news-kind}
 use Rattle.dense.specs.Views.{mat, rect}
 use Rattle.star.specs.Views as root
 use Rattle.star.specs.Views.{Replayed}
@@ -23,33 +23,33 @@ use Rattle.element.proofs.Laws.{applied-taken}
 use Rattle.period.specs.Views.{placesFrom, TookIn, Listed, upTo, WithRoot, RestByRoot}
 use Rattle.period.specs.declared.Taken.{Taken}
 
--- ---- places at which a kind is not 0
+-- ---- places at which a kind is news
 
 places-append : (k : ℕ) (xs ys : List ℕ) → placesFrom k (xs ++ ys) ≡ placesFrom k xs ++ placesFrom (k + length xs) ys
 unfolding placesFrom
 places-append k [] ys = ap (λ (x : ℕ). placesFrom x ys) (omega arith)
-places-append k (x ∷ xs) ys = by-test (eqb x 0) (placesFrom (suc k) (xs ++ ys)) (placesFrom (suc k) xs) (placesFrom (k + length (x ∷ xs)) ys) (places-append (suc k) xs ys ∙ ap (λ (z : ℕ). placesFrom (suc k) xs ++ placesFrom z ys) (omega arith))
+places-append k (x ∷ xs) ys = by-test (newsKind x) (placesFrom (suc k) (xs ++ ys)) (placesFrom (suc k) xs) (placesFrom (k + length (x ∷ xs)) ys) (places-append (suc k) xs ys ∙ ap (λ (z : ℕ). placesFrom (suc k) xs ++ placesFrom z ys) (omega arith))
   where
-    by-test : (t : Bool) (a b c : List ℕ) → a ≡ b ++ c → cond t a (k ∷ a) ≡ cond t b (k ∷ b) ++ c
-    by-test true a b c e = e
-    by-test false a b c e = ap (λ (z : List ℕ). k ∷ z) e
+    by-test : (t : Bool) (a b c : List ℕ) → a ≡ b ++ c → cond t (k ∷ a) a ≡ cond t (k ∷ b) b ++ c
+    by-test true a b c e = ap (λ (z : List ℕ). k ∷ z) e
+    by-test false a b c e = e
 
 places-below : (k : ℕ) (xs : List ℕ) (j : ℕ) → j < length (placesFrom k xs) → getD (placesFrom k xs) j 0 < k + length xs
 unfolding placesFrom
 places-below k [] j l = absurd (omega arith)
-places-below k (x ∷ xs) j l = by-test (eqb x 0) (placesFrom (suc k) xs) (λ i g. omega (arith, places-below (suc k) xs i g)) j l
+places-below k (x ∷ xs) j l = by-test (newsKind x) (placesFrom (suc k) xs) (λ i g. omega (arith, places-below (suc k) xs i g)) j l
   where
-    by-test : (t : Bool) (ps : List ℕ) → ((i : ℕ) → i < length ps → getD ps i 0 < k + length (x ∷ xs)) → (j : ℕ) → j < length (cond t ps (k ∷ ps)) → getD (cond t ps (k ∷ ps)) j 0 < k + length (x ∷ xs)
-    by-test true ps ih j l = ih j l
-    by-test false ps ih zero l = omega arith
-    by-test false ps ih (suc j) l = ih j (omega arith)
+    by-test : (t : Bool) (ps : List ℕ) → ((i : ℕ) → i < length ps → getD ps i 0 < k + length (x ∷ xs)) → (j : ℕ) → j < length (cond t (k ∷ ps) ps) → getD (cond t (k ∷ ps) ps) j 0 < k + length (x ∷ xs)
+    by-test true ps ih zero l = omega arith
+    by-test true ps ih (suc j) l = ih j (omega arith)
+    by-test false ps ih j l = ih j l
 
 -- ---- the loop that lists them
 
-pub took-yes : (t : Taken) {kind : ℕ} (i : ℕ) → eqb kind 0 ≡ false → t .count < length (t .places) → TookIn t kind i (record { places = set (t .places) (t .count) i; count = t .count + 1 })
+pub took-yes : (t : Taken) {kind : ℕ} (i : ℕ) → newsKind kind ≡ true → t .count < length (t .places) → TookIn t kind i (record { places = set (t .places) (t .count) i; count = t .count + 1 })
 took-yes t i e l = record { count = rw e; places = rw (e, add-one) (take-suc-set (t .places) (t .count) i l); size = length-set (t .places) (t .count) i }
 
-pub took-no : (t : Taken) {kind : ℕ} (i : ℕ) → eqb kind 0 ≡ true → TookIn t kind i t
+pub took-no : (t : Taken) {kind : ℕ} (i : ℕ) → newsKind kind ≡ false → TookIn t kind i t
 took-no t i e = record { count = rw e; places = rw e; size = refl }
 
 pub listed-none : (kinds : List ℕ) (t : Taken) → t .count ≡ 0 → length (t .places) ≡ 8 → Listed 0 (take 0 kinds) t
@@ -63,17 +63,17 @@ listed-next i kinds t t′ w l k =
     rw (add-one, take-suc kinds i 0 l) (places-append 0 (take i kinds) (getD kinds i 0 ∷ []) ∙ ap (λ (x : ℕ). placesFrom 0 (take i kinds) ++ placesFrom x (getD kinds i 0 ∷ [])) (omega (arith, length-take-le i kinds (omega arith)))) in
     record {
       size = k .size ∙ w .size;
-      few = fewer (eqb (getD kinds i 0) 0) (k .count);
-      places = k .places ∙ by-test (eqb (getD kinds i 0) 0) ∙ sym e;
+      few = fewer (newsKind (getD kinds i 0)) (k .count);
+      places = k .places ∙ by-test (newsKind (getD kinds i 0)) ∙ sym e;
     }
   where
-    fewer : (b : Bool) → t′ .count ≡ cond b (t .count) (t .count + 1) → t′ .count ≤ i + 1
+    fewer : (b : Bool) → t′ .count ≡ cond b (t .count + 1) (t .count) → t′ .count ≤ i + 1
     fewer true q = omega (arith, w .few)
     fewer false q = omega (arith, w .few)
 
-    by-test : (b : Bool) → cond b (take (t .count) (t .places)) (take (t .count) (t .places) ++ (i ∷ [])) ≡ placesFrom 0 (take i kinds) ++ cond b [] (i ∷ [])
-    by-test true = w .places ∙ sym (append-nil (placesFrom 0 (take i kinds)))
-    by-test false = ap (λ (x : List ℕ). x ++ (i ∷ [])) (w .places)
+    by-test : (b : Bool) → cond b (take (t .count) (t .places) ++ (i ∷ [])) (take (t .count) (t .places)) ≡ placesFrom 0 (take i kinds) ++ cond b (i ∷ []) []
+    by-test true = ap (λ (x : List ℕ). x ++ (i ∷ [])) (w .places)
+    by-test false = w .places ∙ sym (append-nil (placesFrom 0 (take i kinds)))
 
 pub listed-end : (i n : ℕ) (kinds : List ℕ) (t : Taken) → Listed i (take i kinds) t → i ≤ n → n ≤ i → Listed n (take n kinds) t
 listed-end i n kinds t w a b = let e : i ≡ n = omega arith in subst (λ (x : ℕ). Listed x (take x kinds) t) e w
@@ -99,7 +99,7 @@ listed-taken p n kinds t w l m = record {
 module _ (p m : ℕ) (h : List Float) (fix : Fixed) where
   taken-by : (d : Decision) (t : List ℕ) (k : ℕ) (ks : List ℕ) → takenBy d t k ++ placesFrom (suc k) ks ≡ t ++ placesFrom k (kindNo d ∷ ks)
   unfolding placesFrom
-  taken-by skipped t k ks = refl
+  taken-by (skipped c) t k ks = rw (news-kind (skipped c))
   taken-by (usual f a) t k ks = append-assoc t (k ∷ []) (placesFrom (suc k) ks)
   taken-by (diffuse f g a c) t k ks = append-assoc t (k ∷ []) (placesFrom (suc k) ks)
 

@@ -3,7 +3,6 @@ use Prim.Native.Nat.{ℕ, suc, _≤_, _<_, _+_}
 use mathlib.Core.Path.{_≡_}
 use mathlib.Core.Bool.{Bool, true, false, cond}
 use mathlib.Core.List.{List, [], _∷_, _++_, map}
-use lib.Dec.{eqb}
 use lib.ListN.{take, length}
 use lib.Ieee.{Float}
 use Rattle.definition.specs.Run.{scan, join}
@@ -12,6 +11,7 @@ use Rattle.definition.specs.Cov.{Decision, Inner, Fixed, Cov, elementOf, entere
 use Rattle.definition.specs.Parts as parts
 use Rattle.definition.specs.Parts.{kindNo, mStarOf, mInfOf}
 use Rattle.laws.specs.Flat.{Flat}
+use Rattle.laws.specs.Kinds.{newsKind}
 use Rattle.dense.specs.Views.{mat, rect}
 use Rattle.star.specs.Views.{Replayed}
 use Rattle.star.specs.declared.StarRoot.{StarRoot}
@@ -127,16 +127,16 @@ WithRoot p m h design pre gaps from root star n star′ n′ =
 
 -- ---- the elements taken
 
--- the places from k on at which a kind is not 0
+-- the places from k on at which a kind is news
 unfoldable pub placesFrom : ℕ → List ℕ → List ℕ
 placesFrom k [] = []
-placesFrom k (x ∷ xs) = let rest = placesFrom (suc k) xs in cond (eqb x 0) rest (k ∷ rest)
+placesFrom k (x ∷ xs) = let rest = placesFrom (suc k) xs in cond (newsKind x) (k ∷ rest) rest
 
 -- element i joins those taken, by its kind
 pub record TookIn (t : Taken) (kind i : ℕ) (r : Taken) : Type 0 where
-  pub count : r .count ≡ cond (eqb kind 0) (t .count) (t .count + 1)
+  pub count : r .count ≡ cond (newsKind kind) (t .count + 1) (t .count)
   pub places : take (r .count) (r .places)
-      ≡ cond (eqb kind 0) (take (t .count) (t .places)) (take (t .count) (t .places) ++ (i ∷ []))
+      ≡ cond (newsKind kind) (take (t .count) (t .places) ++ (i ∷ [])) (take (t .count) (t .places))
   pub size : length (r .places) ≡ length (t .places)
 
 -- those taken of the first n

@@ -104,13 +104,13 @@ struct Taken {
     count: usize,
 }
 
-// Element i joins those taken, if its kind is not 0, skipped.
+// Element i joins those taken, if its record is news.
 fn take_in(t: Taken, kind: u8, i: usize) -> Taken
     requires { ⌜ t .count < 8 ⌝ }
     ensures { λ r. ⌜ TookIn t kind i r ⌝ }
 {
     let mut t = t;
-    if kind != promise::SKIPPED {
+    if record::is_news(kind) {
         let n = t.count;
         t.places[n] = i;
         t.count = n + 1;

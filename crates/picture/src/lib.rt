@@ -161,42 +161,54 @@ fn passed_over(fd: i32, x: f64, y: f64) {
     say(fd, b"\"/>\n");
 }
 
-fn mark(fd: i32, fate: u8, x: f64, y: f64) {
-    match fate {
-        1 => taken(fd, x, y),
-        2 => first_news(fd, x, y),
-        3 => passed_over(fd, x, y),
-        _ => {}
+// Passed over too, for the one cause that asks for a look at the settings: the cross in a ring.
+fn doubtful(fd: i32, x: f64, y: f64) {
+    passed_over(fd, x, y);
+    circle(
+        fd,
+        b"<circle r=\"7.5\" fill=\"none\" stroke=\"#c0002a\" stroke-width=\"1.6\" cx=\"",
+        x,
+        y,
+    );
+}
+
+fn mark(fd: i32, kind: u8, x: f64, y: f64) {
+    match kind {
+        rows::NO_CHECK => {}
+        rows::TAKEN => taken(fd, x, y),
+        rows::FIRST_NEWS => first_news(fd, x, y),
+        rows::ADDS_NOTHING | rows::ONLY_ROUNDING => passed_over(fd, x, y),
+        rows::DOUBTFUL..=255 => doubtful(fd, x, y),
     }
 }
 
 // The checks of the first input, or of the second.
-fn marks(fd: i32, f: Frame, n: usize, period: u64, y: &[f64], fates: &[u8], input: usize)
+fn marks(fd: i32, f: Frame, n: usize, period: u64, y: &[f64], kinds: &[u8], input: usize)
     requires { ⌜ (n ≤ 4096) × (input < 2) ⌝ }
 {
     for t in 0..n {
         mark(
             fd,
-            rows::byte(fates, 2 * t + input),
+            rows::byte(kinds, 2 * t + input),
             plot::x_of(f, rows::time(t, period)),
             plot::y_of(f, rows::at(y, 2 * t + input)),
         );
     }
 }
 
-fn is_gap(fates: &[u8], t: usize) -> bool
+fn is_gap(kinds: &[u8], t: usize) -> bool
     requires { ⌜ t < 4096 ⌝ }
 {
-    (rows::byte(fates, 2 * t) == rows::NO_CHECK) & (rows::byte(fates, 2 * t + 1) == rows::NO_CHECK)
+    (rows::byte(kinds, 2 * t) == rows::NO_CHECK) & (rows::byte(kinds, 2 * t + 1) == rows::NO_CHECK)
 }
 
 // A tick on the time axis for each period with no check.
-fn gaps(fd: i32, f: Frame, n: usize, period: u64, fates: &[u8])
+fn gaps(fd: i32, f: Frame, n: usize, period: u64, kinds: &[u8])
     requires { ⌜ n ≤ 4096 ⌝ }
 {
     say(fd, b"<path stroke=\"#888\" d=\"\n");
     for t in 0..n {
-        if is_gap(fates, t) {
+        if is_gap(kinds, t) {
             let x = plot::x_of(f, rows::time(t, period));
             to(fd, b'M', x, BOTTOM);
             to(fd, b'L', x, BOTTOM - 6.0);
@@ -380,16 +392,21 @@ fn legend_checks(fd: i32) {
         fd,
         b"<text x=\"358\" y=\"38\">passed over: no news</text>\n",
     );
+    doubtful(fd, 508.0, 34.0);
     say(
         fd,
-        b"<path stroke=\"#888\" d=\"M520 37v-6\"/><text x=\"528\" y=\"38\">no check</text>\n",
+        b"<text x=\"521\" y=\"38\">passed over: doubtful</text>\n",
+    );
+    say(
+        fd,
+        b"<path stroke=\"#888\" d=\"M672 37v-6\"/><text x=\"680\" y=\"38\">no check</text>\n",
     );
 }
 
-pub fn draw(fd: i32, n: usize, period: u64, y: &[f64], fates: &[u8], rows: &[f64])
+pub fn draw(fd: i32, n: usize, period: u64, y: &[f64], kinds: &[u8], rows: &[f64])
     requires { ⌜ n ≤ 4096 ⌝ }
 {
-    let f = plot::around(n, period, y, fates, rows);
+    let f = plot::around(n, period, y, kinds, rows);
     say(
         fd,
         b"<svg xmlns=\"http://www.w3.org/2000/svg\" width=\"800\" height=\"400\" viewBox=\"0 0 800 400\" font-family=\"sans-serif\" font-size=\"12\">
@@ -401,9 +418,9 @@ pub fn draw(fd: i32, n: usize, period: u64, y: &[f64], fates: &[u8], rows: &[f64
     offset_axis(fd, f);
     time_axis(fd, f);
     estimates(fd, f, n, period, rows);
-    gaps(fd, f, n, period, fates);
-    marks(fd, f, n, period, y, fates, 0);
-    marks(fd, f, n, period, y, fates, 1);
+    gaps(fd, f, n, period, kinds);
+    marks(fd, f, n, period, y, kinds, 0);
+    marks(fd, f, n, period, y, kinds, 1);
     say(
         fd,
         b"<path fill=\"none\" stroke=\"#444\" d=\"M72 52H788V342H72Z\"/>\n",

@@ -61,8 +61,8 @@ fn with(f: Frame, x: f64) -> Frame {
     f
 }
 
-fn with_check(f: Frame, y: &[f64], fates: &[u8], i: usize) -> Frame {
-    if rows::byte(fates, i) == rows::NO_CHECK {
+fn with_check(f: Frame, y: &[f64], kinds: &[u8], i: usize) -> Frame {
+    if rows::byte(kinds, i) == rows::NO_CHECK {
         return f;
     }
     with(f, rows::at(y, i))
@@ -100,7 +100,7 @@ fn padded(f: Frame) -> Frame {
 }
 
 // Room for all checks and for the smoothed band. What else is outside is cut off: before the rate is known well the filtered band is wide.
-pub fn around(n: usize, period: u64, y: &[f64], fates: &[u8], rows: &[f64]) -> Frame
+pub fn around(n: usize, period: u64, y: &[f64], kinds: &[u8], rows: &[f64]) -> Frame
     requires { ⌜ n ≤ 4096 ⌝ }
 {
     let mut f = Frame {
@@ -109,8 +109,8 @@ pub fn around(n: usize, period: u64, y: &[f64], fates: &[u8], rows: &[f64]) -> F
         last: 0.0,
     };
     for t in 0..n {
-        f = with_check(f, y, fates, 2 * t);
-        f = with_check(f, y, fates, 2 * t + 1);
+        f = with_check(f, y, kinds, 2 * t);
+        f = with_check(f, y, kinds, 2 * t + 1);
         f = with(f, edge(rows, t, rows::SMOOTHED, -2.0));
         f = with(f, edge(rows, t, rows::SMOOTHED, 2.0));
         f.last = rows::time(t, period);

@@ -16,7 +16,7 @@ fn go_on(s: sheet::answers::Settings, n: usize, y: &[f64], from: usize, save: us
     requires { ⌜ n ≤ 4096 ⌝ }
 {
     let mut rows = rows::rows();
-    let mut fates = rows::fates();
+    let mut kinds = rows::kinds();
     let mut after = resumed::bytes();
     let inputs = s.inputs;
     let period = s.period;
@@ -28,7 +28,7 @@ fn go_on(s: sheet::answers::Settings, n: usize, y: &[f64], from: usize, save: us
         before,
         save == 0,
         &mut rows,
-        &mut fates,
+        &mut kinds,
         &mut after,
     );
     match outcome {
@@ -49,7 +49,7 @@ fn go_on(s: sheet::answers::Settings, n: usize, y: &[f64], from: usize, save: us
                 resumed::done(before),
                 n,
                 y,
-                &fates,
+                &kinds,
                 &rows,
             );
             table::totals(

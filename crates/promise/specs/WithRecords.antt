@@ -15,7 +15,7 @@ use Rattle.promise.specs.declared.Outcome.{Outcome}
 use Rattle.promise.specs.declared.Outcome.the-variants.{Refused, Answered}
 use Rattle.promise.specs.Calls.{Promise, PromiseSmooth}
 use Rattle.promise.specs.declared.Record.{Record}
-use Rattle.promise.specs.Records.{skippedRecord, filled, recordsBy}
+use Rattle.promise.specs.Records.{gapRecord, filled, recordsBy}
 
 -- ---- the list is one lent part more: n·p records. `room`: the flat parts are as long as needed; `have`: how many places the list has
 
@@ -39,9 +39,9 @@ smoothOutcomeWithRecords x o y b b′ sm sc have =
 unfoldable pub recordsRun : Model → Offsets → List Float → List Record
 recordsRun x o y = let cs = covOf x (map classOf y) .0 in recordsBy (join (decisionsOf cs)) (meanWritten (meanOf x o cs y) innovations)
 
--- the list afterwards, like every part: a refusal before the run leaves it, 12 sets n·p skipped records, a run lays its own; the rest of it stays
+-- the list afterwards, like every part: a refusal before the run leaves it, 12 sets n·p records of gaps, a run lays its own; the rest of it stays
 unfoldable pub listAfter : Model → Offsets → List Float → Ending → List Record → List Record
-listAfter x o y f old = after f (recordsRun x o y) (replicate (kindsNeed x) skippedRecord) old
+listAfter x o y f old = after f (recordsRun x o y) (replicate (kindsNeed x) gapRecord) old
 
 -- ---- the same list by the flat parts as they stand afterwards: k records of an answer and on refusal 12, else none
 

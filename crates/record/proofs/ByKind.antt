@@ -1,35 +1,23 @@
--- A record from its flat form: by the kind as a test finds it, and by four reads of the flat parts.
-use mathlib.Core.Path.{_≡_, refl, ap}
-use Prim.Native.Nat.{ℕ, zero, suc}
+-- A record from its flat form: the kind by the number that a test finds, and the record by four reads of the flat parts.
+use mathlib.Core.Path.{_≡_, refl}
+use Prim.Native.Nat.{ℕ, suc, _-_, _<_}
+use native.Mathlib.Omega.{arith}
 use mathlib.Core.List.{List}
 use lib.Ieee.{Float}
 use lib.ListN.{getD}
 use Rattle.definition.specs.Num.{at}
-use Rattle.promise.specs.Records.{skippedRecord, kindFrom, recordFrom, recordAt}
-use Rattle.promise.specs.declared.Kind.{Kind}
-use Rattle.promise.specs.declared.Kind.the-variants.{Usual, Diffuse}
+use Rattle.promise.specs.Records.{kindFrom, recordFrom, recordAt}
+use Rattle.promise.specs.declared.Cause.the-variants.{FailedReplay}
+use Rattle.promise.specs.declared.Kind.the-variants.{Skipped}
 use Rattle.promise.specs.declared.Record.{Record}
-use Rattle.promise.specs.declared.FlatRecord.{FlatRecord}
 
-abbrev of : Kind → Record
-of k = record { kind = k }
+module _ (k : ℕ) (v f f∞ : Float) where
+  pub from-number : {n : ℕ} → k ≡ n → kindFrom n v f f∞ ≡ kindFrom k v f f∞
+  from-number e = rw e refl
 
-other : (k : ℕ) (v f f∞ : Float) → (k ≡ 0 → ⊥) → (k ≡ 1 → ⊥) → Diffuse v f f∞ ≡ kindFrom k v f f∞
-unfolding kindFrom
-other zero v f f∞ h l = absurd (h refl)
-other (suc zero) v f f∞ h l = absurd (l refl)
-other (suc (suc k)) v f f∞ h l = refl
-
-pub from-skipped : (x : FlatRecord) → x .kind ≡ 0 → skippedRecord ≡ recordFrom x
-unfolding kindFrom
-from-skipped x e = rw e refl
-
-pub from-usual : (x : FlatRecord) → x .kind ≡ 1 → of (Usual (x .v) (x .«f_star»)) ≡ recordFrom x
-unfolding kindFrom
-from-usual x e = rw e refl
-
-pub from-diffuse : (x : FlatRecord) → (x .kind ≡ 0 → ⊥) → (x .kind ≡ 1 → ⊥) → of (Diffuse (x .v) (x .«f_star») (x .«f_inf»)) ≡ recordFrom x
-from-diffuse x h l = ap of (other (x .kind) (x .v) (x .«f_star») (x .«f_inf») h l)
+  pub from-above : 4 < k → Skipped FailedReplay ≡ kindFrom k v f f∞
+  unfolding kindFrom
+  from-above h = from-number {n = suc (suc (suc (suc (suc (k - 5)))))} (omega arith)
 
 pub from-reads : (kinds : List ℕ) (vs fs f∞s : List Float) (k : ℕ) {n : ℕ} {v f f∞ : Float} {r : Record} → n ≡ getD kinds k 0 → v ≡ at vs k → f ≡ at fs k → f∞ ≡ at f∞s k
     → r ≡ recordFrom (record { kind = n; v = v; «f_star» = f; «f_inf» = f∞ }) → r ≡ recordAt kinds vs fs f∞s k

@@ -1,57 +1,48 @@
--- The record that is read off the flat parts at place k tells the decision that stands there, by its kind, and v.
-use mathlib.Core.Path.{_≡_, refl, sym, ap, _∙_}
+-- The kind that a flat record's numbers tell is that of the decision which the passes read off them.
+use mathlib.Core.Path.{_≡_, refl, ap, subst}
 use Prim.Native.Nat.{ℕ, zero, suc}
-use native.Mathlib.Omega.{arith}
 use mathlib.Core.List.{List}
 use lib.Ieee.{Float}
 use lib.ListN.{getD}
 use Rattle.definition.specs.Num.{at}
+use Rattle.definition.specs.Cov as cov
 use Rattle.definition.specs.Cov.{Decision, skipped, usual, diffuse}
 use Rattle.laws.specs.Flat.{Flat, decisionOf, readBack, blockAt}
-use Rattle.promise.specs.Records.{kindFrom, recordAt}
+use Rattle.promise.specs.Records.{causeOf, recordOf, kindFrom, recordAt}
 use Rattle.promise.specs.declared.Kind.{Kind}
 use Rattle.promise.specs.declared.Kind.the-variants.{Skipped, Usual, Diffuse}
-use Rattle.promise.specs.declared.Record.{Record}
 
--- ---- by the number of the kind: two kinds are never equal
-
-differ : {A : Type 0} → _≡_ {A = ℕ} 0 1 → A
-differ e = absurd (omega arith)
+-- the decision d by the kind, where v, M* and M∞ stand beside it
+abbrev pub Tells : Kind → Float → List Float → List Float → Decision → Type 0
+Tells (Skipped c′) v a b d = (c : cov.Cause) × (causeOf c ≡ c′) × (d ≡ skipped c)
+Tells (Usual x f) v a b d = (v ≡ x) × (d ≡ usual f a)
+Tells (Diffuse x f f∞) v a b d = (v ≡ x) × (d ≡ diffuse f f∞ a b)
 
 module _ (v f f∞ : Float) (a b : List Float) where
-  by-skipped : (n : ℕ) → kindFrom n v f f∞ ≡ Skipped → decisionOf n f f∞ a b ≡ skipped
+  by-number : (n : ℕ) → Tells (kindFrom n v f f∞) v a b (decisionOf n f f∞ a b)
   unfolding kindFrom decisionOf
-  by-skipped zero e = refl
-  by-skipped (suc zero) e = differ cc
-  by-skipped (suc (suc n)) e = differ cc
+  by-number zero = (cov.atGap, refl, refl)
+  by-number (suc zero) = (refl, refl)
+  by-number (suc (suc zero)) = (refl, refl)
+  by-number (suc (suc (suc zero))) = (cov.tooSmall, refl, refl)
+  by-number (suc (suc (suc (suc zero)))) = (cov.belowDust, refl, refl)
+  by-number (suc (suc (suc (suc (suc n))))) = (cov.failedReplay, refl, refl)
 
-  by-usual : {x g : Float} (n : ℕ) → kindFrom n v f f∞ ≡ Usual x g → (v ≡ x) × (decisionOf n f f∞ a b ≡ usual g a)
-  unfolding kindFrom decisionOf
-  by-usual zero e = differ cc
-  by-usual (suc zero) e = (cc, cc)
-  by-usual (suc (suc n)) e = differ cc
+  pub tells : (n : ℕ) {r k : Kind} → r ≡ kindFrom n v f f∞ → r ≡ k → Tells k v a b (decisionOf n f f∞ a b)
+  tells n e g = subst (λ (k : Kind). Tells k v a b (decisionOf n f f∞ a b)) g (rw e (by-number n))
 
-  by-diffuse : {x g g∞ : Float} (n : ℕ) → kindFrom n v f f∞ ≡ Diffuse x g g∞ → (v ≡ x) × (decisionOf n f f∞ a b ≡ diffuse g g∞ a b)
-  unfolding kindFrom decisionOf
-  by-diffuse zero e = differ cc
-  by-diffuse (suc zero) e = differ cc
-  by-diffuse (suc (suc n)) e = (cc, cc)
+-- at place k of the flat parts
+pub read : (m : ℕ) (l : Flat) (v : Float) (k : ℕ) {r x : Kind} → r ≡ kindFrom (getD (l .kinds) k 0) v (at (l .fStars) k) (at (l .fInfs) k) → r ≡ x → Tells x v (blockAt m (l .mStars) k) (blockAt m (l .mInfs) k) (readBack m l k)
+unfolding readBack blockAt
+read m l v k e g = tells _ _ _ _ _ (getD (l .kinds) k 0) e g
 
--- ---- at place k
+-- so the record there is that decision's
+of-kind : (k : Kind) (v : Float) (a b : List Float) (d : Decision) → Tells k v a b d → k ≡ recordOf d v .kind
+unfolding recordOf
+of-kind (Skipped c) v a b d t = rw (t .2, t .1)
+of-kind (Usual x f) v a b d t = rw (t .1, t .0)
+of-kind (Diffuse x f f∞) v a b d t = rw (t .1, t .0)
 
-module _ (m : ℕ) (l : Flat) (vs : List Float) (k : ℕ) {r : Record} (read : r ≡ recordAt (l .kinds) vs (l .fStars) (l .fInfs) k) where
-  kind-read : r .kind ≡ kindFrom (getD (l .kinds) k 0) (at vs k) (at (l .fStars) k) (at (l .fInfs) k)
-  unfolding recordAt
-  kind-read = ap (λ (x : Record). x .kind) read
-
-  pub read-skipped : r .kind ≡ Skipped → readBack m l k ≡ skipped
-  unfolding readBack
-  read-skipped e = by-skipped _ _ _ _ _ (getD (l .kinds) k 0) (sym kind-read ∙ e)
-
-  pub read-usual : {v f : Float} → r .kind ≡ Usual v f → (at vs k ≡ v) × (readBack m l k ≡ usual f (blockAt m (l .mStars) k))
-  unfolding readBack blockAt
-  read-usual e = by-usual _ _ _ _ _ (getD (l .kinds) k 0) (sym kind-read ∙ e)
-
-  pub read-diffuse : {v f f∞ : Float} → r .kind ≡ Diffuse v f f∞ → (at vs k ≡ v) × (readBack m l k ≡ diffuse f f∞ (blockAt m (l .mStars) k) (blockAt m (l .mInfs) k))
-  unfolding readBack blockAt
-  read-diffuse e = by-diffuse _ _ _ _ _ (getD (l .kinds) k 0) (sym kind-read ∙ e)
+pub by-read-back : (m : ℕ) (l : Flat) (vs : List Float) (k : ℕ) → recordAt (l .kinds) vs (l .fStars) (l .fInfs) k ≡ recordOf (readBack m l k) (at vs k)
+unfolding recordAt
+by-read-back m l vs k = ap (λ (x : Kind). record { kind = x }) (of-kind _ (at vs k) _ _ (readBack m l k) (read m l (at vs k) k refl refl))

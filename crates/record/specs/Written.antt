@@ -6,26 +6,14 @@ use native.Mathlib.Nat.{min-eq-left, zero-add, suc-inj}
 use mathlib.Core.List.{List, [], _∷_, _++_, map}
 use lib.Ieee.{Float}
 use lib.ListN.{length, getD, replicate, length-replicate, getD-replicate, List·getD-append}
-use Rattle.definition.specs.Num.{tabFrom, at}
+use Rattle.definition.specs.Num.{tabFrom}
 use Rattle.definition.specs.Run.{lay, pairs}
 use Rattle.definition.specs.Cov.{Decision}
 use Rattle.definition.specs.Parts.{kindNo, fStarOf, fInfOf}
 use Rattle.laws.specs.Lists.{tab-cong}
-use Rattle.laws.specs.Flat.{Flat, decisionOf, readBack}
-use Rattle.promise.specs.Records.{recordsBy, skippedRecord, recordOf, kindFrom, recordFrom, recordAt, recordsOf, filled}
+use Rattle.promise.specs.Records.{recordsBy, gapRecord, kindFrom, recordFrom, recordAt, recordsOf, filled}
 use Rattle.record.specs.RoundTrip.{by-decision}
 use Rattle.promise.specs.declared.Record.{Record}
-
-of-kind : (n : ℕ) (v f f∞ : Float) (a b : List Float) → recordFrom (record { kind = n; v = v; «f_star» = f; «f_inf» = f∞ }) ≡ recordOf (decisionOf n f f∞ a b) v
-unfolding kindFrom decisionOf recordOf
-of-kind zero v f f∞ a b = refl
-of-kind (suc zero) v f f∞ a b = refl
-of-kind (suc (suc n)) v f f∞ a b = refl
-
--- the record at place k is that of the decision which the passes read there
-pub by-read-back : (m : ℕ) (l : Flat) (vs : List Float) (k : ℕ) → recordAt (l .kinds) vs (l .fStars) (l .fInfs) k ≡ recordOf (readBack m l k) (at vs k)
-unfolding recordAt readBack
-by-read-back m l vs k = of-kind (getD (l .kinds) k 0) (at vs k) (at (l .fStars) k) (at (l .fInfs) k) _ _
 
 tab-shift : {A : Type 0} (n k : ℕ) (f : ℕ → A) → tabFrom (suc k) n f ≡ tabFrom k n (λ i. f (suc i))
 unfolding tabFrom
@@ -47,21 +35,21 @@ records-written (d ∷ ds) (v ∷ vs) ks r s t e =
     cons (length ds) (kindNo d) (map kindNo ds ++ ks) v (fStarOf d) (fInfOf d) (vs ++ r) (map fStarOf ds ++ s) (map fInfOf ds ++ t)
     ∙ ap₂ (λ (x : Record) (l : List Record). x ∷ l) (by-decision d v) (records-written ds vs ks r s t (suc-inj e))
 
-same : (n k : ℕ) → tabFrom k n (λ _. skippedRecord) ≡ replicate n skippedRecord
+same : (n k : ℕ) → tabFrom k n (λ _. gapRecord) ≡ replicate n gapRecord
 unfolding tabFrom
 same zero k = refl
-same (suc n) k = ap (λ (l : List Record). skippedRecord ∷ l) (same n (suc k))
+same (suc n) k = ap (λ (l : List Record). gapRecord ∷ l) (same n (suc k))
 
-blank-at : (n i : ℕ) (ks : List ℕ) (vs fs f∞s : List Float) → i < n → recordAt (replicate n 0 ++ ks) vs fs f∞s i ≡ skippedRecord
+blank-at : (n i : ℕ) (ks : List ℕ) (vs fs f∞s : List Float) → i < n → recordAt (replicate n 0 ++ ks) vs fs f∞s i ≡ gapRecord
 unfolding recordAt kindFrom
 blank-at n i ks vs fs f∞s h =
     let z : getD (replicate n 0 ++ ks) i 0 ≡ 0 = List·getD-append (replicate n 0) ks 0 i (rw length-replicate h) ∙ getD-replicate n i 0 0 h in
     rw z
 
--- refusal 12: where the kinds begin with zeros, every record is skipped
-pub records-blank : (n : ℕ) (ks : List ℕ) (vs fs f∞s : List Float) → recordsOf n (replicate n 0 ++ ks) vs fs f∞s ≡ replicate n skippedRecord
+-- refusal 12: where the kinds begin with zeros, every record is that of a gap
+pub records-blank : (n : ℕ) (ks : List ℕ) (vs fs f∞s : List Float) → recordsOf n (replicate n 0 ++ ks) vs fs f∞s ≡ replicate n gapRecord
 unfolding recordsOf
-records-blank n ks vs fs f∞s = tab-cong n 0 (recordAt (replicate n 0 ++ ks) vs fs f∞s) (λ _. skippedRecord) (λ i u h. blank-at n i ks vs fs f∞s (rw zero-add at h)) ∙ same n 0
+records-blank n ks vs fs f∞s = tab-cong n 0 (recordAt (replicate n 0 ++ ks) vs fs f∞s) (λ _. gapRecord) (λ i u h. blank-at n i ks vs fs f∞s (rw zero-add at h)) ∙ same n 0
 
 -- a list that is long enough: the first k records, and the rest as it was
 pub filled-all : (k : ℕ) (kinds : List ℕ) (vs fs f∞s : List Float) (old : List Record) → k ≤ length old → filled k kinds vs fs f∞s old ≡ lay (recordsOf k kinds vs fs f∞s) old

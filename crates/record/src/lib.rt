@@ -3,21 +3,39 @@
 ghost use mathlib.Core.Path.{_≡_};
 ghost use lib.ListN.{set, getD};
 ghost use Rattle.definition.specs.Num.{at};
-ghost use Rattle.promise.specs.Records.{skippedRecord, flatOf, recordFrom, recordAt, filled};
+ghost use Rattle.definition.specs.Parts.{causeNo};
+ghost use Rattle.laws.specs.Kinds.{newsKind};
+ghost use Rattle.promise.specs.Records.{gapRecord, causeIn, flatOf, kindFrom, recordFrom, recordAt, filled};
+use promise::BELOW_DUST;
+use promise::Cause;
 use promise::DIFFUSE;
+use promise::FAILED_REPLAY;
 use promise::FlatRecord;
+use promise::GAP;
 use promise::Kind;
 use promise::Record;
-use promise::SKIPPED;
+use promise::TOO_SMALL;
 use promise::USUAL;
+
+// The cause of a skip as the number of its kind.
+pub fn number(c: Cause) -> u8
+    ensures { λ k. ⌜ k ≡ causeNo (causeIn c) ⌝ }
+{
+    match c {
+        Cause::Gap => GAP,
+        Cause::TooSmall => TOO_SMALL,
+        Cause::BelowDust => BELOW_DUST,
+        Cause::FailedReplay => FAILED_REPLAY,
+    }
+}
 
 pub fn to_flat(r: Record) -> FlatRecord
     ensures { λ x. ⌜ x ≡ flatOf r ⌝ }
 {
     let kind = r.kind;
     match kind {
-        Kind::Skipped => FlatRecord {
-            kind: SKIPPED,
+        Kind::Skipped(c) => FlatRecord {
+            kind: number(c),
             v: 0.0,
             f_star: 0.0,
             f_inf: 0.0,
@@ -37,20 +55,35 @@ pub fn to_flat(r: Record) -> FlatRecord
     }
 }
 
+// Whether a record is news, by the number of its kind: it is usual or diffuse.
+pub fn is_news(kind: u8) -> bool
+    ensures { λ r. ⌜ r ≡ newsKind kind ⌝ }
+{
+    if kind == USUAL {
+        return true;
+    }
+    kind == DIFFUSE
+}
+
+// The kind that a flat record's numbers tell: what every reader of the flat parts goes by.
+pub fn kind_from(kind: u8, v: f64, f_star: f64, f_inf: f64) -> Kind
+    ensures { λ k. ⌜ k ≡ kindFrom kind v «f_star» «f_inf» ⌝ }
+{
+    match kind {
+        GAP => Kind::Skipped(Cause::Gap),
+        USUAL => Kind::Usual(v, f_star),
+        DIFFUSE => Kind::Diffuse(v, f_star, f_inf),
+        TOO_SMALL => Kind::Skipped(Cause::TooSmall),
+        BELOW_DUST => Kind::Skipped(Cause::BelowDust),
+        _ => Kind::Skipped(Cause::FailedReplay),
+    }
+}
+
 pub fn from_flat(x: FlatRecord) -> Record
     ensures { λ r. ⌜ r ≡ recordFrom x ⌝ }
 {
-    let kind = x.kind;
-    match kind {
-        SKIPPED => Record {
-            kind: Kind::Skipped,
-        },
-        USUAL => Record {
-            kind: Kind::Usual(x.v, x.f_star),
-        },
-        _ => Record {
-            kind: Kind::Diffuse(x.v, x.f_star, x.f_inf),
-        },
+    Record {
+        kind: kind_from(x.kind, x.v, x.f_star, x.f_inf),
     }
 }
 
@@ -63,15 +96,15 @@ pub fn put(records: &mut [Record], k: usize, r: Record)
     }
 }
 
-// The record at place k of a lent list. Past its end it is a skipped one.
+// The record at place k of a lent list. Past its end it is that of a gap.
 pub fn get(records: &[Record], k: usize) -> Record
-    ensures { λ r. ⌜ r ≡ getD (now (records .entry)) k skippedRecord ⌝ }
+    ensures { λ r. ⌜ r ≡ getD (now (records .entry)) k gapRecord ⌝ }
 {
     if k < records.len() {
         return records[k];
     }
     Record {
-        kind: Kind::Skipped,
+        kind: Kind::Skipped(Cause::Gap),
     }
 }
 

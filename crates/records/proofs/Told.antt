@@ -1,4 +1,4 @@
--- What `fill` leaves of the flat parts after a call is the definition's list: the run's own records, n·p skipped ones, or the list as it was.
+-- What `fill` leaves of the flat parts after a call is the definition's list: the run's own records, n·p of gaps, or the list as it was.
 use mathlib.Core.Path.{_≡_, refl, sym, ap, ap₂, subst, _∙_}
 use Prim.Native.Nat.{ℕ, zero, suc, _*_, _≤_}
 use native.Mathlib.Omega.{arith}
@@ -29,7 +29,7 @@ use Rattle.promise.specs.declared.Outcome.the-variants.{Refused}
 use Rattle.promise.specs.Calls.{Promise, answerBy, PromiseSmooth}
 use Rattle.filter.specs.Ends as ends
 use Rattle.promise.specs.declared.Record.{Record}
-use Rattle.promise.specs.Records.{skippedRecord, recordsOf, filled, recordsBy}
+use Rattle.promise.specs.Records.{gapRecord, recordsOf, filled, recordsBy}
 use Rattle.record.specs.Written.{records-written, records-blank, filled-all}
 use Rattle.promise.specs.WithRecords.{endingWithRecords, outcomeWithRecords, smoothOutcomeWithRecords, recordsRun, listAfter, toTell, toldBy, WithRecords, WithRecordsSmooth}
 use Rattle.records.specs.Few.{capped}
@@ -92,7 +92,7 @@ module _ (x : Model) (o : Offsets) (y : List Float) (w : CovParts) (w′ : MeanP
   when-silent l h =
       let e : r ≡ Refused 12 = h .answer in
       let z : toTell r (x .n * x .p) ≡ x .n * x .p = ap (λ (s : Outcome). toTell s (x .n * x .p)) e in
-      let q : recordsOf (x .n * x .p) (b .kinds) (b′ innovations) (b .part fStar) (b .part fInf) ≡ replicate (x .n * x .p) skippedRecord =
+      let q : recordsOf (x .n * x .p) (b .kinds) (b′ innovations) (b .part fStar) (b .part fInf) ≡ replicate (x .n * x .p) gapRecord =
       ap (λ (l : List ℕ). recordsOf (x .n * x .p) l (b′ innovations) (b .part fStar) (b .part fInf)) (h .kinds) ∙ records-blank (x .n * x .p) _ (b′ innovations) (b .part fStar) (b .part fInf) in
       all-filled (x .n * x .p) z l ∙ ap (λ (t : List Record). lay t old) q
 

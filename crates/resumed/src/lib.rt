@@ -1,5 +1,6 @@
-// What the library makes of a sheet that is one stretch of a run: its call, which begins the run or goes on from the bytes of a saved one, and the
-// numbers of its answer that are shown. The outputs of 4096 periods stand on the stack, and a T for each, 2.0 MB.
+// What the library makes of a sheet that is one stretch of a run: its call, which begins the run or goes on from the bytes of a saved one, the numbers of
+// its answer that are shown, and the kinds, which say what became of each check. The other outputs of 4096 periods stand on the stack, and a T for each,
+// 2.0 MB.
 ghost use Prim.Native.Nat.{_≤_};
 use sheet::answers::Settings;
 
@@ -25,7 +26,7 @@ pub fn estimate(
     saved: &[u8],
     last: bool,
     rows: &mut [f64],
-    fates: &mut [u8],
+    kinds: &mut [u8],
     save: &mut [u8],
 ) -> goxundar::Outcome
     requires { ⌜ n ≤ 4096 ⌝ }
@@ -35,7 +36,6 @@ pub fn estimate(
     let mut pred_inf = [0.0; 36873];
     let mut filt_mean = [0.0; 12288];
     let mut filt_cov = [0.0; 36864];
-    let mut kinds = [0u8; 8192];
     let mut v = [0.0; 8192];
     let mut f_star = [0.0; 8192];
     let mut f_inf = [0.0; 8192];
@@ -71,7 +71,7 @@ pub fn estimate(
         &mut pred_inf,
         &mut filt_mean,
         &mut filt_cov,
-        &mut kinds,
+        kinds,
         &mut v,
         &mut f_star,
         &mut f_inf,
@@ -79,7 +79,6 @@ pub fn estimate(
         &mut m_inf,
         save,
     );
-    rows::fill(rows, n, &pred_inf, &kinds, &filt_mean, &filt_cov, &[], &[]);
-    rows::fill_fates(fates, n, &kinds, y);
+    rows::fill(rows, n, &pred_inf, kinds, &filt_mean, &filt_cov, &[], &[]);
     outcome
 }

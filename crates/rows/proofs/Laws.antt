@@ -1,28 +1,14 @@
--- The leaves' definitions by the tests that the code makes.
+-- The offset's bound by the tests that the code makes.
 use mathlib.Core.Path.{_≡_, refl, sym, _∙_}
-use mathlib.Core.Bool.{Bool, false, cond, not, _&&_, and-false}
+use mathlib.Core.Bool.{Bool, false, not, _&&_, and-false}
 use mathlib.Core.List.{List}
 use Prim.Native.Nat.{ℕ, _+_, _*_}
 use borrow.Author.Tests.{ne-eqb}
 use lib.Dec.{eqb}
-use lib.Ieee.{Float, isNan, ne}
+use lib.Ieee.{Float, ne}
 use Rattle.definition.specs.Num.{0ᶠ}
-use Rattle.rows.specs.Rows.{byteAt, numAt, fateOf, openOf, offsetOpenOf}
+use Rattle.rows.specs.Rows.{byteAt, numAt, openOf, offsetOpenOf}
 
--- ---- fates
-pub fate-taken : (k : ℕ) (x : Float) → k ≡ 1 → 1 ≡ fateOf k x
-unfolding fateOf
-fate-taken k x e = rw e refl
-
-pub fate-news : (k : ℕ) (x : Float) → k ≡ 2 → 2 ≡ fateOf k x
-unfolding fateOf
-fate-news k x e = rw e refl
-
-pub fate-other : (k : ℕ) (x : Float) {b : Bool} → (k ≡ 1 → ⊥) → (k ≡ 2 → ⊥) → isNan x ≡ b → cond b 0 3 ≡ fateOf k x
-unfolding fateOf
-fate-other k x a b e = simp (ne-eqb k 1 a, ne-eqb k 2 b, e)
-
--- ---- the offset's bound
 module _ (pinf : List Float) (kinds : List ℕ) (t : ℕ) where
   pub first-news : {b : ℕ} → b ≡ byteAt kinds (2 * t) → b ≡ 2 → false ≡ offsetOpenOf pinf kinds t
   unfolding offsetOpenOf

@@ -5,17 +5,13 @@ use Prim.Native.Nat.{ℕ, _+_, _*_, _≤_, _<_}
 use lib.Ieee.{Float}
 use lib.ListN.{length, getD}
 use Rattle.definition.specs.Num.{0ᶠ}
-use Rattle.rows.specs.Rows.{fateAt, numberOf}
+use Rattle.rows.specs.Rows.{numberOf}
 
 -- the first k places hold f, or all where there are fewer; the others are as they were. `none` is what is read past the end
 pub record Filled {A : Type 0} (none : A) (f : ℕ → A) (k : ℕ) (old new : List A) : Type 0 where
   pub long : length new ≡ length old
   pub told : (i : ℕ) → i < k → i < length old → getD new i none ≡ f i
   pub kept : (i : ℕ) → k ≤ i → getD new i none ≡ getD old i none
-
--- place i holds the fate of check i: two checks in each of n periods
-abbrev pub FatesFilled : (n : ℕ) (kinds : List ℕ) (y : List Float) (old new : List ℕ) → Type 0
-FatesFilled n kinds y old new = Filled 0 (fateAt kinds y) (2 * n) old new
 
 -- place 8 t + c holds number c of period t
 pub record RowsFilled (n : ℕ) (pinf : List Float) (kinds : List ℕ) (filt-mean filt-cov sm-mean sm-cov old new : List Float) : Type 0 where

@@ -1,6 +1,6 @@
--- What is shown of a period: what became of each check, and eight numbers. docs/PANEL.md, "What it prints", and docs/DECISIONS.md 62.
--- The library's parts are flat: of a period two kinds and readings, three means (offset, rate, radio), and a covariance of 3 by 3, so nine places,
--- of which 0 is the offset's and 4 the rate's.
+-- What is shown of a period: eight numbers. (What became of its checks is shown by their kinds, as the library leaves them.) docs/PANEL.md, "What it
+-- prints", and docs/DECISIONS.md 62. The library's parts are flat: of a period two kinds, three means (offset, rate, radio), and a covariance of 3 by 3,
+-- so nine places, of which 0 is the offset's and 4 the rate's.
 use mathlib.Core.Bool.{Bool, false, not, _&&_, cond}
 use mathlib.Core.List.{List, [], _∷_, _++_}
 use Prim.Native.Nat.{ℕ, _+_, _*_}
@@ -21,14 +21,6 @@ numAt s i = getD s i 0ᶠ
 -- seconds from the first period to period t, rounded
 abbrev pub timeOf : (t period : ℕ) → Float
 timeOf t period = ofInt binary64 (pos t) ⊗ ofInt binary64 (pos period)
-
--- ---- what became of a check: 0 no check, 1 taken, 2 first news, 3 passed over. Kind 1 is usual, 2 diffuse, and what the library skips is 0.
-unfoldable pub fateOf : (kind : ℕ) (reading : Float) → ℕ
-fateOf kind reading = cond (eqb kind 1) 1 (cond (eqb kind 2) 2 (cond (isNan reading) 0 3))
-
--- of place i of the flat parts
-abbrev pub fateAt : (kinds : List ℕ) (y : List Float) → ℕ → ℕ
-fateAt kinds y i = fateOf (byteAt kinds i) (numAt y i)
 
 -- ---- what has no bound
 

@@ -3,8 +3,8 @@ ghost use mathlib.Core.Path.{_≡_};
 ghost use Prim.Native.Nat.{_+_, _*_, _≤_, _<_};
 ghost use lib.ListN.{length, set};
 ghost use lib.Seq.{sets};
-ghost use Rattle.rows.specs.Rows.{byteAt, numAt, timeOf, fateOf, openOf, offsetOpenOf, rateOpenOf, deviationOf, halfOf};
-ghost use Rattle.rows.specs.Filled.{FatesFilled, RowsFilled};
+ghost use Rattle.rows.specs.Rows.{byteAt, numAt, timeOf, openOf, offsetOpenOf, rateOpenOf, deviationOf, halfOf};
+ghost use Rattle.rows.specs.Filled.{RowsFilled};
 
 // A period's numbers: the filtered offset, its standard deviation, the rate, its own; then the smoothed ones.
 pub const ROW: usize = 8;
@@ -20,14 +20,18 @@ pub const RATE: usize = 2;
 
 pub const RATE_SD: usize = 3;
 
-// What became of a check.
-pub const NO_CHECK: u8 = 0;
+// What became of a check: the library's kind of it, in a person's words. A reader takes every number above these for doubtful.
+pub const NO_CHECK: u8 = promise::GAP;
 
-pub const TAKEN: u8 = 1;
+pub const TAKEN: u8 = promise::USUAL;
 
-pub const FIRST_NEWS: u8 = 2;
+pub const FIRST_NEWS: u8 = promise::DIFFUSE;
 
-pub const PASSED_OVER: u8 = 3;
+pub const ADDS_NOTHING: u8 = promise::TOO_SMALL;
+
+pub const ONLY_ROUNDING: u8 = promise::BELOW_DUST;
+
+pub const DOUBTFUL: u8 = promise::FAILED_REPLAY;
 
 pub fn rows() -> [f64; 32768]
     ensures { λ r. ⌜ 32768 ≡ length r ⌝ }
@@ -35,7 +39,7 @@ pub fn rows() -> [f64; 32768]
     [0.0; 32768]
 }
 
-pub fn fates() -> [u8; 8192]
+pub fn kinds() -> [u8; 8192]
     ensures { λ r. ⌜ 8192 ≡ length r ⌝ }
 {
     [0; 8192]
@@ -89,28 +93,6 @@ fn put(out: &mut [f64], i: usize, x: f64)
     }
 }
 
-fn put_byte(out: &mut [u8], i: usize, x: u8)
-    ensures { λ _. ⌜ now (out .exit) ≡ set (now (out .entry)) i x ⌝ }
-{
-    if i < out.len() {
-        out[i] = x;
-    }
-}
-
-fn fate(kind: u8, reading: f64) -> u8
-    ensures { λ r. ⌜ r ≡ fateOf kind reading ⌝ }
-{
-    match kind {
-        promise::USUAL => TAKEN,
-        promise::DIFFUSE => FIRST_NEWS,
-        _ => if float::is_nan(reading) {
-            NO_CHECK
-        } else {
-            PASSED_OVER
-        },
-    }
-}
-
 // Whether period k starts with a covariance that has no bound: the library's own test, which the place after the last period has not had.
 fn open(pred_inf: &[f64], k: usize) -> bool
     requires { ⌜ k ≤ 4096 ⌝ }
@@ -129,10 +111,10 @@ fn offset_open(pred_inf: &[f64], kinds: &[u8], t: usize) -> bool
     requires { ⌜ t < 4096 ⌝ }
     ensures { λ r. ⌜ r ≡ offsetOpenOf (now («pred_inf» .entry)) (now (kinds .entry)) t ⌝ }
 {
-    if byte(kinds, 2 * t) == 2 {
+    if byte(kinds, 2 * t) == FIRST_NEWS {
         return false;
     }
-    if byte(kinds, 2 * t + 1) == 2 {
+    if byte(kinds, 2 * t + 1) == FIRST_NEWS {
         return false;
     }
     open(pred_inf, t) & (at(pred_inf, 9 * t) != 0.0)
@@ -222,14 +204,5 @@ pub fn fill(
             offset & left_open,
             rate_left_open,
         );
-    }
-}
-
-pub fn fill_fates(fates: &mut [u8], n: usize, kinds: &[u8], y: &[f64])
-    requires { ⌜ n ≤ 4096 ⌝ }
-    ensures { λ _. ⌜ FatesFilled n (now (kinds .entry)) (now (y .entry)) (now (fates .entry)) (now (fates .exit)) ⌝ }
-{
-    for i in 0..2 * n {
-        put_byte(fates, i, fate(byte(kinds, i), at(y, i)));
     }
 }

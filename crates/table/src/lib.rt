@@ -1,7 +1,9 @@
 // The panel's table: a line for each period, then the run's counts, and where numbers ran off a line that says so.
 mod closing;
 
+ghost use mathlib.Core.Path.{_≡_};
 ghost use Prim.Native.Nat.{_+_, _≤_, _<_};
+ghost use Rattle.table.specs.Outcomes.{outcomeIn};
 
 // Which columns there are. `table`: no reading is shown, and no mean.
 pub struct Shown {
@@ -11,14 +13,14 @@ pub struct Shown {
     pub table: bool,
 }
 
-// The widths of the columns: the period, its time, a check, what became of it, a mean, a standard deviation. A line of all of them has 186 bytes.
+// The widths of the columns: the period, its time, a check, what became of it, a mean, a standard deviation. A line of all of them has 190 bytes.
 const PERIOD: usize = 6;
 
 const TIME: usize = 14;
 
 const CHECK: usize = 14;
 
-const FATE: usize = 13;
+const OUTCOME: usize = 15;
 
 const MEAN: usize = 14;
 
@@ -43,18 +45,22 @@ fn end_line(line: &mut [u8], k: usize) {
     }
 }
 
-fn fate_cell(line: &mut [u8], at: usize, fate: u8) {
-    match fate {
-        1 => cells::word_left(line, at, FATE, b"  taken"),
-        2 => cells::word_left(line, at, FATE, b"  first news"),
-        3 => cells::word_left(line, at, FATE, b"  passed over"),
-        _ => cells::word_left(line, at, FATE, b"  no check"),
+// What became of a check, in words.
+fn outcome_cell(line: &mut [u8], at: usize, kind: u8) -> bool
+    ensures { λ _. ⌜ now (line .exit) ≡ outcomeIn kind at (now (line .entry)) ⌝ }
+{
+    match kind {
+        rows::NO_CHECK => cells::word_left(line, at, OUTCOME, b"  no check"),
+        rows::TAKEN => cells::word_left(line, at, OUTCOME, b"  taken"),
+        rows::FIRST_NEWS => cells::word_left(line, at, OUTCOME, b"  first news"),
+        rows::ADDS_NOTHING => cells::word_left(line, at, OUTCOME, b"  adds nothing"),
+        rows::ONLY_ROUNDING => cells::word_left(line, at, OUTCOME, b"  only rounding"),
+        rows::DOUBTFUL..=255 => cells::word_left(line, at, OUTCOME, b"  doubtful"),
     }
-    ;
 }
 
-fn reading_cell(line: &mut [u8], at: usize, fate: u8, reading: f64) {
-    if fate == rows::NO_CHECK {
+fn reading_cell(line: &mut [u8], at: usize, kind: u8, reading: f64) {
+    if kind == rows::NO_CHECK {
         cells::word_right(line, at, CHECK, b"-");
     } else {
         cells::number(line, at, CHECK, reading, 0);
@@ -62,17 +68,17 @@ fn reading_cell(line: &mut [u8], at: usize, fate: u8, reading: f64) {
 }
 
 // A check's columns, from `at`. Answers where they end.
-fn check_cells(line: &mut [u8], at: usize, fate: u8, reading: f64, table: bool) -> usize
+fn check_cells(line: &mut [u8], at: usize, kind: u8, reading: f64, table: bool) -> usize
     requires { ⌜ at ≤ 200 ⌝ }
-    ensures { λ r. ⌜ r ≤ at + 27 ⌝ }
+    ensures { λ r. ⌜ r ≤ at + 29 ⌝ }
 {
     if table {
-        fate_cell(line, at, fate);
-        return at + FATE;
+        outcome_cell(line, at, kind);
+        return at + OUTCOME;
     }
-    reading_cell(line, at, fate, reading);
-    fate_cell(line, at + CHECK, fate);
-    at + CHECK + FATE
+    reading_cell(line, at, kind, reading);
+    outcome_cell(line, at + CHECK, kind);
+    at + CHECK + OUTCOME
 }
 
 // A mean whose standard deviation is infinite says nothing.
@@ -116,7 +122,7 @@ fn estimate_cells(
 
 // Offset and rate of period t, from number c of its row on.
 fn state_cells(line: &mut [u8], at: usize, rows: &[f64], t: usize, c: usize, table: bool) -> usize
-    requires { ⌜ (at ≤ 130) × (t < 4096) × (c ≤ 4) ⌝ }
+    requires { ⌜ (at ≤ 134) × (t < 4096) × (c ≤ 4) ⌝ }
     ensures { λ r. ⌜ r ≤ at + 56 ⌝ }
 {
     let to = estimate_cells(
@@ -142,15 +148,15 @@ fn second_cells(
     line: &mut [u8],
     at: usize,
     inputs: u64,
-    fate: u8,
+    kind: u8,
     reading: f64,
     table: bool,
 ) -> usize
     requires { ⌜ at ≤ 200 ⌝ }
-    ensures { λ r. ⌜ r ≤ at + 27 ⌝ }
+    ensures { λ r. ⌜ r ≤ at + 29 ⌝ }
 {
     if inputs == 2 {
-        return check_cells(line, at, fate, reading, table);
+        return check_cells(line, at, kind, reading, table);
     }
     at
 }
@@ -163,7 +169,7 @@ fn smoothed_cells(
     t: usize,
     table: bool,
 ) -> usize
-    requires { ⌜ (at ≤ 130) × (t < 4096) ⌝ }
+    requires { ⌜ (at ≤ 134) × (t < 4096) ⌝ }
     ensures { λ r. ⌜ r ≤ at + 56 ⌝ }
 {
     if smooth {
@@ -173,7 +179,7 @@ fn smoothed_cells(
 }
 
 // Period t of the sheet, of a run that had done so many before it: its number and its time are the run's.
-fn row(s: Shown, done: usize, t: usize, y: &[f64], fates: &[u8], rows: &[f64])
+fn row(s: Shown, done: usize, t: usize, y: &[f64], kinds: &[u8], rows: &[f64])
     requires { ⌜ (t < 4096) × (done ≤ 65535) ⌝ }
 {
     let place = done + t;
@@ -184,7 +190,7 @@ fn row(s: Shown, done: usize, t: usize, y: &[f64], fates: &[u8], rows: &[f64])
     let first = check_cells(
         line,
         PERIOD + TIME,
-        rows::byte(fates, 2 * t),
+        rows::byte(kinds, 2 * t),
         rows::at(y, 2 * t),
         s.table,
     );
@@ -192,7 +198,7 @@ fn row(s: Shown, done: usize, t: usize, y: &[f64], fates: &[u8], rows: &[f64])
         line,
         first,
         s.inputs,
-        rows::byte(fates, 2 * t + 1),
+        rows::byte(kinds, 2 * t + 1),
         rows::at(y, 2 * t + 1),
         s.table,
     );
@@ -225,33 +231,33 @@ fn group_smoothed(table: bool) {
 
 fn group_check(table: bool) {
     if table {
-        say(b"             ");
+        say(b"               ");
     } else {
-        say(b"                           ");
+        say(b"                             ");
     }
 }
 
 fn check_1(table: bool) {
     if table {
-        say(b"  check 1    ");
+        say(b"  check 1      ");
     } else {
-        say(b"       check 1  outcome    ");
+        say(b"       check 1  outcome      ");
     }
 }
 
 fn check_2(table: bool) {
     if table {
-        say(b"  check 2    ");
+        say(b"  check 2      ");
     } else {
-        say(b"       check 2  outcome    ");
+        say(b"       check 2  outcome      ");
     }
 }
 
 fn check_unit(table: bool) {
     if table {
-        say(b"             ");
+        say(b"               ");
     } else {
-        say(b"            us             ");
+        say(b"            us               ");
     }
 }
 
@@ -311,14 +317,14 @@ fn units(s: Shown) {
 }
 
 // `done`: the periods of the run before the sheet's first.
-pub fn print(s: Shown, done: usize, n: usize, y: &[f64], fates: &[u8], rows: &[f64])
+pub fn print(s: Shown, done: usize, n: usize, y: &[f64], kinds: &[u8], rows: &[f64])
     requires { ⌜ (n ≤ 4096) × (done ≤ 65535) ⌝ }
 {
     groups(s);
     names(s);
     units(s);
     for t in 0..n {
-        row(s, done, t, y, fates, rows);
+        row(s, done, t, y, kinds, rows);
     }
 }
 

@@ -17,6 +17,32 @@ pub const MAX_SIZE: usize = 8;
 /// Largest n, and largest count of listed designs and of listed transitions.
 pub const MAX_PERIODS: usize = 4096;
 
+/// The kinds of a record in its flat form. One that is skipped is told by its
+/// cause (document 02, request a): a gap, F* too small against its scale, F*
+/// below the dust line, or F* suspect and failed on replay.
+pub const GAP: u8 = 0;
+pub const USUAL: u8 = 1;
+pub const DIFFUSE: u8 = 2;
+pub const TOO_SMALL: u8 = 3;
+pub const BELOW_DUST: u8 = 4;
+pub const FAILED_REPLAY: u8 = 5;
+/// Count of the kinds, and what they are called, in order.
+pub const KINDS: usize = 6;
+pub const KIND_NAMES: [&str; KINDS] = [
+    "gap",
+    "usual",
+    "diffuse",
+    "too small",
+    "below the dust line",
+    "failed on replay",
+];
+
+/// Whether a record of this kind is news: neither a gap nor skipped for
+/// another cause.
+pub fn is_news(kind: u8) -> bool {
+    kind == USUAL || kind == DIFFUSE
+}
+
 /// What a caller hands in. Matrices are row by row.
 #[derive(Debug, Clone, Copy)]
 pub struct Inputs<'a> {
@@ -54,7 +80,7 @@ pub struct Outputs<'a> {
     pub pred_inf: &'a mut [f64],
     pub filt_mean: &'a mut [f64],
     pub filt_cov: &'a mut [f64],
-    /// 0 skipped, 1 usual, 2 diffuse.
+    /// What became of each element, by number: see [`KIND_NAMES`].
     pub kinds: &'a mut [u8],
     pub v: &'a mut [f64],
     pub f_star: &'a mut [f64],
@@ -88,7 +114,7 @@ pub struct Answer {
     pub d_diffuse: usize,
     /// Readings that are not NaN.
     pub heard: usize,
-    /// Records that are not skipped.
+    /// Records that are usual or diffuse.
     pub news: usize,
     /// The first period with a covariance that is not finite, plus 1, or 0
     /// for none (document 02, request h).
@@ -146,7 +172,7 @@ impl Outputs<'_> {
     }
 
     /// Refusal 12: the needed stretch of every part becomes +0.0, every
-    /// record skipped.
+    /// record a gap.
     pub fn blank(&mut self, p: usize, m: usize, n: usize) {
         let need = needed(p, m, n);
         self.pred_mean[..need[0]].fill(0.0);
@@ -154,7 +180,7 @@ impl Outputs<'_> {
         self.pred_inf[..need[2]].fill(0.0);
         self.filt_mean[..need[3]].fill(0.0);
         self.filt_cov[..need[4]].fill(0.0);
-        self.kinds[..need[5]].fill(0);
+        self.kinds[..need[5]].fill(GAP);
         self.v[..need[6]].fill(0.0);
         self.f_star[..need[7]].fill(0.0);
         self.f_inf[..need[8]].fill(0.0);

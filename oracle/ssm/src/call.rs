@@ -1,17 +1,19 @@
 //! The whole call of document 01: refusals in order, the run, the outputs
 //! row by row into their lent parts, the answer. And a stretch's, document
 //! 02's request e. The answer's two reports are request h's, refusal 14 is
-//! request d's, lists of T are request g's.
+//! request d's, lists of T are request g's, a skipped record's cause is
+//! request a's.
 
 use parts::{
     decode, encode, first_refusal, list_short, stretch_refusal, transitions_short, Answer, Carried,
     Inputs, Outcome, Outputs, Smoothed, Stretch,
 };
+use parts::{BELOW_DUST, DIFFUSE, FAILED_REPLAY, GAP, TOO_SMALL, USUAL};
 use tsecon_linalg::faer::Mat;
 
 use crate::between::Between;
 use crate::error::SsmError;
-use crate::filter::{filter_stretch, filter_univariate, FilterOutput};
+use crate::filter::{filter_stretch, filter_univariate, Cause, FilterOutput};
 use crate::model::{Initialization, LinearGaussianSSM, SystemMatrix};
 use crate::smoother::{smooth_univariate, SmootherOutput};
 
@@ -96,10 +98,13 @@ fn put_filter(i: &Inputs<'_>, fo: &FilterOutput, o: &mut Outputs<'_>) {
     }
     for k in 0..n * p {
         let step = &fo.steps[k];
-        o.kinds[k] = match (step.observed, step.diffuse) {
-            (false, _) => 0,
-            (true, false) => 1,
-            (true, true) => 2,
+        o.kinds[k] = match step.cause {
+            Some(Cause::Gap) => GAP,
+            Some(Cause::Scale) => TOO_SMALL,
+            Some(Cause::Below) => BELOW_DUST,
+            Some(Cause::Replay) => FAILED_REPLAY,
+            None if step.diffuse => DIFFUSE,
+            None => USUAL,
         };
         o.v[k] = step.v;
         o.f_star[k] = step.f_star;

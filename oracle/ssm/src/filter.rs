@@ -326,6 +326,20 @@ fn ln_2pi() -> f64 {
     ln(2.0 * std::f64::consts::PI)
 }
 
+/// Why an element is skipped: the first test that refuses it.
+#[derive(Debug, Clone, Copy)]
+pub(crate) enum Cause {
+    /// Missing (NaN).
+    Gap,
+    /// `F_*` does not clear [`TOLERANCE_RANK`] of its scale.
+    Scale,
+    /// `F_*` is [`Dust::Below`].
+    Below,
+    /// `F_*` is [`Dust::Suspect`], and the companion's does not clear
+    /// [`TOLERANCE_CANCEL`] of the reference.
+    Replay,
+}
+
 /// Per-element filtering record kept for the backward smoothing pass
 /// (the univariate smoother re-derives its gains from these).
 #[derive(Debug, Clone)]
@@ -334,6 +348,8 @@ pub(crate) struct ObsStep {
     /// missing (NaN) and numerically singular elements are both skipped
     /// by filter and smoother alike.
     pub(crate) observed: bool,
+    /// Why it is skipped; none where `observed`.
+    pub(crate) cause: Option<Cause>,
     /// True when the filter took the *exact-diffuse* branch for this
     /// element. Recorded rather than re-derived, so the smoother replays
     /// the branch the filter actually took instead of re-running a
@@ -354,9 +370,10 @@ pub(crate) struct ObsStep {
 
 impl ObsStep {
     /// Record for a skipped element (missing or numerically singular).
-    fn skipped() -> Self {
+    fn skipped(cause: Cause) -> Self {
         ObsStep {
             observed: false,
+            cause: Some(cause),
             diffuse: false,
             v: 0.0,
             f_star: 0.0,
@@ -722,7 +739,7 @@ pub fn filter_stretch(
             let yti = y[(t, i)];
             if yti.is_nan() {
                 probe::hit(Branch::Gap);
-                out.steps.push(ObsStep::skipped());
+                out.steps.push(ObsStep::skipped(Cause::Gap));
                 continue;
             }
             n_observed += 1;
@@ -817,6 +834,7 @@ pub fn filter_stretch(
             probe::hit_if(Branch::DiffuseRefused, || {
                 f_inf > TOLERANCE_RANK * f_inf_scale && !(f_root > TOLERANCE_CANCEL * f_inf_unres)
             });
+            let mut cause = Cause::Scale;
             if f_inf > TOLERANCE_RANK * f_inf_scale && f_root > TOLERANCE_CANCEL * f_inf_unres {
                 // Exact-diffuse element update (Koopman & Durbin 2003).
                 probe::hit(Branch::Diffuse);
@@ -846,6 +864,7 @@ pub fn filter_stretch(
                 updated = true;
                 out.steps.push(ObsStep {
                     observed: true,
+                    cause: None,
                     diffuse: true,
                     v,
                     f_star,
@@ -856,7 +875,10 @@ pub fn filter_stretch(
             } else if f_star > TOLERANCE_RANK * f_star_scale
                 && match against_predicted(f_star) {
                     Dust::Clear => true,
-                    Dust::Below => false,
+                    Dust::Below => {
+                        cause = Cause::Below;
+                        false
+                    }
                     // A diffuse period's updates are not Potter downdates
                     // of P_*; the companion runs on standard periods only.
                     Dust::Suspect(_) if diffuse => {
@@ -864,6 +886,7 @@ pub fn filter_stretch(
                         true
                     }
                     Dust::Suspect(reference) => {
+                        cause = Cause::Replay;
                         probe::hit_if(Branch::RootAgain, || star_root.is_some());
                         let root = star_root.get_or_insert_with(|| {
                             // The standard updates this period has taken.
@@ -897,6 +920,7 @@ pub fn filter_stretch(
                 updated = true;
                 out.steps.push(ObsStep {
                     observed: true,
+                    cause: None,
                     diffuse: false,
                     v,
                     f_star,
@@ -909,8 +933,14 @@ pub fn filter_stretch(
                 // a zero (or roundoff) variance, or one an earlier element
                 // of y_t has already pinned (a series with zero
                 // idiosyncratic variance that is redundant given another).
-                probe::hit_if(Branch::Scale, || !(f_star > TOLERANCE_RANK * f_star_scale));
-                out.steps.push(ObsStep::skipped());
+                let by_scale = || !(f_star > TOLERANCE_RANK * f_star_scale);
+                probe::hit_if(Branch::Scale, by_scale);
+                probe::hit_if(Branch::ScaleOff, || by_scale() && !f_star_scale.is_finite());
+                probe::hit_if(Branch::ScaleAndDust, || {
+                    let reference = abs_quad_form(&zi, p_star_pre) + h[(i, i)];
+                    by_scale() && updated && f_star <= TOLERANCE_CANCEL * reference
+                });
+                out.steps.push(ObsStep::skipped(cause));
             }
         }
 

@@ -14,7 +14,7 @@ pub enum Branch {
     DiffuseRefused,
     /// An element is accepted as usual.
     Usual,
-    /// F* is not above its scale's share: skipped.
+    /// F* is not above its scale's share: skipped for that.
     Scale,
     /// Dust test before any update of the period: clear.
     ClearFirst,
@@ -46,10 +46,14 @@ pub enum Branch {
     AtTolerance,
     /// The bound is NaN where the test without its zeros is not.
     BoundNan,
+    /// Skipped for its scale, which is not finite.
+    ScaleOff,
+    /// Skipped for its scale, and below the dust line too.
+    ScaleAndDust,
 }
 
 /// Count of branches.
-pub const BRANCHES: usize = 20;
+pub const BRANCHES: usize = 22;
 
 #[cfg(feature = "probe")]
 mod counting {

@@ -1,6 +1,6 @@
 //! Runs compared bit for bit, all NaNs as one.
 
-use goxundar::{Record, Run};
+use goxundar::{Cause, Record, Run};
 
 fn bits(x: f64) -> u64 {
     if x.is_nan() {
@@ -16,7 +16,10 @@ pub fn all_bits(part: &[f64]) -> Vec<u64> {
 
 fn record(of: Record<'_>) -> (u8, Vec<u64>) {
     match of {
-        Record::Skipped => (0, Vec::new()),
+        Record::Skipped(Cause::Gap) => (0, Vec::new()),
+        Record::Skipped(Cause::TooSmall) => (3, Vec::new()),
+        Record::Skipped(Cause::BelowDust) => (4, Vec::new()),
+        Record::Skipped(Cause::FailedReplay) => (5, Vec::new()),
         Record::Usual { v, f_star, m_star } => (1, [&[bits(v), bits(f_star)], &all_bits(m_star)[..]].concat()),
         Record::Diffuse { v, f_star, f_inf, m_star, m_inf } => {
             (2, [&[bits(v), bits(f_star), bits(f_inf)], &all_bits(m_star)[..], &all_bits(m_inf)[..]].concat())

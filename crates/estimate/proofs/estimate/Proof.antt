@@ -1,6 +1,5 @@
 -- Made from Proof.tpl by tools/expand: edit that.
 -- `estimate::estimate` meets its contract. Assumes nothing.
-use mathlib.Core.Path.{sym}
 use borrow.Author.Needs.{needs}
 use Rattle.estimate.proofs.estimate.Statement.{statement}
 use Rattle.estimate.proofs.estimate.Tie as tie
@@ -119,9 +118,6 @@ slice-aggregate-smooth-univariate-21 c = search needs
 slice-aggregate-smooth-univariate-22 : tie.Need-slice-aggregate-smooth-univariate-22
 slice-aggregate-smooth-univariate-22 c = search needs
 
-slice-aggregate-smooth-univariate-23 : tie.Need-slice-aggregate-smooth-univariate-23
-slice-aggregate-smooth-univariate-23 c = search needs
-
 smooth-univariate-requires : tie.Need-smooth-univariate-requires
 smooth-univariate-requires c κs = search needs
 
@@ -140,23 +136,14 @@ slice-aggregate-fill-4 c = search needs
 slice-aggregate-fill-5 : tie.Need-slice-aggregate-fill-5
 slice-aggregate-fill-5 c = search needs
 
-slice-aggregate-fill-6 : tie.Need-slice-aggregate-fill-6
-slice-aggregate-fill-6 c = search needs
-
 fill-requires : tie.Need-fill-requires
-fill-requires c κs = c .before .before .before .before .before .before .before .before .before .before .before .before .before .before .before .before .before .before .before .before .before .before .before .before .before .before .before .before .before .before .before .before .before .before .before .before .before .before .before .before .before .before .before .before .before .before .before .before .before .before .before .before .before .before .before .before .before .before .before .before .before .before .before .pre
-
-slice-aggregate-fill-fates : tie.Need-slice-aggregate-fill-fates
-slice-aggregate-fill-fates c = sym (c .before .before .before .before .before .before .before .before .before .before .before .before .before .before .before .before .before .before .before .before .before .before .before .before .before .smooth-univariate .kept .1 .1 .1 .1 .1 .1 .1 .1 .1 .1 .1 .1 .1 .1 .1 .1 .1 .1 .1 .1 .1 .1 .1 .0)
-
-fill-fates-requires : tie.Need-fill-fates-requires
-fill-fates-requires c κs = c .before .before .before .before .before .before .before .before .before .before .before .before .before .before .before .before .before .before .before .before .before .before .before .before .before .before .before .before .before .before .before .before .before .before .before .before .before .before .before .before .before .before .before .before .before .before .before .before .before .before .before .before .before .before .before .before .before .before .before .before .before .before .before .before .before .before .before .before .pre
+fill-requires c κs = c .before .before .before .before .before .before .before .before .before .before .before .before .before .before .before .before .before .before .before .before .before .before .before .before .before .before .before .before .before .before .before .before .before .before .before .before .before .before .before .before .before .before .before .before .before .before .before .before .before .before .before .before .before .before .before .before .before .before .before .before .before .before .before .before .pre
 
 same-length : tie.Need-same-length
 same-length c = search needs
 
 same-length-2 : tie.Need-same-length-2
-same-length-2 c = search needs
+same-length-2 c = c .before .before .before .before .before .before .before .before .before .before .before .before .before .before .before .before .before .before .before .before .before .before .before .before .smooth-univariate .kept .1 .1 .1 .1 .1 .1 .1 .1 .1 .1 .1 .1 .1 .1 .1 .1 .1 .1 .1 .1 .1 .1 .1 .0
 
 returns : tie.Need-returns
 returns c = search needs
@@ -203,17 +190,13 @@ estimate-spec =
     slice-aggregate-smooth-univariate-20
     slice-aggregate-smooth-univariate-21
     slice-aggregate-smooth-univariate-22
-    slice-aggregate-smooth-univariate-23
     smooth-univariate-requires
     slice-aggregate-fill
     slice-aggregate-fill-2
     slice-aggregate-fill-3
     slice-aggregate-fill-4
     slice-aggregate-fill-5
-    slice-aggregate-fill-6
     fill-requires
-    slice-aggregate-fill-fates
-    fill-fates-requires
     same-length
     same-length-2
     returns)

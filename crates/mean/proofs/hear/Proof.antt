@@ -6,13 +6,13 @@ use Rattle.mean.proofs.hear.Statement.{statement}
 use Rattle.mean.proofs.hear.Tie as tie
 
 returns : tie.Need-returns
-returns c = heard-none _ _ _ _ _ _ _ _ _ (c .match .keys1)
+returns c = heard-none _ _ _ _ _ _ _ _ _ (c .before .before .before .kind-from .ensures) (c .before .c .given .1)
 
 returns-2 : tie.Need-returns-2
-returns-2 c = heard-usual _ _ _ _ _ _ _ _ _ (c .before .before .before .before .match .keys2) (c .before .follow-at .ensures) (c .usual-term .ensures)
+returns-2 c = heard-usual _ _ _ _ _ _ _ _ _ (c .before .before .before .before .before .before .kind-from .ensures) (c .before .before .before .before .f .given .1) (c .before .follow-at .ensures) (c .usual-term .ensures)
 
 returns-3 : tie.Need-returns-3
-returns-3 c = let k = c .before .before .before .before .before .match .rest in heard-diffuse _ _ _ _ _ _ _ _ _ (k .0 .1) (k .1) (c .before .before .follow-at2 .ensures) (c .diffuse-term .ensures)
+returns-3 c = heard-diffuse _ _ _ _ _ _ _ _ _ (c .before .before .before .before .before .before .kind-from .ensures) (c .before .before .before .before .f2 .given .1) (c .before .follow-at2 .ensures) (c .diffuse-term .ensures)
 
 pub hear-spec : {M : Type 1} → statement M
-hear-spec = tie.close (tie.spec (λ c. search needs) (λ c. search needs) (λ c. search needs) (λ c κs. search needs) (λ c κs. search needs) (λ c. search needs) (λ c. search needs) (λ c κs. search needs) (λ c. search needs) (λ c. search needs) (λ c κs. search needs) returns returns-2 returns-3)
+hear-spec = tie.close (tie.spec (λ c. search needs) (λ c. search needs) (λ c. search needs) (λ c. search needs) (λ c. search needs) (λ c κs. search needs) (λ c. search needs) (λ c. search needs) (λ c κs. search needs) (λ c κs. search needs) (λ c. search needs) (λ c κs. search needs) (λ c κs. search needs) returns returns-2 returns-3)

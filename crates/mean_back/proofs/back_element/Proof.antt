@@ -1,8 +1,7 @@
 -- Made from Proof.tpl by tools/expand: edit that.
--- One element back, by its record.
+-- One element back, by its kind.
 use borrow.Author.Needs.{needs}
 use Rattle.laws.specs.Flat.{flatIn}
-use Rattle.promise.specs.Records.{recordAt}
 use Rattle.mean_back.proofs.Laws as laws
 use Rattle.mean_back.proofs.back_element.Statement.{statement}
 use Rattle.mean_back.proofs.back_element.Tie as tie
@@ -14,16 +13,13 @@ diffuse-at-requires : tie.Need-diffuse-at-requires
 diffuse-at-requires c κs = (c .before .before .before .before .before .before .before .before .before .before .before .before .before .before .before .before .before .pre .usual, c .before .before .before .before .before .before .before .before .before .before .before .before .before .before .before .before .before .pre .diffuse)
 
 returns : tie.Need-returns
-unfolding recordAt
-returns c = let a = c .before .before .before .before .before .before .before .before .before .before .before .before .before .before .args in laws.back-none _ _ (flatIn (a .kinds .now) (a .f-star .now) (a .f-inf .now) (a .m-star .now) (a .m-inf .now)) (a .v .now) (a .k) (c .before .before .from-flat .ensures) _ (c .enum-told .given .1)
+returns c = let a = c .before .before .before .before .before .before .before .before .before .before .before .before .before .before .args in laws.back-none _ _ (flatIn (a .kinds .now) (a .f-star .now) (a .f-inf .now) (a .m-star .now) (a .m-inf .now)) (a .v .now) (a .k) (c .before .before .kind-from .ensures) _ (c .enum-told .given .1)
 
 returns-2 : tie.Need-returns-2
-unfolding recordAt
-returns-2 c = let a = c .before .before .before .before .before .before .before .before .before .before .before .before .before .before .before .before .before .args in laws.back-usual _ _ (flatIn (a .kinds .now) (a .f-star .now) (a .f-inf .now) (a .m-star .now) (a .m-inf .now)) (a .v .now) (a .k) (c .before .before .before .before .before .from-flat .ensures) _ _ _ (c .before .before .before .kind .given .1) (c .usual-at .ensures)
+returns-2 c = let a = c .before .before .before .before .before .before .before .before .before .before .before .before .before .before .before .before .before .args in laws.back-usual _ _ (flatIn (a .kinds .now) (a .f-star .now) (a .f-inf .now) (a .m-star .now) (a .m-inf .now)) (a .v .now) (a .k) (c .before .before .before .before .before .kind-from .ensures) _ _ _ (c .before .before .before .v .given .1) (c .usual-at .ensures)
 
 returns-3 : tie.Need-returns-3
-unfolding recordAt
-returns-3 c = let a = c .before .before .before .before .before .before .before .before .before .before .before .before .before .before .before .before .before .before .args in laws.back-diffuse _ _ (flatIn (a .kinds .now) (a .f-star .now) (a .f-inf .now) (a .m-star .now) (a .m-inf .now)) (a .v .now) (a .k) (c .before .before .before .before .before .before .from-flat .ensures) _ _ (c .before .before .before .before .kind2 .given .1) (c .diffuse-at .ensures)
+returns-3 c = let a = c .before .before .before .before .before .before .before .before .before .before .before .before .before .before .before .before .before .before .args in laws.back-diffuse _ _ (flatIn (a .kinds .now) (a .f-star .now) (a .f-inf .now) (a .m-star .now) (a .m-inf .now)) (a .v .now) (a .k) (c .before .before .before .before .before .before .kind-from .ensures) _ _ (c .before .before .before .before .v2 .given .1) (c .diffuse-at .ensures)
 
 pub back-element-spec : {M : Type 1} → statement M
 back-element-spec =

@@ -5,10 +5,10 @@ use Rattle.picture.proofs.gaps.Statement.{statement}
 use Rattle.picture.proofs.gaps.Tie as tie
 
 abbrev Inv-loop : tie.InvT-loop
-Inv-loop fd f n period fates t₀ t9 t = (t ≤ n) × (n ≤ 4096)
+Inv-loop fd f n period kinds t₀ t9 t = (t ≤ n) × (n ≤ 4096)
 
 abbrev μ-loop : tie.MeasureT-loop
-μ-loop fd f n period fates t₀ t9 t = n - t
+μ-loop fd f n period kinds t₀ t9 t = n - t
 
 slice-aggregate-say : tie.Need-slice-aggregate-say Inv-loop μ-loop
 slice-aggregate-say c = search needs

@@ -5,10 +5,10 @@ use Rattle.picture.proofs.marks.Statement.{statement}
 use Rattle.picture.proofs.marks.Tie as tie
 
 abbrev Inv-loop : tie.InvT-loop
-Inv-loop fd f n period y fates input t₀ t = (t ≤ n) × (n ≤ 4096)
+Inv-loop fd f n period y kinds input t₀ t = (t ≤ n) × (n ≤ 4096)
 
 abbrev μ-loop : tie.MeasureT-loop
-μ-loop fd f n period y fates input t₀ t = n - t
+μ-loop fd f n period y kinds input t₀ t = n - t
 
 loop-holds : tie.Need-loop-holds Inv-loop μ-loop
 loop-holds c = search needs

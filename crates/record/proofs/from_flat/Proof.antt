@@ -1,16 +1,16 @@
--- Each kind by its number.
-use Rattle.record.proofs.ByKind.{from-skipped, from-usual, from-diffuse}
+-- The record of the kind that the numbers tell.
+use mathlib.Core.Path.{ap}
+use borrow.Author.Needs.{needs}
+use Rattle.promise.specs.declared.Kind.{Kind}
+use Rattle.promise.specs.declared.Record.{Record}
 use Rattle.record.proofs.from_flat.Statement.{statement}
 use Rattle.record.proofs.from_flat.Tie as tie
 
+abbrev of : Kind → Record
+of k = record { kind = k }
+
 returns : tie.Need-returns
-returns c = from-skipped _ (c .match .keys1)
-
-returns-2 : tie.Need-returns-2
-returns-2 c = from-usual _ (c .match .keys2)
-
-returns-3 : tie.Need-returns-3
-returns-3 c = from-diffuse _ (c .match .rest .0 .1) (c .match .rest .1)
+returns c = ap of (c .kind-from .ensures)
 
 pub from-flat-spec : {M : Type 1} → statement M
-from-flat-spec = tie.close (tie.spec returns returns-2 returns-3)
+from-flat-spec = tie.close (tie.spec (λ c κs. search needs) returns)

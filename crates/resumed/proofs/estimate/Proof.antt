@@ -1,6 +1,5 @@
 -- Made from Proof.tpl by tools/expand: edit that.
 -- `resumed::estimate` meets its contract. Assumes nothing.
-use mathlib.Core.Path.{sym}
 use native.Mathlib.Omega.{arith}
 use borrow.Author.Needs.{needs}
 use Rattle.resumed.proofs.estimate.Statement.{statement}
@@ -114,9 +113,6 @@ slice-aggregate-stretch-19 c = search needs
 slice-aggregate-stretch-20 : tie.Need-slice-aggregate-stretch-20
 slice-aggregate-stretch-20 c = search needs
 
-slice-aggregate-stretch-21 : tie.Need-slice-aggregate-stretch-21
-slice-aggregate-stretch-21 c = search needs
-
 stretch-requires : tie.Need-stretch-requires
 stretch-requires c κs = search needs
 
@@ -135,23 +131,14 @@ slice-aggregate-fill-4 c = search needs
 slice-aggregate-fill-5 : tie.Need-slice-aggregate-fill-5
 slice-aggregate-fill-5 c = search needs
 
-slice-aggregate-fill-6 : tie.Need-slice-aggregate-fill-6
-slice-aggregate-fill-6 c = search needs
-
 fill-requires : tie.Need-fill-requires
-fill-requires c κs = c .before .before .before .before .before .before .before .before .before .before .before .before .before .before .before .before .before .before .before .before .before .before .before .before .before .before .before .before .before .before .before .before .before .before .before .before .before .before .before .before .before .before .before .before .before .before .before .before .before .before .before .before .before .before .before .before .before .before .before .before .before .before .before .before .pre
-
-slice-aggregate-fill-fates : tie.Need-slice-aggregate-fill-fates
-slice-aggregate-fill-fates c = sym (c .before .before .before .before .before .before .before .before .before .before .before .before .before .before .before .before .before .before .before .before .before .before .before .before .before .stretch .kept .1 .1 .1 .1 .1 .1 .1 .1 .1 .1 .1 .1 .1 .1 .1 .1 .1 .1 .1 .1 .1 .1 .1 .1 .1 .1 .0)
-
-fill-fates-requires : tie.Need-fill-fates-requires
-fill-fates-requires c κs = c .before .before .before .before .before .before .before .before .before .before .before .before .before .before .before .before .before .before .before .before .before .before .before .before .before .before .before .before .before .before .before .before .before .before .before .before .before .before .before .before .before .before .before .before .before .before .before .before .before .before .before .before .before .before .before .before .before .before .before .before .before .before .before .before .before .before .before .before .before .pre
+fill-requires c κs = c .before .before .before .before .before .before .before .before .before .before .before .before .before .before .before .before .before .before .before .before .before .before .before .before .before .before .before .before .before .before .before .before .before .before .before .before .before .before .before .before .before .before .before .before .before .before .before .before .before .before .before .before .before .before .before .before .before .before .before .before .before .before .before .before .before .pre
 
 same-length : tie.Need-same-length
 same-length c = search needs
 
 same-length-2 : tie.Need-same-length-2
-same-length-2 c = search needs
+same-length-2 c = c .before .before .before .before .before .before .before .before .before .before .before .before .before .before .before .before .before .before .before .before .before .before .before .before .stretch .kept .1 .1 .1 .1 .1 .1 .1 .1 .1 .1 .1 .1 .1 .1 .1 .1 .1 .1 .1 .1 .1 .1 .1 .1 .1 .1 .0
 
 same-length-3 : tie.Need-same-length-3
 same-length-3 c = search needs
@@ -199,17 +186,13 @@ estimate-spec =
     slice-aggregate-stretch-18
     slice-aggregate-stretch-19
     slice-aggregate-stretch-20
-    slice-aggregate-stretch-21
     stretch-requires
     slice-aggregate-fill
     slice-aggregate-fill-2
     slice-aggregate-fill-3
     slice-aggregate-fill-4
     slice-aggregate-fill-5
-    slice-aggregate-fill-6
     fill-requires
-    slice-aggregate-fill-fates
-    fill-fates-requires
     same-length
     same-length-2
     same-length-3

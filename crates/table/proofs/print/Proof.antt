@@ -5,10 +5,10 @@ use Rattle.table.proofs.print.Statement.{statement}
 use Rattle.table.proofs.print.Tie as tie
 
 abbrev Inv-loop : tie.InvT-loop
-Inv-loop s done n y fates rows t₀ t = (t ≤ n) × (n ≤ 4096) × (done ≤ 65535)
+Inv-loop s done n y kinds rows t₀ t = (t ≤ n) × (n ≤ 4096) × (done ≤ 65535)
 
 abbrev μ-loop : tie.MeasureT-loop
-μ-loop s done n y fates rows t₀ t = n - t
+μ-loop s done n y kinds rows t₀ t = n - t
 
 groups-requires : tie.Need-groups-requires Inv-loop μ-loop
 groups-requires c κs = search needs

@@ -4,19 +4,19 @@ use Prim.Native.Nat.{ℕ, _≤_, _<_, _-_, _+_}
 use native.Mathlib.Omega.{arith}
 use lib.ListN.{length, take}
 use Rattle.definition.specs.Run.{count}
-use Rattle.cov.specs.Counts.{isKept}
+use Rattle.laws.specs.Kinds.{newsKind}
 use Rattle.cov.proofs.Counting as counting
 use Rattle.cov.proofs.counts.news.Statement.{statement}
 use Rattle.cov.proofs.counts.news.Tie as tie
 
 abbrev Inv-loop : tie.InvT-loop
-Inv-loop kinds n k₀ i₀ k i = (i ≤ n) × (k ≤ i) × (k ≡ count isKept (take i kinds))
+Inv-loop kinds n k₀ i₀ k i = (i ≤ n) × (k ≤ i) × (k ≡ count newsKind (take i kinds))
 
 abbrev μ-loop : tie.MeasureT-loop
 μ-loop kinds n k₀ i₀ k i = n - i
 
 loop-holds : tie.Need-loop-holds Inv-loop μ-loop
-loop-holds c = (omega arith, omega arith, counting.none isKept (c .before .args .kinds .now))
+loop-holds c = (omega arith, omega arith, counting.none newsKind (c .before .args .kinds .now))
 
 loop-again : tie.Need-loop-again Inv-loop μ-loop
 loop-again c =
@@ -24,15 +24,15 @@ loop-again c =
     let a = c .before .before .before .before .before .args in
     let h : w .i < length (a .kinds .now) = omega arith in
     let l : w .i + 1 ≤ length (a .kinds .now) = omega arith in
-    let e = counting.next isKept (a .kinds .now) (w .i) (w .k) _ 0 h (w .inv .2) (c .and-kept .ensures) in
-    (omega arith, omega (arith, counting.few isKept (a .kinds .now) (w .i + 1) _ e l), e)
+    let e = counting.next newsKind (a .kinds .now) (w .i) (w .k) _ 0 h (w .inv .2) (c .and-news .ensures) in
+    (omega arith, omega (arith, counting.few newsKind (a .kinds .now) (w .i + 1) _ e l), e)
 
 returns : tie.Need-returns Inv-loop μ-loop
 returns c =
     let w = c .before .loop in
     let a = c .before .before .before .args in
     let e : w .i ≡ a .n = omega arith in
-    w .inv .2 ∙ ap (λ (i : ℕ). count isKept (take i (a .kinds .now))) e
+    w .inv .2 ∙ ap (λ (i : ℕ). count newsKind (take i (a .kinds .now))) e
 
 pub news-spec : {M : Type 1} → statement M
 news-spec =

@@ -5,10 +5,10 @@ use Rattle.picture.proofs.plot.around.Statement.{statement}
 use Rattle.picture.proofs.plot.around.Tie as tie
 
 abbrev Inv-loop : tie.InvT-loop
-Inv-loop n period y fates rows f₀ t₀ f t = (t ≤ n) × (n ≤ 4096)
+Inv-loop n period y kinds rows f₀ t₀ f t = (t ≤ n) × (n ≤ 4096)
 
 abbrev μ-loop : tie.MeasureT-loop
-μ-loop n period y fates rows f₀ t₀ f t = n - t
+μ-loop n period y kinds rows f₀ t₀ f t = n - t
 
 loop-holds : tie.Need-loop-holds Inv-loop μ-loop
 loop-holds c = search needs

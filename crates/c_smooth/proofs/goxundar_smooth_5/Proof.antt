@@ -1,7 +1,7 @@
 -- Made from Proof.tpl by tools/expand: edit that.
--- `c_smooth::goxundar_smooth_4` meets its contract. Assumes nothing.
-use Rattle.c_smooth.proofs.goxundar_smooth_4.Statement.{statement}
-use Rattle.c_smooth.proofs.goxundar_smooth_4.Tie as tie
+-- `c_smooth::goxundar_smooth_5` meets its contract. Assumes nothing.
+use Rattle.c_smooth.proofs.goxundar_smooth_5.Statement.{statement}
+use Rattle.c_smooth.proofs.goxundar_smooth_5.Tie as tie
 
 same-length : tie.Need-same-length
 same-length c = c .before .before .before .before .before .before .before .before .before .before .before .before .before .before .before .before .before .before .before .before .before .before .before .before .before .before .before .before .before .before .before .before .before .smooth-univariate .kept .1 .1 .1 .1 .1 .1 .1 .1 .1 .1 .1 .1 .1 .1 .1 .1 .1 .1 .0
@@ -47,5 +47,5 @@ returns c =
     let o = c .before .before .before .before .before .before .before .before .before .before .before .before .before .before .before .before .before .before .before .before .before .before .before .before .before .before .before .before .before .before .before .before .before .smooth-univariate in
     record { outcome = o .result; promise = o .ensures; told = c .tell .ensures }
 
-pub goxundar-smooth-4-spec : {M : Type 1} → statement M
-goxundar-smooth-4-spec = tie.close (tie.spec (λ c κs. tt) (λ c κs. tt) same-length same-length-2 same-length-3 same-length-4 same-length-5 same-length-6 same-length-7 same-length-8 same-length-9 same-length-10 same-length-11 same-length-12 same-length-13 returns)
+pub goxundar-smooth-5-spec : {M : Type 1} → statement M
+goxundar-smooth-5-spec = tie.close (tie.spec (λ c κs. tt) (λ c κs. tt) same-length same-length-2 same-length-3 same-length-4 same-length-5 same-length-6 same-length-7 same-length-8 same-length-9 same-length-10 same-length-11 same-length-12 same-length-13 returns)
