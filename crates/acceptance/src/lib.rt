@@ -7,7 +7,7 @@ ghost use Prim.Native.Nat.{_≤_};
 ghost use Rattle.definition.specs.Cov.{fStarBy, fInfBy, diffuseTest, scaledTest, bound, against, dust};
 ghost use Rattle.dense.specs.Views.{vec, mat};
 ghost use Rattle.star.specs.Views.{Sound, projectedAt};
-ghost use Rattle.acceptance.specs.Views.{dustOf, ByDust, Usually, Judged, DustBy, UsualBy};
+ghost use Rattle.acceptance.specs.Views.{dustOf, ByDust, Usually, Judged, ByReplay, DustBy, UsualBy};
 use promise::Cause;
 
 // ---- the tolerances, by their names in the Rust
@@ -242,6 +242,17 @@ pub fn judge(
     usually(z, h, false, fresh, pre, sd, star, f, m)
 }
 
+// What the star root's F finds of a suspect. On its own, so that the root is handed back in one place: it is copied
+// where it is.
+fn by_replay(again: f64, reference: f64) -> Found
+    ensures { λ r. ⌜ ByReplay again reference r ⌝ }
+{
+    if again > TOLERANCE_CANCEL * reference {
+        return Found::Usual;
+    }
+    Found::Nothing(Cause::FailedReplay)
+}
+
 // What the dust test finds, the star root at hand: a suspect is accepted if the root says so.
 fn by_root(d: Dust, root: star::StarRoot, z: &[f64; 8], h: f64, m: usize) -> Asked
     requires { ⌜ Sound m root ⌝ }
@@ -259,15 +270,9 @@ fn by_root(d: Dust, root: star::StarRoot, z: &[f64; 8], h: f64, m: usize) -> Ask
         Dust::Suspect(reference) => {
             let projected = root.project(z, h, m);
             let root = projected.root;
-            if projected.f > TOLERANCE_CANCEL * reference {
-                return Asked {
-                    root,
-                    found: Found::Usual,
-                };
-            }
             Asked {
                 root,
-                found: Found::Nothing(Cause::FailedReplay),
+                found: by_replay(projected.f, reference),
             }
         }
     }

@@ -5,16 +5,13 @@ use mathlib.Core.Path.{refl}
 use Rattle.acceptance.proofs.Laws as laws
 
 returns : tie.Need-returns
-returns c = (c .before .before .before .project .ensures .0, laws.root-yes _ _ _ (c .before .before .before .before .before .d .given .1) (c .before .before .before .project .ensures .1) (c .if1 .taken))
+returns c = (refl, laws.root-clear _ _ (c .enum-told .given .1))
 
 returns-2 : tie.Need-returns-2
-returns-2 c = (refl, laws.root-clear _ _ (c .enum-told .given .1))
+returns-2 c = (refl, laws.root-below _ _ (c .enum-told2 .given .1))
 
 returns-3 : tie.Need-returns-3
-returns-3 c = (refl, laws.root-below _ _ (c .enum-told2 .given .1))
-
-returns-4 : tie.Need-returns-4
-returns-4 c = (c .before .before .before .project .ensures .0, laws.root-no _ _ _ (c .before .before .before .before .before .d .given .1) (c .before .before .before .project .ensures .1) (c .if1 .left))
+returns-3 c = (c .before .before .project .ensures .0, laws.root-suspect _ _ _ (c .before .before .before .before .d .given .1) (c .before .before .project .ensures .1) (c .by-replay .ensures))
 
 pub by-root-spec : {M : Type 1} → statement M
-by-root-spec = tie.close (tie.spec (λ c. search needs) (λ c. search needs) (λ c. search needs) (λ c κs. search needs) returns returns-2 returns-3 returns-4)
+by-root-spec = tie.close (tie.spec (λ c. search needs) (λ c. search needs) (λ c. search needs) (λ c κs. search needs) (λ c κs. search needs) returns returns-2 returns-3)
