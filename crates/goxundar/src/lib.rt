@@ -5,6 +5,7 @@
 // answered. And the first two with a list of records lent too, as crates/records and crates/records_smooth have them.
 pub use filter::filter_univariate as filter;
 pub use promise::Answer;
+pub use promise::Cause;
 pub use promise::Kind;
 pub use promise::Outcome;
 pub use promise::Record;

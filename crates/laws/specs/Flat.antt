@@ -8,7 +8,7 @@ use lib.ListN.{length, getD}
 use lib.Dec.{ltb}
 use lib.Ieee.{Float}
 use Rattle.definition.specs.Num.{tabulate, at}
-use Rattle.definition.specs.Cov.{Cause, atGap, tooSmall, belowDust, failedReplay, Decision, skipped, usual, diffuse, CovPeriod}
+use Rattle.definition.specs.Cov.{atGap, tooSmall, belowDust, failedReplay, Decision, skipped, usual, diffuse, CovPeriod}
 use Rattle.definition.specs.Mean.{MeanPeriod}
 use Rattle.laws.specs.Lists.{tab-at, length-tab}
 
@@ -52,24 +52,6 @@ decisionOf (suc (suc (suc (suc (suc k))))) f g a b = skipped failedReplay
 -- where none stands
 abbrev pub noDecision : Decision
 noDecision = skipped atGap
-
--- by the kind as a test finds it
-pub kind-skipped : (k : ℕ) (f g : Float) (a b : List Float) → (k ≡ 1 → ⊥) → (k ≡ 2 → ⊥) → (c : Cause) × (decisionOf k f g a b ≡ skipped c)
-unfolding decisionOf
-kind-skipped zero f g a b h l = (atGap, refl)
-kind-skipped (suc zero) f g a b h l = absurd (h refl)
-kind-skipped (suc (suc zero)) f g a b h l = absurd (l refl)
-kind-skipped (suc (suc (suc zero))) f g a b h l = (tooSmall, refl)
-kind-skipped (suc (suc (suc (suc zero)))) f g a b h l = (belowDust, refl)
-kind-skipped (suc (suc (suc (suc (suc k))))) f g a b h l = (failedReplay, refl)
-
-pub kind-usual : (k : ℕ) (f g : Float) (a b : List Float) → k ≡ 1 → decisionOf k f g a b ≡ usual f a
-unfolding decisionOf
-kind-usual k f g a b e = rw e refl
-
-pub kind-diffuse : (k : ℕ) (f g : Float) (a b : List Float) → k ≡ 2 → decisionOf k f g a b ≡ diffuse f g a b
-unfolding decisionOf
-kind-diffuse k f g a b e = rw e refl
 
 -- the record at place k of the flat lists; the p of period t; and those of n periods
 unfoldable pub readBack : ℕ → Flat → ℕ → Decision
