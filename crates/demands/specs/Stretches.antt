@@ -1,6 +1,6 @@
 -- Small stretches, and what the oracle (the Rust, gone on with from saved bytes) answers, writes and saves: the definition gives the same, bit for bit,
--- tails included. Made by `oracle stretches 1 | tools/stretches`; don't edit. 167 stretches: cut runs, each cause of a skip, each refusal, bytes altered in
--- each way, lists as far as they reach. By computation.
+-- tails included. Made by `oracle stretches 1 | tools/stretches`; don't edit. 167 stretches: cut runs, each cause of a skip, each refusal, bytes
+-- altered in each way, lists as far as they reach. By computation.
 use mathlib.Core.List.{List, [], _∷_}
 use lib.Dec.{T}
 use Rattle.definition.specs.Computed.{hold}
