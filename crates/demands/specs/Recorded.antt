@@ -1,6 +1,6 @@
 -- The kinds in the records that a call left, the filter's, the smoother's or a stretch's. Of an answered call the six kinds add up to n p, and a record
 -- says gap exactly where the reading is NaN. On refusal 12 every record says gap, and the six kinds add up too.
-use mathlib.Core.Path.{_≡_, sym, ap, _∙_, subst}
+use mathlib.Core.Path.{_≡_, sym, ap, _∙_}
 use Prim.Native.Nat.{ℕ, _+_, _*_, _<_}
 use mathlib.Core.Bool.{Bool, true}
 use mathlib.Core.List.{List, map}

@@ -13,7 +13,7 @@ use Rattle.definition.specs.Mean.{Shift, meanPeriod, meanPeriodOf}
 use Rattle.definition.specs.Smooth.{backCov, backCovOf, backMean, backMeanOf}
 use Rattle.definition.specs.Inputs.{Model, noise, designFrom, transitionFrom, systemFrom, systemOf, frameFrom, frameOf}
 use Rattle.laws.specs.Lists.{Each}
-use Rattle.laws.specs.Entries.{entry, led-into, part-constant}
+use Rattle.laws.specs.Entries.{entry, led-into, part-once}
 
 abbrev pub stepOf : Model → ℕ → List Float
 stepOf x t = transitionFrom (x .m) (x .tOnce) (x .tList) t
@@ -39,4 +39,4 @@ module _ (x : Model) (t : ℕ) where
   listed ls each e m0 h = rw e (entry (x .m * x .m) (mul-pos m0 m0) (x .tOnce) ls each (omega arith) t h)
 
   pub constant : x .tList ≡ [] → stepOf x t ≡ x .tOnce
-  constant e = rw e (part-constant (x .m * x .m) (x .tOnce) t)
+  constant e = part-once (x .m * x .m) (x .tOnce) (x .tList) t (ap length e)

@@ -12,13 +12,13 @@ use lib.Dec.{T, ltb, eqb}
 use lib.ListN.{length, replicate, getD, set, take, length-map}
 use lib.Ieee.{Float, nan}
 use Rattle.definition.specs.Num.{isFinite, at}
-use Rattle.definition.specs.Run.{join, count, anyOf, lay}
-use Rattle.definition.specs.Cov.{Cov, CovPeriod, atGap}
+use Rattle.definition.specs.Run.{anyOf, lay}
+use Rattle.definition.specs.Cov.{Cov, atGap}
 use Rattle.definition.specs.Mean.{Mean, MeanPeriod}
 use Rattle.definition.specs.Inputs.{Model, Offsets, Class, gap, classOf, isInfinity}
 use Rattle.definition.specs.Parts.{causeNo}
-use Rattle.definition.specs.Reports.{covReport, meanReport, toldBefore}
-use Rattle.definition.specs.Outcome.{CovParts, MeanParts, CovOutcome, MeanOutcome, Counts, Ending, answered, endingOf, numberOf, after, countsIn, reportIn, countsOf, decisionsOf, noInformation, kindsNeed, kindsWritten, meanEnded}
+use Rattle.definition.specs.Reports.{meanReport, toldBefore}
+use Rattle.definition.specs.Outcome.{CovParts, MeanParts, CovOutcome, MeanOutcome, Ending, answered, endingOf, after, countsIn, countsOf, noInformation, kindsNeed, kindsWritten, meanEnded}
 use Rattle.definition.specs.Carried.{Past, Carried, covFrom, meanFrom, plus, pastOn, meanOn, meanOffOn, went}
 use Rattle.definition.specs.Saved.{bits, sectionAt, numberAt, sections, savedOf, savedNeed, widths, numbersIn, diffuseIn, heardIn, newsIn, stateIn, covOffIn, meanOffIn}
 use Rattle.definition.specs.Stretch.{From, StretchOutcome, pastIn, meanToldIn, carriedIn, badFrom, stretchRefusal, roomyStretch, stretchEnding, covStretch, meanStretch, saveStretch, stretchOutcome}

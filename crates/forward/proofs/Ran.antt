@@ -1,6 +1,6 @@
 -- The two passes one after the other: what they may ask for, and that they leave the definition's run.
 use mathlib.Core.Path.{_≡_, refl, ap, _∙_, subst}
-use Prim.Native.Nat.{ℕ, _+_, _*_, _/_, _≤_}
+use Prim.Native.Nat.{ℕ, _+_, _*_, _≤_}
 use mathlib.Core.Bool.{Bool, true, false, not, cond}
 use mathlib.Core.List.{List, map}
 use native.Mathlib.Nat.{mul-le-mul}

@@ -86,9 +86,7 @@ module _ {A : Type 0} where
   of-append q (x ∷ l) r = ap (λ (b : Bool). q x || b) (of-append q l r) ∙ sym (or-assoc (q x) (anyOf q l) (anyOf q r))
 
   pub of-split : (q : A → Bool) (l r : List A) → anyOf q (l ++ r) ≡ false → (anyOf q l ≡ false) × (anyOf q r ≡ false)
-  unfolding anyOf
-  of-split q [] r e = (refl, e)
-  of-split q (x ∷ l) r e = let s = either-false (q x) (anyOf q (l ++ r)) e in let t = of-split q l r (s .1) in (rw (s .0) (t .0), t .1)
+  of-split q l r e = either-false (anyOf q l) (anyOf q r) (sym (of-append q l r) ∙ e)
 
   pub of-cong : (q q′ : A → Bool) (l : List A) → ((x : A) → q x ≡ q′ x) → anyOf q l ≡ anyOf q′ l
   unfolding anyOf

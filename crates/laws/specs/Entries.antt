@@ -8,7 +8,7 @@ use mathlib.Core.List.{List, [], _∷_, _++_}
 use lib.ListN.{length, getD, take, drop, replicate, length-replicate, getD-replicate}
 use lib.Seq.{take-at, drop-at, drop-drop}
 use lib.Ieee.{Float}
-use borrow.Author.Tests.{ne-eqb}
+use borrow.Author.Tests.{eq-eqb, ne-eqb}
 use Rattle.definition.specs.Run.{join, anyOf}
 use Rattle.definition.specs.Smooth.{backTransition}
 use Rattle.definition.specs.Inputs.{Model, partFrom, transitionFrom, systemFrom, systemOf, frameFrom, frameOf}
@@ -69,11 +69,11 @@ part-of-copies k n once l some e t =
     part-is k some once (replicate (suc n) l) (each-copy (suc n) k l e) (omega arith) t
     ∙ getD-replicate (suc n) i l [] (omega (arith, min-le-right t (length (replicate (suc n) l) - 1)))
 
--- ---- the constant one is every period's; and the step back into period t takes the T that led out of it
+-- ---- without a list the constant one is every period's; and the step back into period t takes the T that led out of it
 
-pub part-constant : (k : ℕ) (once : List Float) (t : ℕ) → partFrom k once [] t ≡ once
+pub part-once : (k : ℕ) (once list : List Float) (t : ℕ) → length list ≡ 0 → partFrom k once list t ≡ once
 unfolding partFrom
-part-constant k once t = refl
+part-once k once list t e = rw (eq-eqb (length list) 0 e) refl
 
 pub led-into : (x : Model) (t : ℕ) → backTransition (frameOf x) (suc t) ≡ systemOf x .transitionAt t
 unfolding frameOf frameFrom systemOf systemFrom

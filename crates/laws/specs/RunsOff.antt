@@ -14,7 +14,7 @@ use lib.Ieee.{Float, nan, inf, fin, Format, binary64, add, sub, mul, neg, eq, un
 use Rattle.definition.specs.Num.{_⊕_, _⊖_, _⊗_, half, isZero, isFinite, zeros, at, ent, sumTo, sumBut}
 use Rattle.definition.specs.Dense.{axpyAt, axpy, over, lessOf, outerSubAt, outerSub, matVecTerm, matVecAt, matVec, zeroAt, productTerm, productAt, product, mul as matMul, transposed, sandwich, plusAt, plus, symAt, symmetrise}
 use Rattle.definition.specs.Run.{scan, anyOf, count, pairs}
-use Rattle.definition.specs.Cov.{System, Cov, Inner, Decision, skipped, usual, diffuse, CovPeriod, k1Of, apply, elementOf, isLive, entered, stepStar, stepped, ended, periodOf, period, covRun}
+use Rattle.definition.specs.Cov.{System, Cov, Inner, Decision, skipped, usual, diffuse, CovPeriod, k1Of, apply, elementOf, entered, stepStar, stepped, ended, periodOf, period, covRun}
 use Rattle.definition.specs.Mean.{Frame, Shift, Mean, MeanPeriod, heed, hear, meanStep, meanEnded, meanPeriodOf, meanPeriod, meanRun}
 use Rattle.definition.specs.Refusals.{notFinite}
 use Rattle.definition.specs.Reports.{firstFrom, covIsOff, meanIsOff, covReport, meanReport}

@@ -4,11 +4,11 @@ use mathlib.Core.Path.{_≡_, refl, sym, ap, _∙_, subst}
 use Prim.Native.Nat.{ℕ, _+_, _*_, _<_}
 use mathlib.Core.Bool.{Bool, true, false}
 use mathlib.Core.List.{List, [], _++_, map}
-use lib.ListN.{length, getD, set, length-map, List·getD-map}
+use lib.ListN.{length, getD, set, length-map}
 use lib.Seq.{map-set-same, set-getD}
 use lib.Ieee.{Float, nan}
 use Rattle.definition.specs.Dense.{row}
-use Rattle.definition.specs.Run.{scanBack, pairs, join, count}
+use Rattle.definition.specs.Run.{pairs, join, count}
 use Rattle.definition.specs.Cov.{System, Cov, Fixed, Inner, Cause, atGap, Decision, skipped, CovPeriod, verdict, apply, elementOf, isLive, entered, ended, periodOf, period, covRun}
 use Rattle.definition.specs.Mean.{Frame, Shift, Mean, MeanPeriod, hear, meanEnded, meanPeriodOf, meanPeriod, meanRun}
 use Rattle.definition.specs.Smooth.{Ns, Rs, backN, backR, backElement, backMeanElement, elementsN, elementsR, backV, backA, stepNs, stepRs, backCovOf, backMeanOf, backCov, backMean, backTransition, noNs, noRs, smoothCov, smoothMean}

@@ -8,7 +8,8 @@ use lib.Ieee.{Float}
 use Rattle.definition.specs.Inputs.{transitionFrom}
 use Rattle.dense.specs.Views.{vec, mat}
 use Rattle.dense.proofs.Laws.{area, loaded-rect}
-use Rattle.model.specs.Lists.{PartFits, Stands, constant, at-most-one, part-once}
+use Rattle.laws.specs.Entries.{part-once}
+use Rattle.model.specs.Lists.{PartFits, Stands, constant, at-most-one}
 
 -- the constant T fits into the array
 pub loads : {m once list : ℕ} → PartFits m m once list → once ≤ 64

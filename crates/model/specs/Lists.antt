@@ -10,7 +10,7 @@ use lib.ListN.{length, take, drop, length-drop}
 use lib.Seq.{length-take-le}
 use lib.Dec.{eqb}
 use lib.Ieee.{Float}
-use borrow.Author.Tests.{eqb-true, eqb-false, eq-eqb}
+use borrow.Author.Tests.{eqb-true, eqb-false}
 use Rattle.definition.specs.Inputs.{partFrom}
 use Rattle.laws.specs.Accepted.{Chosen, Constant, Listed}
 use Rattle.dense.specs.Views.{mat}
@@ -58,11 +58,6 @@ length-part {k} once list t f = by-test (eqb (length list) 0) refl
     by-test false e =
         let h = entry-of t (whole-list f (eqb-false (length list) 0 e)) in
         length-take-le k (drop (min t (length list / k - 1) * k) list) (simp length-drop (omega arith))
-
--- without a list the period's one is the constant one
-pub part-once : (k : ℕ) (once list : List Float) (t : ℕ) → length list ≡ 0 → partFrom k once list t ≡ once
-unfolding partFrom
-part-once k once list t e = rw (eq-eqb (length list) 0 e) refl
 
 -- what stands in an array for T before each period: the constant one, where that is given
 abbrev pub Stands : ℕ → List Float → List Float → List Float → Type 0

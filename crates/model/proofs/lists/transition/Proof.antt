@@ -5,7 +5,8 @@ use Prim.Native.Nat.{_*_}
 use native.Mathlib.Omega.{arith}
 use lib.ListN.{length}
 use Rattle.dense.proofs.Laws.{area, loaded-rect}
-use Rattle.model.specs.Lists.{length-part, part-once}
+use Rattle.laws.specs.Entries.{part-once}
+use Rattle.model.specs.Lists.{length-part}
 use Rattle.model.proofs.lists.transition.Statement.{statement}
 use Rattle.model.proofs.lists.transition.Tie as tie
 
