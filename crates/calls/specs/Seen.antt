@@ -120,6 +120,10 @@ pub record Named (x : Model) (r : Outcome) (b : CovParts) (b′ : MeanParts) : T
   pub cov : Names 0 (covOffOf r) (covSeen x b)
   pub mean : Names 0 (meanOffOf r) (meanSeen x b′)
 
+-- on 12 every record is a gap's, and the six kinds add up to n p: of every call, by its `blanked`
+pub blank-records : {x : Model} {w b : CovParts} {w′ b′ : MeanParts} → BlankParts x w b w′ b′ → AllGaps x (b .kinds)
+blank-records {x} {w} {b} z = all-gaps x (w .kinds) (b .kinds) (z .kinds)
+
 -- ---- what is judged has its place among the kinds
 
 judged-at : (l : List ℕ) (k : ℕ) → 2 < getD l k 0 → k < length l
@@ -204,10 +208,6 @@ module _ {u : CovOutcome × MeanOutcome} {r : Outcome} {b : CovParts} {b′ : Me
 
   pub blanks : {x : Model} {w : CovParts} {w′ : MeanParts} → Blank x w w′ u → BlankParts x w b w′ b′
   blanks z = record { kinds = p .kinds ∙ z .kinds; covs = λ q. p .cov q ∙ z .covs q; means = λ q. p .mean q ∙ z .means q }
-
-  -- on 12 every record is a gap, and the six kinds add up to n p
-  pub blank-records : {x : Model} {w : CovParts} {w′ : MeanParts} → BlankParts x w b w′ b′ → AllGaps x (b .kinds)
-  blank-records {x} {w} z = all-gaps x (w .kinds) (b .kinds) (z .kinds)
 
   pub no-news : {y : List Float} {k : ℕ} → NoNews y r b k → values.NoNews y (u .0) k
   no-news {y} {k} h =

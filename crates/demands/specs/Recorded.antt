@@ -9,12 +9,12 @@ use lib.ListN.{length, getD, take, drop, replicate, length-map, length-replicate
 use lib.Seq.{take-at}
 use lib.Ieee.{Float, nan, isNan}
 use Rattle.definition.specs.Num.{at}
-use Rattle.definition.specs.Run.{count, join, lay}
-use Rattle.definition.specs.Inputs.{Model, Offsets, gap, classOf, isGap}
+use Rattle.definition.specs.Run.{count, join, anyOf, lay}
+use Rattle.definition.specs.Inputs.{Model, Offsets, gap, classOf, isGap, isInfinity}
 use Rattle.definition.specs.Parts.{kindNo, isNews}
 use Rattle.definition.specs.Outcome.{CovParts, MeanParts, Ending, answered, after, kindsNeed, kindsWritten, decisionsOf}
 use Rattle.definition.specs.Carried.{Past, covFrom}
-use Rattle.definition.specs.Stretch.{From, pastIn, badFrom, roomyStretch, stretchEnding, covStretch, stretchOutcome}
+use Rattle.definition.specs.Stretch.{From, pastIn, badFrom, stretchRefusal, roomyStretch, stretchEnding, covStretch, stretchOutcome}
 use Rattle.definition.specs.Tracks.{gap-is-nan}
 use Rattle.laws.specs.Flat.{noDecision}
 use Rattle.laws.specs.ReadBack.{getD-map-in, kinds-join}
@@ -90,13 +90,16 @@ module _ (x : Model) (o : Offsets) (w : From) (last : Bool) (y : List Float) (b 
   abbrev ended : Ending
   ended = stretchEnding x o (pastIn x w) (badFrom x w) last (map classOf y) (roomyStretch x last b b′ save)
 
-  answers : stretchOutcome x o w last y b b′ save .cov .refused ≡ 0 → ended ≡ answered
+  pub answers : stretchOutcome x o w last y b b′ save .cov .refused ≡ 0 → ended ≡ answered
   unfolding stretchOutcome covStretch stretchEnding
   answers e = zero-answers _ _ e
 
-  readings-fit : ended ≡ answered → length (map classOf y) ≡ x .n * x .p
+  pub passed : ended ≡ answered → stretchRefusal x o (length (map classOf y)) (anyOf isInfinity (map classOf y)) (roomyStretch x last b b′ save) (badFrom x w) (pastIn x w .done) ≡ 0
   unfolding stretchEnding
-  readings-fit e = lengths-pass x o _ _ (passes x o _ _ _ _ _ (answered-by _ _ e .0) .lengths) .1
+  passed e = answered-by _ _ e .0
+
+  pub readings-fit : ended ≡ answered → length (map classOf y) ≡ x .n * x .p
+  readings-fit e = lengths-pass x o _ _ (passes x o _ _ _ _ _ (passed e) .lengths) .1
 
   pub recorded-stretch : stretchOutcome x o w last y b b′ save .cov .refused ≡ 0 → Recorded x y (stretchOutcome x o w last y b b′ save .cov .parts .kinds)
   unfolding stretchOutcome covStretch after

@@ -22,12 +22,12 @@ use Rattle.definition.specs.Outcome.{CovParts, MeanParts, CovOutcome, MeanOutco
 use Rattle.definition.specs.Carried.{Past, Carried, covFrom, meanFrom, plus, pastOn, meanOn, meanOffOn, went}
 use Rattle.definition.specs.Saved.{bits, sectionAt, numberAt, sections, savedOf, savedNeed, widths, numbersIn, diffuseIn, heardIn, newsIn, stateIn, covOffIn, meanOffIn}
 use Rattle.definition.specs.Stretch.{From, StretchOutcome, pastIn, meanToldIn, carriedIn, badFrom, stretchRefusal, roomyStretch, stretchEnding, covStretch, meanStretch, saveStretch, stretchOutcome}
-use Rattle.laws.specs.Accepted.{lengths-pass}
 use Rattle.laws.specs.SavedBack.{Savable, read}
-use Rattle.laws.specs.AcceptedStretch.{passes, Ready}
+use Rattle.laws.specs.AcceptedStretch.{Ready}
 use Rattle.laws.specs.AcceptedStretch as stretch
-use Rattle.demands.specs.Unheard.{deaf, kinds-long, run-with-gap, gap-deaf, gap-classes, same-classes, one-less, same-many, same-infinity, informed, within, answered-by, zero-answers, place}
+use Rattle.demands.specs.Unheard.{deaf, kinds-long, run-with-gap, gap-deaf, gap-classes, same-classes, one-less, same-many, same-infinity, informed, within, place}
 use Rattle.demands.specs.Values.{OneLess, one-less-in}
+use Rattle.demands.specs.Recorded as recorded
 
 -- the same past, but for one reading less heard
 pub record PastLess (p p′ : Past) : Type 0 where
@@ -110,15 +110,10 @@ module _ (x : Model) (o : Offsets) (w : From) (last : Bool) (y : List Float) (b 
 
   module _ (k : ℕ) (h : NoNews y last (stretchOutcome x o w last y b b′ save .cov) k) where
     ok : endingAt (map classOf y) ≡ answered
-    unfolding stretchOutcome covStretch stretchEnding
-    ok = zero-answers _ _ (h .answers)
-
-    passed : stretchRefusal x o (length (map classOf y)) (anyOf isInfinity (map classOf y)) room (badFrom x w) (pastIn x w .done) ≡ 0
-    unfolding stretchEnding
-    passed = answered-by _ _ ok .0
+    ok = recorded.answers x o w last y b b′ save (h .answers)
 
     fit : length (map classOf y) ≡ x .n * x .p
-    fit = lengths-pass x o _ _ (passes x o _ _ _ _ _ passed .lengths) .1
+    fit = recorded.readings-fit x o w last y b b′ save ok
 
     inside : k < x .n * x .p
     inside = let l : length y ≡ x .n * x .p = sym (length-map y classOf) ∙ fit in omega (arith, within y k (h .read))
@@ -146,7 +141,7 @@ module _ (x : Model) (o : Offsets) (w : From) (last : Bool) (y : List Float) (b 
     still-answered : endingAt muted ≡ answered
     unfolding stretchEnding endingOf noInformation
     still-answered =
-        let e = same-refusal x o (carriedIn x o w) y (b .kinds) t i inT inI (fit (t * x .p + i) h) (h .read) (real-skip (t * x .p + i) h) room (badFrom x w) (pastIn x w .done) ∙ passed (t * x .p + i) h in
+        let e = same-refusal x o (carriedIn x o w) y (b .kinds) t i inT inI (fit (t * x .p + i) h) (h .read) (real-skip (t * x .p + i) h) room (badFrom x w) (pastIn x w .done) ∙ recorded.passed x o w last y b b′ save (ok (t * x .p + i) h) in
         let n : (0 < pastOn x (pastIn x w) muted .counts .news) ⊎ (last ≡ false) = rw (less-heard .news) (real-news (t * x .p + i) h) in
         ap₂ endingOf e (informs last (ltb 0 (pastOn x (pastIn x w) muted .counts .heard)) (pastOn x (pastIn x w) muted .counts .news) n)
 

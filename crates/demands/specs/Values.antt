@@ -24,10 +24,11 @@ use Rattle.definition.specs.Refusals.{refusal}
 use Rattle.definition.specs.Reports.{meanReport}
 use Rattle.definition.specs.Carried.{begunPast, begunMean, covFrom, meanFrom}
 use Rattle.definition.specs.Tracks.{finite-class, by-classes, smooth-by-classes}
-use Rattle.laws.specs.Lists.{map-set, lay-set, place-lt}
+use Rattle.laws.specs.Lists.{lay-set, place-lt}
 use Rattle.laws.specs.Unseen.{OtherCause}
 use Rattle.laws.specs.Kept.{begun}
 use Rattle.demands.specs.Unheard.{deaf, same-classes, kinds-long, run-with-gap, gap-deaf, one-less, same-many, same-infinity, informed, within, readings-fit, answered-by, place}
+use Rattle.demands.specs.Unheard as unheard
 
 -- ---- the first half
 
@@ -169,8 +170,8 @@ module _ (x : Model) (o : Offsets) (y : List Float) (b : CovParts) (room : Bool)
   muted = set (map classOf y) (t * x .p + i) gap
 
   gap-classes : map classOf (set y (t * x .p + i) nan) ≡ muted
-  unfolding classOf
-  gap-classes = map-set classOf y (t * x .p + i) nan
+  unfolding covOf covFrom begunPast
+  gap-classes = unheard.gap-classes x o (begun x o) y (b .kinds) t i inT inI fit (h .read) real-skip
 
   muted-run : OtherCause (x .p) (x .m) t i atGap (covOf x (map classOf y)) (covOf x muted)
   unfolding covOf covFrom begunPast
