@@ -17,7 +17,7 @@ use Rattle.acceptance.specs.declared.Finding.{Finding}
 use Rattle.acceptance.specs.declared.Finding.the-variants as finding
 use Rattle.acceptance.specs.declared.Found.{Found}
 use Rattle.acceptance.specs.declared.Found.the-variants as found
-use Rattle.acceptance.specs.Views.{dustOf, decisionBy, decisionOn, judgedBy, ByDust, Usually, Judged, ByReplay, DustBy, UsualBy}
+use Rattle.acceptance.specs.Views.{dustOf, decisionBy, decisionOn, judgedBy, ByDust, Usually, Judged, DustBy, UsualBy}
 
 module _ (m : ℕ) (z p n : List Float) (f g : Float) {a b : Float} where
   pub diffuse-both : a ≡ absQuadForm m z p → b ≡ absQuadForm m z n → (f >ᶠ rank-tol ⊗ a) ≡ true → (g >ᶠ cancel-tol ⊗ b) ≡ diffuseTest m z p n f g
@@ -112,7 +112,7 @@ module _ (m : ℕ) (z : List Float) (h : Float) (pre sd : List Float) (fresh : B
   unfolding judgedBy
   judge-usual b e w = rw e (record { finds = λ again a. w .finds again unres pinf root a b; doubts = w .doubts })
 
--- ---- with the star root at hand
+-- ---- with F by the star root at hand
 module _ (again : Float) (d : Dust) where
   pub root-clear : d ≡ Clear → DustBy again d found.Usual
   unfolding decisionOn byDust dustOf
@@ -122,18 +122,13 @@ module _ (again : Float) (d : Dust) where
   unfolding decisionOn byDust dustOf
   root-below e = record { finds = λ f m*. rw e }
 
-  pub root-suspect : {x : Float} {r : Found} (y : Float) → d ≡ Suspect y → x ≡ again → ByReplay x y r → DustBy again d r
-  unfolding byDust dustOf
-  root-suspect y e w b = record { finds = λ f m*. rw (e, sym w) (b .finds f m*) }
+  pub root-yes : (y : Float) → d ≡ Suspect y → (again >ᶠ cancel-tol ⊗ y) ≡ true → DustBy again d found.Usual
+  unfolding decisionOn byDust dustOf
+  root-yes y e t = record { finds = λ f m*. rw (e, t) }
 
-module _ (again reference : Float) where
-  pub replay-yes : (again >ᶠ cancel-tol ⊗ reference) ≡ true → ByReplay again reference found.Usual
-  unfolding decisionOn
-  replay-yes t = record { finds = λ f m*. rw t }
-
-  pub replay-no : (again >ᶠ cancel-tol ⊗ reference) ≡ false → ByReplay again reference (found.Nothing FailedReplay)
-  unfolding decisionOn
-  replay-no t = record { finds = λ f m*. rw t }
+  pub root-no : (y : Float) → d ≡ Suspect y → (again >ᶠ cancel-tol ⊗ y) ≡ false → DustBy again d (found.Nothing FailedReplay)
+  unfolding decisionOn byDust dustOf
+  root-no y e t = record { finds = λ f m*. rw (e, t) }
 
 module _ (m : ℕ) (z : List Float) (h : Float) (pre sd : List Float) (again : Float) (star : List Float) (f : Float) {t : Bool} (e : t ≡ scaledTest m z h star f) where
   pub usual-scaled : {d : Dust} {r : Found} → t ≡ true → dustOf d ≡ dust m z h pre sd false f → DustBy again d r → UsualBy m z h pre sd again star f r

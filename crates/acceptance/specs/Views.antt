@@ -80,11 +80,6 @@ unfoldable pub decisionOn : Float → List Float → Found → Decision
 decisionOn f m* (found.Nothing c) = skipped (causeIn c)
 decisionOn f m* found.Usual = usual f m*
 
--- of a suspect, by its reference
-pub record ByReplay (again reference : Float) (r : Found) : Type 0 where
-  pub finds : (f : Float) (m* : List Float)
-      → decisionOn f m* r ≡ cond (again >ᶠ cancel-tol ⊗ reference) (usual f m*) (skipped cov.failedReplay)
-
 -- by the dust test
 pub record DustBy (again : Float) (d : Dust) (r : Found) : Type 0 where
   pub finds : (f : Float) (m* : List Float) → decisionOn f m* r ≡ byDust false again f m* (dustOf d)

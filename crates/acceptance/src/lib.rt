@@ -1,13 +1,12 @@
 // filter.rs, the verdict on one element of a period: the tests that it has to pass, and what they find. The first that
 // it fails is the cause why it is passed over. What a finding brings is the crate element's. The star root is seldom
-// asked. So `judge` goes without it and says where it has to be asked, and `is_usual` has it at hand.
+// asked. So `judge` goes without it and says where it has to be asked, and `is_usual` has its F at hand.
 ghost use mathlib.Core.Path.{_≡_};
 ghost use mathlib.Core.Bool.{true, false};
 ghost use Prim.Native.Nat.{_≤_};
 ghost use Rattle.definition.specs.Cov.{fStarBy, fInfBy, diffuseTest, scaledTest, bound, against, dust};
 ghost use Rattle.dense.specs.Views.{vec, mat};
-ghost use Rattle.star.specs.Views.{Sound, projectedAt};
-ghost use Rattle.acceptance.specs.Views.{dustOf, ByDust, Usually, Judged, ByReplay, DustBy, UsualBy};
+ghost use Rattle.acceptance.specs.Views.{dustOf, ByDust, Usually, Judged, DustBy, UsualBy};
 use promise::Cause;
 
 // ---- the tolerances, by their names in the Rust
@@ -40,16 +39,10 @@ pub enum Finding {
     Doubtful(f64),
 }
 
-// What is found in a period that is not diffuse, the star root at hand.
+// What is found in a period that is not diffuse, F by the star root at hand.
 pub enum Found {
     Nothing(Cause),
     Usual,
-}
-
-// The star root was asked: what is found, with the root handed back.
-pub struct Asked {
-    pub root: star::StarRoot,
-    pub found: Found,
 }
 
 // F* = z' M* + h, or 0 where that is not above 0.
@@ -242,64 +235,40 @@ pub fn judge(
     usually(z, h, false, fresh, pre, sd, star, f, m)
 }
 
-// What the star root's F finds of a suspect. On its own, so that the root is handed back in one place: it is copied
-// where it is.
-fn by_replay(again: f64, reference: f64) -> Found
-    ensures { λ r. ⌜ ByReplay again reference r ⌝ }
-{
-    if again > TOLERANCE_CANCEL * reference {
-        return Found::Usual;
-    }
-    Found::Nothing(Cause::FailedReplay)
-}
-
-// What the dust test finds, the star root at hand: a suspect is accepted if the root says so.
-fn by_root(d: Dust, root: star::StarRoot, z: &[f64; 8], h: f64, m: usize) -> Asked
-    requires { ⌜ Sound m root ⌝ }
-    ensures { λ r. ⌜ (r .root ≡ root) × DustBy (projectedAt root (vec m (now (z .entry))) h) d (r .found) ⌝ }
+// What the dust test finds, F by the star root at hand: a suspect is accepted if that is no dust.
+fn by_root(d: Dust, again: f64) -> Found
+    ensures { λ r. ⌜ DustBy again d r ⌝ }
 {
     match d {
-        Dust::Clear => Asked {
-            root,
-            found: Found::Usual,
-        },
-        Dust::Below => Asked {
-            root,
-            found: Found::Nothing(Cause::BelowDust),
-        },
+        Dust::Clear => Found::Usual,
+        Dust::Below => Found::Nothing(Cause::BelowDust),
         Dust::Suspect(reference) => {
-            let projected = root.project(z, h, m);
-            let root = projected.root;
-            Asked {
-                root,
-                found: by_replay(projected.f, reference),
+            if again > TOLERANCE_CANCEL * reference {
+                return Found::Usual;
             }
+            Found::Nothing(Cause::FailedReplay)
         }
     }
 }
 
-// Usual acceptance after an update, with the star root at hand.
+// Usual acceptance after an update, with `again`, F by the star root, at hand.
 pub fn is_usual(
-    root: star::StarRoot,
     z: &[f64; 8],
     h: f64,
+    again: f64,
     pre: &[f64; 64],
     sd: &[f64; 8],
     star: &[f64; 64],
     f: f64,
     m: usize,
-) -> Asked
-    requires { ⌜ Sound m root ⌝ }
-    ensures { λ r. ⌜ (r .root ≡ root)
-        × UsualBy m (vec m (now (z .entry))) h (mat m (now (pre .entry))) (vec m (now (sd .entry)))
-        (projectedAt root (vec m (now (z .entry))) h) (mat m (now (star .entry))) f (r .found) ⌝ }
+) -> Found
+    requires { ⌜ m ≤ 8 ⌝ }
+    ensures { λ r. ⌜ UsualBy m (vec m (now (z .entry))) h (mat m (now (pre .entry))) (vec m (now (sd .entry))) again
+        (mat m (now (star .entry))) f r ⌝ }
 {
     if is_scaled(z, h, star, f, m) {
         let d = dust_test(z, h, pre, sd, false, f, m);
-        return by_root(d, root, z, h, m);
+        return by_root(d, again);
     }
-    Asked {
-        root,
-        found: Found::Nothing(Cause::TooSmall),
-    }
+    Found::Nothing(Cause::TooSmall)
 }

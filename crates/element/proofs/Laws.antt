@@ -1,7 +1,7 @@
 -- What the calls of a function give, put together: equations over plain variables.
 use Prim.Native.Nat.{ℕ, _≤_, _<_, _+_}
 use mathlib.Core.Path.{_≡_, refl, sym, ap, _∙_, subst}
-use mathlib.Core.Bool.{Bool, true, false}
+use mathlib.Core.Bool.{Bool, true, false, cond}
 use mathlib.Core.List.{List, [], _∷_, _++_}
 use native.Mathlib.Omega.{arith}
 use native.Mathlib.Numerals.{add-one}
@@ -39,9 +39,6 @@ use Rattle.laws.specs.Flat.{Flat}
 use Rattle.promise.specs.declared.Cause as told
 use Rattle.dense.specs.Views.{vec, mat, rect}
 use Rattle.dense.proofs.Laws as dense
-use Rattle.star.specs.Views.{Sound, Replayed, Downdated, projectedAt}
-use Rattle.star.specs.declared.StarRoot.{StarRoot}
-use Rattle.star.proofs.Laws as roots
 use Rattle.acceptance.specs.declared.Finding.{Finding}
 use Rattle.acceptance.specs.declared.Finding.the-variants as finding
 use Rattle.acceptance.specs.declared.Found.{Found}
@@ -177,57 +174,49 @@ module _ (p m : ℕ) (hs : List Float) (fix : Fixed) (fresh : Bool) (i : ℕ) {g
     went (finding.Diffuse g) w v = rw (v .told) (rw (v .told) at (done (finding.Diffuse g) (diffuse f g (vec m a) (vec m c)) w (λ again. refl) v))
     went (finding.Doubtful x) w v = rw (v .0) (record { same = v .1; settled = w .doubts x refl .0; stale = w .doubts x refl .1 })
 
--- ---- with the star root at hand
+-- ---- with F by the star root at hand
 
 pub stale-next : (taken : List ℕ) (i : ℕ) → none-yet (taken ++ (i ∷ [])) ≡ false
 stale-next [] i = refl
 stale-next (x ∷ taken) i = refl
 
-module _ (p m : ℕ) (hs design pre : List Float) (i : ℕ) (gap : Bool) (star : List Float) (n : Flat) (root : StarRoot) (star′ : List Float) (n′ : Flat) where
-  by-root : (z : List Float) (d : Decision) (root′ : StarRoot) (r : Step)
-      → ((p∞ b unres : List Float) (taken : List ℕ) → none-yet taken ≡ false → Replayed p m (rect p m design) hs (mat m pre) taken root
+module _ (p m : ℕ) (hs design pre : List Float) (i : ℕ) (gap : Bool) (again : Float) (star : List Float) (n : Flat) (star′ : List Float) (n′ : Flat) where
+  by-root : (z : List Float) (d : Decision) (r : Step) (joins : Bool)
+      → ((p∞ b unres : List Float) (taken : List ℕ) → none-yet taken ≡ false → again ≡ againOf p m (rect p m design) hs (mat m pre) i taken
       → (d, apply m z i (innerOf m (carried star p∞ b n) taken) d) ≡ elementOf p m hs (fixedOf p m false design pre unres) i (innerOf m (carried star p∞ b n) taken) gap)
       → ((p∞ b : List Float) → Applied m i z d r (carried star p∞ b n) (carried star′ p∞ b n′))
-      → ((taken : List ℕ) → none-yet taken ≡ false → Replayed p m (rect p m design) hs (mat m pre) taken root → Replayed p m (rect p m design) hs (mat m pre) (takenBy d taken i) root′ × (none-yet (takenBy d taken i) ≡ false))
-      → ByRoot p m hs design pre i gap star n root star′ n′ root′
-  by-root z d root′ r is moves keeps = λ p∞ b unres taken s w.
+      → ((taken : List ℕ) → takenBy d taken i ≡ cond joins (taken ++ (i ∷ [])) taken)
+      → ByRoot p m hs design pre i gap again star n star′ n′ joins
+  by-root z d r joins is moves after = λ p∞ b unres taken s w.
       let e = is p∞ b unres taken s w in
       let g = did m i z d taken r (carried star p∞ b n) (carried star′ p∞ b n′) e (moves p∞ b) in
-      let t : elementOf p m hs (fixedOf p m false design pre unres) i (innerOf m (carried star p∞ b n) taken) gap .1 .taken ≡ takenBy d taken i =
-      ap (λ (x : Decision × Inner). x .1 .taken) (sym e) ∙ applied-taken m z i (innerOf m (carried star p∞ b n) taken) d in
-      record { inner = g .inner; recorded = g .recorded; replayed = rw t (keeps taken s w .0); stale = rw t (keeps taken s w .1) }
+      record {
+        inner = g .inner;
+        recorded = g .recorded;
+        joined = ap (λ (x : Decision × Inner). x .1 .taken) (sym e) ∙ applied-taken m z i (innerOf m (carried star p∞ b n) taken) d ∙ after taken;
+      }
 
-  pub by-root-gap : gap ≡ true → star′ ≡ star → Recorded m i (skipped atGap) n n′ → ByRoot p m hs design pre i gap star n root star′ n′ root
+  pub by-root-gap : gap ≡ true → star′ ≡ star → Recorded m i (skipped atGap) n n′ → ByRoot p m hs design pre i gap again star n star′ n′ false
   unfolding apply
-  by-root-gap e s v = by-root [] (skipped atGap) root step.Passed
+  by-root-gap e s v = by-root [] (skipped atGap) step.Passed false
       (λ p∞ b unres taken k w. gap-is p m hs (fixedOf p m false design pre unres) i (innerOf m (carried star p∞ b n) taken) e)
       (λ p∞ b. moved-none m i [] (carried star p∞ b n) (carried star′ p∞ b n′) atGap s refl refl v)
-      (λ taken k w. (w, k))
+      (λ taken. refl)
 
   module _ {z : List Float} {h f : Float} {a sd : List Float} {r : Found} (e : gap ≡ false) (ez : z ≡ row m (rect p m design) i) (eh : h ≡ ent p hs i i) (ek : sd ≡ sdOf m (mat m pre))
-      (ea : a ≡ matVec m (mat m star) z) (ef : f ≡ fStarBy m z h a) (er : UsualBy m z h (mat m pre) sd (projectedAt root z h) (mat m star) f r) where
-    decided : (d : Decision) → d ≡ decisionOn f a r → (p∞ b unres : List Float) (taken : List ℕ) → none-yet taken ≡ false → Replayed p m (rect p m design) hs (mat m pre) taken root
+      (ea : a ≡ matVec m (mat m star) z) (ef : f ≡ fStarBy m z h a) (er : UsualBy m z h (mat m pre) sd again (mat m star) f r) where
+    decided : (d : Decision) → d ≡ decisionOn f a r → (p∞ b unres : List Float) (taken : List ℕ) → none-yet taken ≡ false → again ≡ againOf p m (rect p m design) hs (mat m pre) i taken
         → (d, apply m z i (innerOf m (carried star p∞ b n) taken) d) ≡ elementOf p m hs (fixedOf p m false design pre unres) i (innerOf m (carried star p∞ b n) taken) gap
     unfolding judge
     decided d g p∞ b unres taken k w =
-        let again : projectedAt root z h ≡ againOf p m (rect p m design) hs (mat m pre) i taken = rw (ez, eh) (roots.kept-again p m (rect p m design) hs (mat m pre) taken root w i) in
-        element-is p m hs (fixedOf p m false design pre unres) i (innerOf m (carried star p∞ b n) taken) e ez eh (rw (k, sym again, sym ek, sym ea, sym ef) (g ∙ er .finds (mat m unres) (mat m p∞) (mat m b) a))
+        element-is p m hs (fixedOf p m false design pre unres) i (innerOf m (carried star p∞ b n) taken) e ez eh (rw (k, sym w, sym ek, sym ea, sym ef) (g ∙ er .finds (mat m unres) (mat m p∞) (mat m b) a))
 
-    -- the test hands the root back: what goes on, or is downdated, is that one
-    module _ {back : StarRoot} (q : Sound m root) (handed : back ≡ root) where
-      pub by-root-no : (why : told.Cause) → r ≡ found.Nothing why → star′ ≡ star → Recorded m i (skipped (causeIn why)) n n′ → Sound m back × ByRoot p m hs design pre i gap star n root star′ n′ back
-      unfolding decisionOn
-      by-root-no why g s v = let c = causeIn why in rw handed (
-        q,
-        by-root z (skipped c) root step.Passed (decided (skipped c) (rw g)) (λ p∞ b. moved-none m i z (carried star p∞ b n) (carried star′ p∞ b n′) c s refl refl v) (λ taken k w. (w, k)),
-      )
+    pub by-root-no : (why : told.Cause) → r ≡ found.Nothing why → star′ ≡ star → Recorded m i (skipped (causeIn why)) n n′ → ByRoot p m hs design pre i gap again star n star′ n′ false
+    unfolding decisionOn
+    by-root-no why g s v = let c = causeIn why in
+        by-root z (skipped c) step.Passed false (decided (skipped c) (rw g)) (λ p∞ b. moved-none m i z (carried star p∞ b n) (carried star′ p∞ b n′) c s refl refl v) (λ taken. refl)
 
-      pub by-root-yes : (root′ : StarRoot) → r ≡ found.Usual → mat m star′ ≡ outerSub m (mat m star) a (over m a f) → Recorded m i (usual f a) n n′ → Downdated z h back root′
-          → Sound m root′ × ByRoot p m hs design pre i gap star n root star′ n′ root′
-      unfolding decisionOn
-      by-root-yes root′ g s v u =
-          let d : Downdated z h root root′ = rw handed at u in (
-            roots.sound-by m z h root root′ q d,
-            by-root z (usual f a) root′ step.Taken (decided (usual f a) (rw g)) (λ p∞ b. moved-usual m i z (carried star p∞ b n) (carried star′ p∞ b n′) f a s refl refl v)
-                (λ taken k w. (roots.kept-next p m (rect p m design) hs (mat m pre) taken root w i root′ (rw (ez, eh) at d), stale-next taken i)),
-          )
+    pub by-root-yes : r ≡ found.Usual → mat m star′ ≡ outerSub m (mat m star) a (over m a f) → Recorded m i (usual f a) n n′ → ByRoot p m hs design pre i gap again star n star′ n′ true
+    unfolding decisionOn
+    by-root-yes g s v =
+        by-root z (usual f a) step.Taken true (decided (usual f a) (rw g)) (λ p∞ b. moved-usual m i z (carried star p∞ b n) (carried star′ p∞ b n′) f a s refl refl v) (λ taken. refl)

@@ -1,17 +1,16 @@
 -- An element's values as the definition's, and what each step of it leaves.
 use Prim.Native.Nat.{ℕ, _≤_, _<_, _+_}
 use mathlib.Core.Path.{_≡_}
-use mathlib.Core.Bool.{Bool, false}
+use mathlib.Core.Bool.{Bool, false, cond}
 use mathlib.Core.List.{List, [], _∷_, _++_}
 use lib.ListN.{take}
 use lib.Ieee.{Float}
 use Rattle.definition.specs.Dense.{outerSub, over}
 use Rattle.definition.specs.Cov.{Decision, skipped, usual, diffuse, Inner, Fixed, apply, elementOf, k1Of, none-yet, sdOf}
+use Rattle.definition.specs.Star.{againOf}
 use Rattle.definition.specs.Parts.{kindNo, fStarOf, fInfOf, mStarOf, mInfOf}
 use Rattle.laws.specs.Flat.{Flat}
 use Rattle.dense.specs.Views.{vec, mat, rect}
-use Rattle.star.specs.Views.{Replayed}
-use Rattle.star.specs.declared.StarRoot.{StarRoot}
 use Rattle.acceptance.specs.declared.Finding.{Finding}
 use Rattle.acceptance.specs.declared.Finding.the-variants as finding
 use Rattle.promise.specs.Records.{causeIn}
@@ -115,20 +114,18 @@ WithoutRoot p m h fix fresh i gap b b′ step.Passed = ElementDone p m h fix fre
 WithoutRoot p m h fix fresh i gap b b′ step.Taken = ElementDone p m h fix fresh i gap b b′ step.Taken
 WithoutRoot p m h fix fresh i gap b b′ step.Doubtful = Stayed (fix .diffuse) fresh b b′
 
--- The same with the star root of the elements taken at hand, whatever P∞, B and the unresolved matrix are: the root
--- goes on as that of the elements then taken.
-pub record ByRootAt (p m : ℕ) (h design pre : List Float) (i : ℕ) (want : Decision × Inner) (b b′ : Carried)
-    (root : StarRoot) : Type 0 where
+-- The same with F by the star root of the elements taken at hand, whatever P∞, B and the unresolved matrix are; r says
+-- whether the element joins them.
+pub record ByRootAt (m i : ℕ) (want : Decision × Inner) (taken : List ℕ) (b b′ : Carried) (r : Bool) : Type 0 where
   pub inner : innerOf m b′ (want .1 .taken) ≡ want .1
   pub recorded : Recorded m i (want .0) (b .flat) (b′ .flat)
-  pub replayed : Replayed p m (rect p m design) h (mat m pre) (want .1 .taken) root
-  pub stale : none-yet (want .1 .taken) ≡ false
+  pub joined : want .1 .taken ≡ cond r (taken ++ (i ∷ [])) taken
 
-abbrev pub ByRoot : ℕ → ℕ → List Float → List Float → List Float → ℕ → Bool → List Float → Flat → StarRoot
-    → List Float → Flat → StarRoot → Type 0
-ByRoot p m h design pre i gap star n root star′ n′ root′ =
+abbrev pub ByRoot : ℕ → ℕ → List Float → List Float → List Float → ℕ → Bool → Float → List Float → Flat
+    → List Float → Flat → Bool → Type 0
+ByRoot p m h design pre i gap again star n star′ n′ r =
     (p∞ b unres : List Float) (taken : List ℕ) → none-yet taken ≡ false
-    → Replayed p m (rect p m design) h (mat m pre) taken root
-    → ByRootAt p m h design pre i
-    (elementOf p m h (fixedOf p m false design pre unres) i (innerOf m (carried star p∞ b n) taken) gap)
-    (carried star p∞ b n) (carried star′ p∞ b n′) root′
+    → again ≡ againOf p m (rect p m design) h (mat m pre) i taken
+    → ByRootAt m i
+    (elementOf p m h (fixedOf p m false design pre unres) i (innerOf m (carried star p∞ b n) taken) gap) taken
+    (carried star p∞ b n) (carried star′ p∞ b n′) r

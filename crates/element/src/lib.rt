@@ -1,6 +1,6 @@
 // filter.rs, one element of a period on the covariance track: the updates and the record that its verdict brings. Its
 // mean is the crate mean's. The star root is seldom asked. So `element` goes without it and stops at an element that
-// needs it, and `element_by_root` has it at hand.
+// needs it, and `element_by_root` has its F at hand.
 ghost use mathlib.Core.Path.{_≡_};
 ghost use mathlib.Core.Bool.{false};
 ghost use Prim.Native.Nat.{_≤_, _<_};
@@ -8,7 +8,6 @@ ghost use Rattle.definition.specs.Cov.{k1Of, rootLess, skipped, usual, sdOf, sd
 ghost use Rattle.definition.specs.Dense.{outerSub, over};
 ghost use Rattle.laws.specs.Flat.{flatIn};
 ghost use Rattle.dense.specs.Views.{vec, mat};
-ghost use Rattle.star.specs.Views.{Sound};
 ghost use Rattle.promise.specs.Records.{causeIn};
 ghost use Rattle.element.specs.Views.{carried, fixedOf, Updated, Entered, Recorded, Settled, InPeriod, SdKnown, WithoutRoot, ByRoot};
 use promise::Cause;
@@ -308,8 +307,8 @@ pub fn element(
     )
 }
 
-// Element i of a period that is not diffuse and had an update, with the star root at hand. The root follows an element
-// that is taken.
+// Element i of a period that is not diffuse and had an update, with `again`, its F by the star root, at hand. Whether it
+// was taken.
 pub fn element_by_root(
     star: &mut [f64; 64],
     kinds: &mut [u8; 8],
@@ -317,8 +316,8 @@ pub fn element_by_root(
     fi: &mut [f64; 8],
     ms: &mut [f64; 64],
     mi: &mut [f64; 64],
-    root: star::StarRoot,
     gap: bool,
+    again: f64,
     pre: &[f64; 64],
     sd: &[f64; 8],
     design: &[f64; 64],
@@ -326,36 +325,33 @@ pub fn element_by_root(
     p: usize,
     m: usize,
     i: usize,
-) -> star::StarRoot
-    requires { ⌜ InPeriod p m i × (SdKnown m false (now pre) (now sd) × Sound m root) ⌝ }
-    ensures { λ r. ⌜ Sound m r
-        × (ByRoot p m (mat p (now (hs .entry))) (now (design .entry)) (now (pre .entry)) i gap
+) -> bool
+    requires { ⌜ InPeriod p m i × SdKnown m false (now pre) (now sd) ⌝ }
+    ensures { λ r. ⌜ ByRoot p m (mat p (now (hs .entry))) (now (design .entry)) (now (pre .entry)) i gap again
         (now (star .entry))
-        (flatIn (now (kinds .entry)) (now (fs .entry)) (now (fi .entry)) (now (ms .entry)) (now (mi .entry))) root
+        (flatIn (now (kinds .entry)) (now (fs .entry)) (now (fi .entry)) (now (ms .entry)) (now (mi .entry)))
         (now (star .exit))
-        (flatIn (now (kinds .exit)) (now (fs .exit)) (now (fi .exit)) (now (ms .exit)) (now (mi .exit))) r) ⌝ }
+        (flatIn (now (kinds .exit)) (now (fs .exit)) (now (fi .exit)) (now (ms .exit)) (now (mi .exit))) r ⌝ }
 {
     if gap {
         record_skipped(kinds, fs, fi, ms, mi, Cause::Gap, i, m);
-        return root;
+        return false;
     }
     let z = dense::row_to_vec(design, p, m, i);
     let h = dense::get(hs, p, i, i);
     let mut m_star = [0.0; 8];
     dense::mat_vec(&mut m_star, star, &z, m);
     let f = acceptance::f_star(&z, h, &m_star, m);
-    let asked = acceptance::is_usual(root, &z, h, pre, sd, star, f, m);
-    let root = asked.root;
-    let found = asked.found;
+    let found = acceptance::is_usual(&z, h, again, pre, sd, star, f, m);
     match found {
         acceptance::Found::Nothing(cause) => {
             record_skipped(kinds, fs, fi, ms, mi, cause, i, m);
-            root
+            false
         }
         acceptance::Found::Usual => {
             usual_update(star, &m_star, f, m);
             record_usual(kinds, fs, fi, ms, mi, f, &m_star, i, m);
-            root.downdate(&z, h, m)
+            true
         }
     }
 }

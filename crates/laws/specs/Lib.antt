@@ -1,5 +1,6 @@
 -- No proof cites these: `scanBack-append` of Lists, which waits for request i of document 02; `transpose-three` of Transposes, which says what a way back
--- may not halve (request l).
+-- may not halve (request l); `unread-to` of Unread, which says of a whole growth what `unread` says of a step (request b); `scale-first` and `fresh-taken`
+-- of Verdicts, which say what names a skipped element first (request a).
 
 -- lists, and going through them
 pub mod Lists
@@ -21,6 +22,7 @@ pub mod Noise
 pub mod Squares
 pub mod Transposes
 pub mod RootLaws
+pub mod Unread
 -- the run: its shapes, and what it wrote read back
 pub mod Flat
 pub mod ReadBack

@@ -1,31 +1,36 @@
 -- The stretches of a period's elements, against the scan: laws over plain variables.
-use Prim.Native.Nat.{ℕ, _+_, _≤_, _<_}
+use Prim.Native.Nat.{ℕ, zero, suc, _+_, _≤_, _<_}
 use mathlib.Core.Path.{_≡_, refl, sym, ap, ap₂, _∙_, subst}
-use mathlib.Core.Bool.{Bool, true, false, true≢false, false≢true}
+use mathlib.Core.Bool.{Bool, true, false, cond, true≢false, false≢true}
 use mathlib.Core.List.{List, [], _∷_, _++_, map, append-nil}
+use mathlib.Core.Logic.{⊎-elim}
 use native.Mathlib.Omega.{arith}
 use native.Mathlib.Nat.{zero-mul}
 use native.Mathlib.Numerals.{add-one}
-use lib.ListN.{take, getD, length, length-map, List·getD-map}
-use lib.Seq.{take-all}
+use lib.ListN.{take, getD, length, length-map, List·getD-map, List·getD-append}
+use lib.Seq.{take-all, getD-take, getD-append-add, length-take-le}
 use lib.Ieee.{Float, nan, inf, fin, isNan}
+use Rattle.definition.specs.Num.{ent}
 use Rattle.definition.specs.Dense.{row}
 use Rattle.definition.specs.Run.{scan, join}
 use Rattle.definition.specs.Inputs.{classOf, isGap}
 use Rattle.definition.specs.Cov.{Inner, Fixed, Decision, skipped, usual, diffuse, elementOf, none-yet}
 use Rattle.definition.specs.Parts as parts
 use Rattle.definition.specs.Parts.{kindNo, mStarOf, mInfOf}
-use Rattle.laws.specs.Lists.{scan-next}
+use Rattle.laws.specs.Lists.{scan-next, length-scan}
 use Rattle.laws.specs.Passes.{map-append, join-append}
 use Rattle.laws.specs.Flat.{Flat}
+use Rattle.laws.specs.Kinds.{newsKind, news-kind}
 use Rattle.dense.specs.Views.{mat, rect}
-use Rattle.star.specs.Views.{Replayed}
+use Rattle.dense.proofs.Laws.{lt-or-le}
+use Rattle.star.specs.Views.{Sound, Replayed, Downdated, projectedAt}
 use Rattle.star.specs.declared.StarRoot.{StarRoot}
-use Rattle.element.specs.Views.{Carried, carried, innerOf, fixedOf, Recorded, stepOf, takenBy, ElementIs, ElementDone, WithoutRoot, ByRootAt, ByRoot}
+use Rattle.star.proofs.Laws as roots
+use Rattle.element.specs.Views.{Carried, carried, innerOf, fixedOf, Recorded, stepOf, takenBy, ElementIs, ElementDone, WithoutRoot, ByRootAt}
 use Rattle.element.specs.declared.Step.{Step}
 use Rattle.element.specs.declared.Step.the-variants as step
 use Rattle.element.proofs.Laws.{applied-taken, stale-next}
-use Rattle.period.specs.Views.{Ran, gapsOf, stopsOf, pastOf, upTo, RecordsOf, Gone, none-taken, Stretch, Rest, RestByRoot, WithRoot}
+use Rattle.period.specs.Views.{Ran, gapsOf, stopsOf, pastOf, upTo, RecordsOf, Gone, none-taken, Stretch, Rest, RestByRoot, TakenAt}
 
 -- ---- the readings: a NaN is a gap
 
@@ -165,42 +170,114 @@ module _ (p m : ℕ) (h : List Float) (fix : Fixed) (ys : List Float) (fresh : B
 
 -- ---- the stretch with the star root
 
-module _ (p m : ℕ) (h design pre : List Float) (gaps : List Bool) (from : ℕ) (root₀ : StarRoot) (star₀ : List Float) (n₀ : Flat) where
+-- an element was taken before, and is
+still-stale : (more : Bool) (taken : List ℕ) (i : ℕ) → none-yet taken ≡ false → none-yet (cond more (taken ++ (i ∷ [])) taken) ≡ false
+still-stale true taken i e = stale-next taken i
+still-stale false taken i e = e
+
+-- a decision takes an element where its kind is news
+taken-news : (d : Decision) (t : List ℕ) (i : ℕ) → takenBy d t i ≡ cond (newsKind (kindNo d)) (t ++ (i ∷ [])) t
+taken-news (skipped c) t i = rw (news-kind (skipped c))
+taken-news (usual f a) t i = refl
+taken-news (diffuse f g a c) t i = refl
+
+-- the kind of an element that is done, in its record
+kind-of : (p m : ℕ) (h : List Float) (fix : Fixed) (gaps : List Bool) (s : Inner) (j i : ℕ) → i < j → j ≤ length gaps → getD (map kindNo (At p m h fix gaps s j .0)) i 0 ≡ kindNo (Next p m h fix gaps s i .0)
+kind-of p m h fix gaps s zero i b l = absurd (omega arith)
+kind-of p m h fix gaps s (suc j) i b l =
+    let ks = map kindNo (At p m h fix gaps s j .0) in
+    let long : length ks ≡ j = length-map (At p m h fix gaps s j .0) kindNo ∙ length-scan (elementOf p m h fix) (take j gaps) 0 s ∙ length-take-le j gaps (omega arith) in
+    ap (λ (x : List Decision × Inner). getD (map kindNo (x .0)) i 0) (scan-next (elementOf p m h fix) gaps j s true l)
+    ∙ ap (λ (x : List ℕ). getD x i 0) (map-append kindNo (At p m h fix gaps s j .0) (Next p m h fix gaps s j .0 ∷ []))
+    ∙ ⊎-elim (λ (w : i < j). List·getD-append ks (kindNo (Next p m h fix gaps s j .0) ∷ []) 0 i (omega arith) ∙ kind-of p m h fix gaps s j i w (omega arith))
+    (λ (w : j ≤ i).
+    let e : i ≡ j = omega arith in
+    let o : i ≡ length ks + 0 = omega arith in
+    ap (λ (x : ℕ). getD (ks ++ (kindNo (Next p m h fix gaps s j .0) ∷ [])) x 0) o ∙ getD-append-add ks (kindNo (Next p m h fix gaps s j .0) ∷ []) 0 0 ∙ ap (λ (x : ℕ). kindNo (Next p m h fix gaps s x .0)) (sym e))
+    (lt-or-le i j)
+
+module _ (p m : ℕ) (h design pre ys : List Float) (from : ℕ) (star₀ : List Float) (n₀ : Flat) where
+  abbrev Fix : List Float → Fixed
+  Fix unres = fixedOf p m false design pre unres
+
+  -- i elements gone through: the root is that of those taken among them; from `from` on they are done here
   pub record Rooted (i : ℕ) (root : StarRoot) (star : List Float) (n : Flat) : Type 0 where
     pub high : i ≤ p
-    pub gone : (p∞ b unres : List Float) (s : Inner) → Gone p m h (fixedOf p m false design pre unres) gaps s from (carried star₀ p∞ b n₀)
-        → none-taken p m h (fixedOf p m false design pre unres) gaps s from ≡ false
-        → Replayed p m (rect p m design) h (mat m pre) (upTo p m h (fixedOf p m false design pre unres) gaps s from .1 .taken) root₀
-        → Gone p m h (fixedOf p m false design pre unres) gaps s i (carried star p∞ b n)
-        × ((none-taken p m h (fixedOf p m false design pre unres) gaps s i ≡ false)
-        × Replayed p m (rect p m design) h (mat m pre) (upTo p m h (fixedOf p m false design pre unres) gaps s i .1 .taken) root)
+    pub same : i ≤ from → (star ≡ star₀) × (n ≡ n₀)
+    pub gone : (p∞ b unres : List Float) (s : Inner) → s .taken ≡ [] → Gone p m h (Fix unres) (gapsOf ys) s from (carried star₀ p∞ b n₀)
+        → none-taken p m h (Fix unres) (gapsOf ys) s from ≡ false
+        → Replayed p m (rect p m design) h (mat m pre) (upTo p m h (Fix unres) (gapsOf ys) s i .1 .taken) root
+        × (from ≤ i → Gone p m h (Fix unres) (gapsOf ys) s i (carried star p∞ b n) × (none-taken p m h (Fix unres) (gapsOf ys) s i ≡ false))
 
-  pub rooted-start : from ≤ p → Rooted from root₀ star₀ n₀
-  rooted-start l = record { high = l; gone = λ p∞ b unres s g e w. (g, (e, w)) }
-
-  pub rooted-end : (i : ℕ) (root : StarRoot) (star : List Float) (n : Flat) → Rooted i root star n → p ≤ i → WithRoot p m h design pre gaps from root₀ star₀ n₀ star n
-  rooted-end i root star n r l = λ p∞ b unres s g e w.
-      let k : i ≡ p = omega (arith, r .high) in
-      subst (λ (x : ℕ). Gone p m h (fixedOf p m false design pre unres) gaps s x (carried star p∞ b n)) k (r .gone p∞ b unres s g e w .0)
-
-module _ (p m : ℕ) (h design pre ys : List Float) (from : ℕ) (root₀ : StarRoot) (star₀ : List Float) (n₀ : Flat) where
-  pub rooted-next : (i : ℕ) (root root′ : StarRoot) (star star′ : List Float) (n n′ : Flat) {gap : Bool} → Rooted p m h design pre (gapsOf ys) from root₀ star₀ n₀ i root star n → i < p → length ys ≡ p → gap ≡ isNan (getD ys i nan)
-      → ByRoot p m h design pre i gap star n root star′ n′ root′ → Rooted p m h design pre (gapsOf ys) from root₀ star₀ n₀ (i + 1) root′ star′ n′
-  rooted-next i root root′ star star′ n n′ {gap} r l k eg w = record {
+  pub rooted-start : {root : StarRoot} → ((g : List Float) → Replayed p m (rect p m design) g (mat m pre) [] root) → Rooted 0 root star₀ n₀
+  unfolding scan
+  rooted-start w = record {
     high = omega arith;
-    gone = λ p∞ b unres s g e v.
-        let long : i < length (gapsOf ys) = omega (arith, gaps-long ys) in
-        let fix = fixedOf p m false design pre unres in
-        let was = r .gone p∞ b unres s g e v in
-        let q : ByRootAt p m h design pre i (Next p m h fix (gapsOf ys) s i) (carried star p∞ b n) (carried star′ p∞ b n′) root′ =
-        subst (λ (x : Decision × Inner). ByRootAt p m h design pre i x (carried star p∞ b n) (carried star′ p∞ b n′) root′)
-        (next-is p m h fix (gapsOf ys) s i (carried star p∞ b n) (was .0) (eg ∙ sym (gaps-at ys i)))
-        (w p∞ b unres (At p m h fix (gapsOf ys) s i .1 .taken) (was .1 .0) (was .1 .1)) in
-        let t : At p m h fix (gapsOf ys) s (i + 1) .1 .taken ≡ Next p m h fix (gapsOf ys) s i .1 .taken = ap (λ (x : List Decision × Inner). x .1 .taken) (at-next p m h fix (gapsOf ys) s i long) in (
-          gone-next p m h fix (gapsOf ys) s i (carried star p∞ b n) (carried star′ p∞ b n′) long (was .0) (q .inner) (q .recorded),
-          (ap none-yet t ∙ q .stale, subst (λ (x : List ℕ). Replayed p m (rect p m design) h (mat m pre) x root′) (sym t) (q .replayed)),
-        );
+    same = λ l. (refl, refl);
+    gone = λ p∞ b unres s q g e. (rw q (w h), λ l. let k : from ≡ 0 = omega arith in subst (λ (x : ℕ). Gone p m h (Fix unres) (gapsOf ys) s x (carried star₀ p∞ b n₀) × (none-taken p m h (Fix unres) (gapsOf ys) s x ≡ false)) k (g, e));
   }
+
+  pub rooted-end : (i : ℕ) (root : StarRoot) (star : List Float) (n : Flat) → Rooted i root star n → p ≤ i → from ≤ p → RestByRoot p m h design pre (gapsOf ys) from star₀ n₀ star n
+  rooted-end i root star n r l f = λ p∞ b unres s q g e.
+      let k : i ≡ p = omega (arith, r .high) in
+      subst (λ (x : ℕ). Gone p m h (Fix unres) (gapsOf ys) s x (carried star p∞ b n)) k (r .gone p∞ b unres s q g e .1 (omega arith) .0)
+
+  -- an element more, by whether it is taken: the root that was asked goes on, or follows it
+  module _ (i : ℕ) (root back : StarRoot) (star star′ : List Float) (n n′ : Flat) {taken : Bool} {again : Float} (r : Rooted i root star n)
+      (l : i < p) (fp : from ≤ p) (k : length ys ≡ p) (asked : (back ≡ root) × (again ≡ projectedAt root (row m (rect p m design) i) (ent p h i i)))
+      (w : TakenAt p m h design pre ys from i again star n star′ n′ taken) where
+    in-row : i < length (gapsOf ys)
+    in-row = omega (arith, gaps-long ys)
+
+    -- of an element that is done
+    before : i < from → (p∞ b unres : List Float) (s : Inner) → Gone p m h (Fix unres) (gapsOf ys) s from (carried star₀ p∞ b n₀)
+        → At p m h (Fix unres) (gapsOf ys) s (i + 1) .1 .taken ≡ cond taken (At p m h (Fix unres) (gapsOf ys) s i .1 .taken ++ (i ∷ [])) (At p m h (Fix unres) (gapsOf ys) s i .1 .taken)
+    before f p∞ b unres s g =
+        let d = Next p m h (Fix unres) (gapsOf ys) s i .0 in
+        let t = At p m h (Fix unres) (gapsOf ys) s i .1 .taken in
+        let kind : getD (n .kinds) i 0 ≡ kindNo d =
+        ap (λ (x : Flat). getD (x .kinds) i 0) (r .same (omega arith) .1) ∙ sym (getD-take from (n₀ .kinds) i 0 f) ∙ ap (λ (x : List ℕ). getD x i 0) (g .records .kinds)
+        ∙ kind-of p m h (Fix unres) (gapsOf ys) s from i f (omega (arith, gaps-long ys)) in
+        next-taken p m h (Fix unres) (gapsOf ys) s i in-row ∙ taken-news d t i ∙ ap (λ (x : Bool). cond x (t ++ (i ∷ [])) t) (sym (w .done f .1 .1 ∙ ap newsKind kind))
+
+    next : (root′ : StarRoot) → ((t : List ℕ) → Replayed p m (rect p m design) h (mat m pre) t root → Replayed p m (rect p m design) h (mat m pre) (cond taken (t ++ (i ∷ [])) t) root′)
+        → Rooted (i + 1) root′ star′ n′
+    next root′ follows = record {
+      high = omega arith;
+      same = λ f. let q = w .done (omega arith) in (q .0 ∙ r .same (omega arith) .0, q .1 .0 ∙ r .same (omega arith) .1);
+      gone = λ p∞ b unres s q g e.
+          let was = r .gone p∞ b unres s q g e in
+          let t = At p m h (Fix unres) (gapsOf ys) s i .1 .taken in
+          let on : (u : At p m h (Fix unres) (gapsOf ys) s (i + 1) .1 .taken ≡ cond taken (t ++ (i ∷ [])) t) → Replayed p m (rect p m design) h (mat m pre) (At p m h (Fix unres) (gapsOf ys) s (i + 1) .1 .taken) root′ =
+          (λ u. subst (λ (x : List ℕ). Replayed p m (rect p m design) h (mat m pre) x root′) (sym u) (follows t (was .0))) in
+          ⊎-elim
+          (λ (f : i < from). (
+            on (before f p∞ b unres s g),
+            λ c.
+                let o : from ≡ i + 1 = omega arith in
+                let z = w .done f in
+                subst (λ (x : ℕ). Gone p m h (Fix unres) (gapsOf ys) s x (carried star′ p∞ b n′) × (none-taken p m h (Fix unres) (gapsOf ys) s x ≡ false)) o
+                (rw (z .0 ∙ r .same (omega arith) .0, z .1 .0 ∙ r .same (omega arith) .1) (g, e)),
+          ))
+          (λ (f : from ≤ i).
+          let at = was .1 f in
+          let v : ByRootAt m i (Next p m h (Fix unres) (gapsOf ys) s i) t (carried star p∞ b n) (carried star′ p∞ b n′) taken =
+          subst (λ (x : Decision × Inner). ByRootAt m i x t (carried star p∞ b n) (carried star′ p∞ b n′) taken)
+          (next-is p m h (Fix unres) (gapsOf ys) s i (carried star p∞ b n) (at .0) (sym (gaps-at ys i)))
+          (w .here f p∞ b unres t (at .1) (asked .1 ∙ roots.kept-again p m (rect p m design) h (mat m pre) t root (was .0) i)) in
+          let u : At p m h (Fix unres) (gapsOf ys) s (i + 1) .1 .taken ≡ cond taken (t ++ (i ∷ [])) t =
+          ap (λ (x : List Decision × Inner). x .1 .taken) (at-next p m h (Fix unres) (gapsOf ys) s i in-row) ∙ v .joined in
+          (on u, λ c. (gone-next p m h (Fix unres) (gapsOf ys) s i (carried star p∞ b n) (carried star′ p∞ b n′) in-row (at .0) (v .inner) (v .recorded), ap none-yet u ∙ still-stale taken t i (at .1))))
+          (lt-or-le i from);
+    }
+
+    pub rooted-kept : Sound m root → taken ≡ false → Sound m back × Rooted (i + 1) back star′ n′
+    rooted-kept q e = rw (asked .0) (q, next root (λ t v. rw e v))
+
+    pub rooted-follows : {root′ : StarRoot} → Sound m root → taken ≡ true → Downdated (row m (rect p m design) i) (ent p h i i) back root′ → Sound m root′ × Rooted (i + 1) root′ star′ n′
+    rooted-follows {root′} q e u =
+        let d : Downdated (row m (rect p m design) i) (ent p h i i) root root′ = rw (asked .0) at u in
+        (roots.sound-by m (row m (rect p m design) i) (ent p h i i) root root′ q d, next root′ (λ t v. rw e (roots.kept-next p m (rect p m design) h (mat m pre) t root v i root′ d)))
 
 -- ---- the stretches, one after the other
 

@@ -1,3 +1,2 @@
 pub mod Along
-pub mod Listing
 pub mod Whole

@@ -1,10 +1,10 @@
 -- A period's values as the definition's, and what each stretch of its elements leaves.
-use Prim.Native.Nat.{ℕ, suc, _≤_, _<_, _+_}
+use Prim.Native.Nat.{ℕ, _≤_, _<_, _+_}
 use mathlib.Core.Path.{_≡_}
-use mathlib.Core.Bool.{Bool, true, false, cond}
-use mathlib.Core.List.{List, [], _∷_, _++_, map}
-use lib.ListN.{take, length}
-use lib.Ieee.{Float}
+use mathlib.Core.Bool.{Bool, true, false}
+use mathlib.Core.List.{List, [], map}
+use lib.ListN.{take, getD}
+use lib.Ieee.{Float, nan, isNan}
 use Rattle.definition.specs.Run.{scan, join}
 use Rattle.definition.specs.Inputs.{classOf, isGap}
 use Rattle.definition.specs.Cov.{Decision, Inner, Fixed, Cov, elementOf, entered, isLive, none-yet}
@@ -13,12 +13,9 @@ use Rattle.definition.specs.Parts.{kindNo, mStarOf, mInfOf}
 use Rattle.laws.specs.Flat.{Flat}
 use Rattle.laws.specs.Kinds.{newsKind}
 use Rattle.dense.specs.Views.{mat, rect}
-use Rattle.star.specs.Views.{Replayed}
-use Rattle.star.specs.declared.StarRoot.{StarRoot}
-use Rattle.element.specs.Views.{Carried, carried, innerOf, fixedOf}
+use Rattle.element.specs.Views.{Carried, carried, innerOf, fixedOf, ByRoot}
 use Rattle.element.specs.declared.Step.{Step}
 use Rattle.element.specs.declared.Step.the-variants as step
-use Rattle.period.specs.declared.Taken.{Taken}
 
 -- ---- what the callers see
 
@@ -114,33 +111,9 @@ RestByRoot p m h design pre gaps from star n star′ n′ =
     (p∞ b unres : List Float)
     → Rest p m h (fixedOf p m false design pre unres) gaps from (carried star p∞ b n) (carried star′ p∞ b n′)
 
--- and with the star root of the elements taken at hand
-abbrev pub WithRoot : ℕ → ℕ → List Float → List Float → List Float → List Bool → ℕ → StarRoot
-    → List Float → Flat → List Float → Flat → Type 0
-WithRoot p m h design pre gaps from root star n star′ n′ =
-    (p∞ b unres : List Float) (s : Inner)
-    → Gone p m h (fixedOf p m false design pre unres) gaps s from (carried star p∞ b n)
-    → none-taken p m h (fixedOf p m false design pre unres) gaps s from ≡ false
-    → Replayed p m (rect p m design) h (mat m pre)
-    (upTo p m h (fixedOf p m false design pre unres) gaps s from .1 .taken) root
-    → Gone p m h (fixedOf p m false design pre unres) gaps s p (carried star′ p∞ b n′)
-
--- ---- the elements taken
-
--- the places from k on at which a kind is news
-unfoldable pub placesFrom : ℕ → List ℕ → List ℕ
-placesFrom k [] = []
-placesFrom k (x ∷ xs) = let rest = placesFrom (suc k) xs in cond (newsKind x) (k ∷ rest) rest
-
--- element i joins those taken, by its kind
-pub record TookIn (t : Taken) (kind i : ℕ) (r : Taken) : Type 0 where
-  pub count : r .count ≡ cond (newsKind kind) (t .count + 1) (t .count)
-  pub places : take (r .count) (r .places)
-      ≡ cond (newsKind kind) (take (t .count) (t .places) ++ (i ∷ [])) (take (t .count) (t .places))
-  pub size : length (r .places) ≡ length (t .places)
-
--- those taken of the first n
-pub record Listed (n : ℕ) (kinds : List ℕ) (r : Taken) : Type 0 where
-  pub size : length (r .places) ≡ 8
-  pub few : r .count ≤ n
-  pub places : take (r .count) (r .places) ≡ placesFrom 0 kinds
+-- Element i with F by the star root at hand, and whether it is taken. One before `from` is done already: its record says so,
+-- and nothing moves.
+pub record TakenAt (p m : ℕ) (h design pre ys : List Float) (from i : ℕ) (again : Float) (star : List Float) (n : Flat)
+    (star′ : List Float) (n′ : Flat) (r : Bool) : Type 0 where
+  pub done : i < from → (star′ ≡ star) × ((n′ ≡ n) × (r ≡ newsKind (getD (n .kinds) i 0)))
+  pub here : from ≤ i → ByRoot p m h design pre i (isNan (getD ys i nan)) again star n star′ n′ r

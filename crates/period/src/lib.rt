@@ -5,14 +5,13 @@
 ghost use mathlib.Core.Path.{_≡_};
 ghost use mathlib.Core.Bool.{true, false};
 ghost use Prim.Native.Nat.{_≤_, _<_, _*_};
-ghost use lib.ListN.{take, length};
+ghost use lib.ListN.{length};
 ghost use Rattle.definition.specs.Run.{scan};
 ghost use Rattle.definition.specs.Cov.{elementOf, isLive, stepStar, stepInf, stepped};
 ghost use Rattle.laws.specs.Flat.{flatIn};
 ghost use Rattle.dense.specs.Views.{mat};
-ghost use Rattle.star.specs.Views.{Sound};
-ghost use Rattle.element.specs.Views.{carried, fixedOf, SdKnown};
-ghost use Rattle.period.specs.Views.{Ran, Begun, stateOf, gapsOf, stopsOf, pastOf, beforeFirst, TookIn, Listed, Sizes, Stretch, WithRoot, RestByRoot, Rest};
+ghost use Rattle.element.specs.Views.{carried, fixedOf, InPeriod, SdKnown};
+ghost use Rattle.period.specs.Views.{Ran, Begun, stateOf, gapsOf, stopsOf, pastOf, beforeFirst, Sizes, Stretch, TakenAt, RestByRoot, Rest};
 
 // A stretch ends at a doubtful element, and one that began fresh with the first that is taken.
 fn stops(r: element::Step, fresh: bool) -> bool
@@ -98,52 +97,17 @@ fn stretch(
     p
 }
 
-// The elements taken so far.
-struct Taken {
-    places: [usize; 8],
-    count: usize,
-}
-
-// Element i joins those taken, if its record is news.
-fn take_in(t: Taken, kind: u8, i: usize) -> Taken
-    requires { ⌜ t .count < 8 ⌝ }
-    ensures { λ r. ⌜ TookIn t kind i r ⌝ }
-{
-    let mut t = t;
-    if record::is_news(kind) {
-        let n = t.count;
-        t.places[n] = i;
-        t.count = n + 1;
-    }
-    t
-}
-
-// Those taken of the first n elements, by the kinds in their records.
-fn taken_of(kinds: &[u8; 8], n: usize) -> Taken
-    requires { ⌜ n ≤ 8 ⌝ }
-    ensures { λ r. ⌜ Listed n (take n (now (kinds .entry))) r ⌝ }
-{
-    let ks: &[u8] = kinds;
-    let mut t = Taken {
-        places: [0; 8],
-        count: 0,
-    };
-    for i in 0..n {
-        t = take_in(t, ks[i], i);
-    }
-    t
-}
-
-// The last stretch, from element `from` on: the star root is at hand.
-fn with_root(
+// Whether element i is taken, in a period that is not diffuse and had an update. One before `from` is done, and its
+// record says so; from there on it is done here, with `again`, its F by the star root, at hand.
+fn taken_at(
     star: &mut [f64; 64],
     kinds: &mut [u8; 8],
     fs: &mut [f64; 8],
     fi: &mut [f64; 8],
     ms: &mut [f64; 64],
     mi: &mut [f64; 64],
-    root: star::StarRoot,
     from: usize,
+    again: f64,
     pre: &[f64; 64],
     sd: &[f64; 8],
     design: &[f64; 64],
@@ -151,39 +115,41 @@ fn with_root(
     ys: &[f64],
     p: usize,
     m: usize,
-)
-    requires { ⌜ Sizes p m from (length (now ys)) × (SdKnown m false (now pre) (now sd) × Sound m root) ⌝ }
-    ensures { λ _. ⌜ WithRoot p m (mat p (now (hs .entry))) (now (design .entry)) (now (pre .entry))
-        (gapsOf (now (ys .entry))) from root
+    i: usize,
+) -> bool
+    requires { ⌜ InPeriod p m i × ((length (now ys) ≡ p) × SdKnown m false (now pre) (now sd)) ⌝ }
+    ensures { λ r. ⌜ TakenAt p m (mat p (now (hs .entry))) (now (design .entry)) (now (pre .entry))
+        (now (ys .entry)) from i again
         (now (star .entry))
         (flatIn (now (kinds .entry)) (now (fs .entry)) (now (fi .entry)) (now (ms .entry)) (now (mi .entry)))
         (now (star .exit))
-        (flatIn (now (kinds .exit)) (now (fs .exit)) (now (fi .exit)) (now (ms .exit)) (now (mi .exit))) ⌝ }
+        (flatIn (now (kinds .exit)) (now (fs .exit)) (now (fi .exit)) (now (ms .exit)) (now (mi .exit))) r ⌝ }
 {
-    let mut root = root;
-    for i in from..p {
-        let gap = float::is_nan(ys[i]);
-        root = element::element_by_root(
-            star,
-            kinds,
-            fs,
-            fi,
-            ms,
-            mi,
-            root,
-            gap,
-            pre,
-            sd,
-            design,
-            hs,
-            p,
-            m,
-            i,
-        );
+    if i < from {
+        return record::is_news(kinds[i]);
     }
+    let gap = float::is_nan(ys[i]);
+    element::element_by_root(
+        star,
+        kinds,
+        fs,
+        fi,
+        ms,
+        mi,
+        gap,
+        again,
+        pre,
+        sd,
+        design,
+        hs,
+        p,
+        m,
+        i,
+    )
 }
 
-// The last stretch: the star root is built over the elements taken, and kept.
+// The last stretch, from element `from` on, with the star root. It begins at the predicted P*, is asked for each element,
+// and follows those that are taken, the ones before `from` too.
 fn by_root(
     star: &mut [f64; 64],
     kinds: &mut [u8; 8],
@@ -208,26 +174,32 @@ fn by_root(
         (now (star .exit))
         (flatIn (now (kinds .exit)) (now (fs .exit)) (now (fi .exit)) (now (ms .exit)) (now (mi .exit))) ⌝ }
 {
-    let t = taken_of(kinds, from);
-    let places = t.places;
-    let root = star::StarRoot::replay(p, m, design, hs, pre, &places, t.count);
-    with_root(
-        star,
-        kinds,
-        fs,
-        fi,
-        ms,
-        mi,
-        root,
-        from,
-        pre,
-        sd,
-        design,
-        hs,
-        ys,
-        p,
-        m,
-    );
+    let mut root = star::StarRoot::build(p, m, design, pre);
+    for i in 0..p {
+        let asked = star::ask(root, p, m, design, hs, i);
+        let taken = taken_at(
+            star,
+            kinds,
+            fs,
+            fi,
+            ms,
+            mi,
+            from,
+            asked.f,
+            pre,
+            sd,
+            design,
+            hs,
+            ys,
+            p,
+            m,
+            i,
+        );
+        root = asked.root;
+        if taken {
+            root = star::follow(root, p, m, design, hs, i);
+        }
+    }
 }
 
 // The elements after the first that was taken: the second stretch, and the last where it stopped.

@@ -1,15 +1,13 @@
--- The star root: what the calls give, put together, over plain variables.
+-- The star root: what the calls give, put together, over plain variables. How a matrix becomes its root is in InPlace.
 use Prim.Native.Nat.{ℕ, zero, suc, _+_, _≤_, _<_}
 use mathlib.Core.Path.{_≡_, refl, sym, ap, _∙_, subst}
-use mathlib.Core.Bool.{Bool, true, false, not, _&&_, _||_, cond}
+use mathlib.Core.Bool.{Bool, true, false, not, _||_, cond}
 use mathlib.Core.List.{List, [], _∷_, _++_}
 use mathlib.Core.Logic.{⊎-elim}
-use native.Mathlib.Nat.{zero-mul, le-of-suc-le-suc, not-suc-le-zero}
 use native.Mathlib.Omega.{arith}
 use native.Mathlib.Numerals.{add-one}
-use borrow.Author.Tests.{ne-eqb, eq-eqb}
-use lib.ListN.{take, getD, set, replicate, length, length-append, List·getD-append}
-use lib.Seq.{getD-take, getD-append-add, take-set-lt, take-suc-set, take-suc}
+use lib.ListN.{take, getD, set, length, length-append, List·getD-append}
+use lib.Seq.{getD-take, getD-append-add, take-suc-set}
 use lib.Ieee.{Float}
 use Rattle.definition.specs.Num.{_>ᶠ_, _⊕_, _⊗_, _⊘_, ent, at, 0ᶠ, 1ᶠ, isZero, matrix, tabulate}
 use Rattle.definition.specs.Dense as Dense
@@ -18,17 +16,10 @@ use Rattle.definition.specs.Root.{sqrtOf}
 use Rattle.definition.specs.Star as def
 use Rattle.definition.specs.Star.{
   Pivot,
-  Growing,
   Root,
   better,
   pivotTo,
   columnAt,
-  column,
-  leftOf,
-  grown,
-  grow,
-  growTo,
-  seed,
   uAt,
   uOf,
   fOf,
@@ -49,9 +40,8 @@ use Rattle.definition.specs.Star.{
   againOn,
 }
 use Rattle.dense.specs.Views.{vec, mat, rect}
-use Rattle.dense.proofs.Laws.{row, lt-or-le}
-use Rattle.star.specs.Views.{Found, Joined, States, Sound, Downdated, Followed, Replayed, factorOf, rootOn, placesOf, projectedAt}
-use Rattle.star.specs.declared.Factor.{Factor}
+use Rattle.dense.proofs.Laws.{lt-or-le}
+use Rattle.star.specs.Views.{Found, Joined, States, Sound, Downdated, Replayed, factor, placesOf, projectedAt}
 use Rattle.star.specs.declared.StarRoot.{StarRoot}
 use Rattle.star.specs.declared.Support.{Support}
 
@@ -77,20 +67,6 @@ pub pivot-none : (k : ℕ) (a : List Float) (u : List Bool) → _≡_ {A = Pivot
 unfolding pivotTo
 pivot-none k a u = refl
 
-place-le : (k : ℕ) (a : List Float) (u : List Bool) (n : ℕ) → n ≤ k → pivotTo k a u n .place ≤ k
-unfolding pivotTo better
-place-le k a u zero h = omega arith
-place-le k a u (suc n) h = by-test (not (getD u n false) && (ent k a n n >ᶠ pivotTo k a u n .best)) (pivotTo k a u n) (place-le k a u n (omega arith))
-  where
-    by-test : (t : Bool) (b : Pivot) → b .place ≤ k → cond t (record { place = n; best = ent k a n n }) b .place ≤ k
-    by-test true b l = omega arith
-    by-test false b l = l
-
-pub place-lt : (k : ℕ) (a : List Float) (u : List Bool) (b : Pivot) → b ≡ pivotTo k a u k → (b .place ≡ k → ⊥) → b .place < k
-place-lt k a u b e h =
-    let q : b .place ≤ k = subst (λ (x : Pivot). x .place ≤ k) (sym e) (place-le k a u k (omega arith)) in
-    ⊎-elim (λ (l : b .place < k). l) (λ (l : k ≤ b .place). absurd (h (omega arith))) (lt-or-le (b .place) k)
-
 module _ (k : ℕ) (a : List Float) (u : List Bool) (j : ℕ) (sd : Float) (i : ℕ) (h : i < k) where
   pub column-used : getD u i false ≡ true → 0ᶠ ≡ columnAt k a (take k u) j sd i
   unfolding columnAt
@@ -99,44 +75,6 @@ module _ (k : ℕ) (a : List Float) (u : List Bool) (j : ℕ) (sd : Float) (i : 
   pub column-free : {x : Float} → getD u i false ≡ false → x ≡ ent k a i j → x ⊘ sd ≡ columnAt k a (take k u) j sd i
   unfolding columnAt
   column-free e g = rw (getD-take k u i false h, e, sym g)
-
-pub marked : (k : ℕ) (u : List Bool) (j : ℕ) → j < k → take k (set u j true) ≡ set (take k u) j true
-marked k u j h = take-set-lt k u j true h
-
--- one column more, where there is one
-module _ (k : ℕ) (l c : List Float) (u : List Bool) (r : ℕ) (b : Pivot) (e : b ≡ pivotTo k l u k) where
-  abbrev G : Growing
-  G = record { left = l; used = u; rank = r; cols = c }
-
-  pub grow-none : b .place ≡ k → G ≡ grow k G
-  unfolding grow
-  grow-none h = rw (sym e, eq-eqb (b .place) k h)
-
-  pub grow-more : {sd : Float} {col l′ c′ : List Float} {u′ : List Bool} → (b .place ≡ k → ⊥) → sd ≡ sqrtOf (b .best) → col ≡ column k l u (b .place) sd → l′ ≡ leftOf k l col → u′ ≡ set u (b .place) true → c′ ≡ c ++ col
-      → _≡_ {A = Growing} (record { left = l′; used = u′; rank = r + 1; cols = c′ }) (grow k G)
-  unfolding grow grown
-  grow-more h e1 e2 e3 e4 e5 = rw (sym e, ne-eqb (b .place) k h, sym e1, sym e2, e3, e4, e5)
-
-pub grow-next : (k : ℕ) (g₀ g g′ : Growing) (i : ℕ) → g ≡ growTo k g₀ i → g′ ≡ grow k g → g′ ≡ growTo k g₀ (i + 1)
-unfolding growTo
-grow-next k g₀ g g′ i e h = rw add-one (cc)
-
-pub grow-start : (k : ℕ) (g : Growing) → g ≡ growTo k g 0
-unfolding growTo
-grow-start k g = refl
-
-take-replicate : {A : Type 0} (k n : ℕ) (x : A) → k ≤ n → take k (replicate n x) ≡ replicate k x
-take-replicate zero n x h = refl
-take-replicate (suc k) zero x h = absurd (not-suc-le-zero h)
-take-replicate (suc k) (suc n) x h = ap (λ (l : List _). x ∷ l) (take-replicate k n x (le-of-suc-le-suc h))
-
-pub is-seed : (k : ℕ) (a c : List Float) → k ≤ 8 → _≡_ {A = Growing} (record { left = mat k a; used = take k (replicate 8 false); rank = 0; cols = rect 0 k c }) (seed k (mat k a))
-unfolding seed rect
-is-seed k a c h = rw (take-replicate k 8 false h, zero-mul k)
-
-pub grown-root : (k : ℕ) (a : List Float) (g : Growing) (s : Growing) (i : ℕ) → s ≡ seed k a → g ≡ growTo k s i → i ≤ k → k ≤ i → _≡_ {A = Root} (record { rank = g .rank; cols = g .cols }) (def.pivotedRoot k a)
-unfolding def.pivotedRoot
-grown-root k a g s i e h p q = let n : i ≡ k = omega arith in rw (h, n, e)
 
 -- F by the root, and Potter's update
 module _ (r : StarRoot) (z : List Float) (h : Float) {zs u : List Float} {d : Float} (on-is : zs ≡ on (r .count) (placesOf r) z)
@@ -223,36 +161,10 @@ unfolding subAt
 sub-at k a b m s x h g e = rw (getD-take k s a 0 h, getD-take k s b 0 g) e
 
 -- one element more
-module _ (p m : ℕ) (z h : List Float) (s : List ℕ) (k : ℕ) where
-  replay-snoc : (r : Root) (l : List ℕ) (i : ℕ) → replay p m z h s k r (l ++ (i ∷ [])) ≡ downdate k (replay p m z h s k r l) (on k s (Dense.row m z i)) (ent p h i i)
-  unfolding replay
-  replay-snoc r [] i = refl
-  replay-snoc r (x ∷ l) i = replay-snoc (downdate k r (on k s (Dense.row m z x)) (ent p h x x)) l i
-
-  pub replay-none : (r : Root) (l : List ℕ) → r ≡ replay p m z h s k r (take 0 l)
-  unfolding replay
-  replay-none r l = refl
-
-  pub replay-next : (r₀ r r′ : Root) (taken : List ℕ) (t : ℕ) → r ≡ replay p m z h s k r₀ (take t taken) → t < length taken → r′ ≡ downdate k r (on k s (Dense.row m z (getD taken t 0))) (ent p h (getD taken t 0) (getD taken t 0)) → r′ ≡ replay p m z h s k r₀ (take (t + 1) taken)
-  replay-next r₀ r r′ taken t e b g = rw (add-one, take-suc taken t 0 b) (g ∙ ap (λ (x : Root). downdate k x (on k s (Dense.row m z (getD taken t 0))) (ent p h (getD taken t 0) (getD taken t 0))) e ∙ sym (replay-snoc r₀ (take t taken) (getD taken t 0)))
-
--- the replay, loop and whole
-module _ (p m : ℕ) (z h : List Float) where
-  pub followed-none : (r : StarRoot) (taken : List ℕ) → Followed p m z h (take 0 taken) r r
-  followed-none r taken = record { support = refl; count = refl; rank = refl; root = replay-none p m z h (placesOf r) (r .count) (rootOn (r .count) r) taken }
-
-  pub followed-next : (r s t : StarRoot) (taken : List ℕ) (k : ℕ) → k < length taken → Followed p m z h (take k taken) r s
-      → Downdated (Dense.row m z (getD taken k 0)) (ent p h (getD taken k 0) (getD taken k 0)) s t → Followed p m z h (take (k + 1) taken) r t
-  followed-next r s t taken k b f d = record {
-    support = d .support ∙ f .support;
-    count = d .count ∙ f .count;
-    rank = d .rank ∙ f .rank;
-    root = replay-next p m z h (placesOf r) (r .count) (rootOn (r .count) r) (rootOn (r .count) s) (rootOn (r .count) t) taken k (f .root) b
-        (subst (λ (x : ℕ). rootOn x t ≡ downdate x (rootOn x s) (on x (take x (r .support)) (Dense.row m z (getD taken k 0))) (ent p h (getD taken k 0) (getD taken k 0))) (f .count) (rw (f .support) at (d .root)));
-  }
-
-  pub followed-end : (r s : StarRoot) (taken : List ℕ) (k n : ℕ) → Followed p m z h (take k taken) r s → k ≤ n → n ≤ k → Followed p m z h (take n taken) r s
-  followed-end r s taken k n f a b = let q : k ≡ n = omega arith in subst (λ (x : ℕ). Followed p m z h (take x taken) r s) q f
+replay-snoc : (p m : ℕ) (z h : List Float) (s : List ℕ) (k : ℕ) (r : Root) (l : List ℕ) (i : ℕ) → replay p m z h s k r (l ++ (i ∷ [])) ≡ downdate k (replay p m z h s k r l) (on k s (Dense.row m z i)) (ent p h i i)
+unfolding replay
+replay-snoc p m z h s k r [] i = refl
+replay-snoc p m z h s k r (x ∷ l) i = replay-snoc p m z h s k (downdate k r (on k s (Dense.row m z x)) (ent p h x x)) l i
 
 -- the update for an element: its row and its noise at hand
 pub downdated-by : {z row : List Float} {h g : Float} {r s : StarRoot} → z ≡ row → h ≡ g → Downdated z h r s → Downdated row g r s
@@ -266,18 +178,16 @@ pub sound-by : (m : ℕ) (z : List Float) (h : Float) (r s : StarRoot) → Sound
 sound-by m z h r s w d = sound-still m r s w (d .support) (d .count) (d .rank)
 
 -- the root as it is built
-pub built : (p m : ℕ) (z h pre : List Float) (taken : List ℕ) (s : Support) (a : List Float) (f : Factor) (r : StarRoot) → m ≤ 8 → Found p m m z s
-    → a ≡ sub m (s .count) (take (s .count) (s .places)) pre → factorOf (s .count) f ≡ def.pivotedRoot (s .count) a → f .rank ≤ s .count
-    → Followed p m z h taken (record { support = s .places; count = s .count; cols = f .cols; rank = f .rank }) r → Replayed p m z h pre taken r
-built p m z h pre taken s a f r n found e1 e2 low w = record {
-  sound = sound-still m first r (record { support = states-of p m z s found n; low = low }) (w .support) (w .count) (w .rank);
-  count = w .count ∙ found .count;
-  places = rw (w .support, w .count) (found .places);
-  root = rw (w .support, w .count) (w .root ∙ ap (λ (x : Root). replay p m z h (take (s .count) (s .places)) (s .count) x taken) (e2 ∙ ap (def.pivotedRoot (s .count)) e1));
+pub built : (p m : ℕ) (z h pre : List Float) (s : Support) (a cols : List Float) (rank : ℕ) → m ≤ 8 → Found p m m z s
+    → a ≡ sub m (s .count) (take (s .count) (s .places)) pre → factor (s .count) rank cols ≡ def.pivotedRoot (s .count) a → rank ≤ s .count
+    → Replayed p m z h pre [] (record { support = s .places; count = s .count; cols = cols; rank = rank })
+unfolding replay
+built p m z h pre s a cols rank n found e1 e2 low = record {
+  sound = record { support = states-of p m z s found n; low = low };
+  count = found .count;
+  places = found .places;
+  root = e2 ∙ ap (def.pivotedRoot (s .count)) e1;
 }
-  where
-    first : StarRoot
-    first = record { support = s .places; count = s .count; cols = f .cols; rank = f .rank }
 
 -- what is kept, at work: F by the root is the definition's, and one element more
 module _ (p m : ℕ) (z h pre : List Float) (taken : List ℕ) (r : StarRoot) (w : Replayed p m z h pre taken r) where

@@ -6,22 +6,17 @@ use mathlib.Core.List.{List, [], _∷_, _++_}
 use lib.ListN.{take, getD, length}
 use lib.Ieee.{Float}
 use Rattle.definition.specs.Star as def
-use Rattle.dense.specs.Views.{mat, rect}
+use Rattle.dense.specs.Views.{rect}
 use Rattle.star.specs.declared.Pivot.{Pivot}
-use Rattle.star.specs.declared.Growing.{Growing}
-use Rattle.star.specs.declared.Factor.{Factor}
 use Rattle.star.specs.declared.Support.{Support}
 use Rattle.star.specs.declared.StarRoot.{StarRoot}
 
 abbrev pub pivotOf : Pivot → def.Pivot
 pivotOf b = record { place = b .place; best = b .best }
 
-abbrev pub growingOf : ℕ → Growing → def.Growing
-growingOf k g =
-    record { left = mat k (g .left); used = take k (g .used); rank = g .rank; cols = rect (g .rank) k (g .cols) }
-
-abbrev pub factorOf : ℕ → Factor → def.Root
-factorOf k f = record { rank = f .rank; cols = rect (f .rank) k (f .cols) }
+-- a factor in an array: r columns of k entries, one after the other
+abbrev pub factor : ℕ → ℕ → List Float → def.Root
+factor k r cols = record { rank = r; cols = rect r k cols }
 
 -- of the first j states, those on which the design loads
 pub record Found (p m j : ℕ) (z : List Float) (s : Support) : Type 0 where
@@ -41,15 +36,9 @@ pub record States (m k : ℕ) (s : List ℕ) : Type 0 where
   pub few : k ≤ m
   pub below : (a : ℕ) → a < k → getD s a 0 < m
 
--- the first n places of `taken` are elements of a period of p
-pub record Taken (p n : ℕ) (taken : List ℕ) : Type 0 where
-  pub size : length taken ≡ 8
-  pub few : n ≤ 8
-  pub below : (k : ℕ) → k < n → getD taken k 0 < p
-
 -- a root's factor, of k entries a column, and its support
 abbrev pub rootOn : ℕ → StarRoot → def.Root
-rootOn k r = record { rank = r .rank; cols = rect (r .rank) k (r .cols) }
+rootOn k r = factor k (r .rank) (r .cols)
 
 abbrev pub placesOf : StarRoot → List ℕ
 placesOf r = take (r .count) (r .support)
@@ -69,13 +58,6 @@ pub record Downdated (z : List Float) (h : Float) (r s : StarRoot) : Type 0 wher
   pub count : s .count ≡ r .count
   pub rank : s .rank ≡ r .rank
   pub root : rootOn (r .count) s ≡ def.downdate (r .count) (rootOn (r .count) r) (def.on (r .count) (placesOf r) z) h
-
--- what the updates for the elements taken make of a root
-pub record Followed (p m : ℕ) (z h : List Float) (taken : List ℕ) (r s : StarRoot) : Type 0 where
-  pub support : s .support ≡ r .support
-  pub count : s .count ≡ r .count
-  pub rank : s .rank ≡ r .rank
-  pub root : rootOn (r .count) s ≡ def.replay p m z h (placesOf r) (r .count) (rootOn (r .count) r) taken
 
 -- The root is that of the predicted P*, replayed over the elements taken. This is what is kept through a period.
 pub record Replayed (p m : ℕ) (z h pre : List Float) (taken : List ℕ) (r : StarRoot) : Type 0 where

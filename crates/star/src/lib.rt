@@ -1,47 +1,34 @@
 // filter.rs, `pivoted_root` and `StarRoot`: the square-root companion of a period's P*, for the decision on a suspect
-// element alone. It is seldom asked, so it goes by value and is small: a period that never asks pays nothing for it.
+// element alone. It is seldom asked, and a call's stack has room for it whether it is or not: so a matrix becomes its root
+// in its own place, and the root goes by value (document 01), from hand to hand in crates/period alone.
 ghost use mathlib.Core.Path.{_≡_};
 ghost use mathlib.Core.Bool.{true, not, _||_};
-ghost use Prim.Native.Nat.{_≤_, _<_, _+_};
-ghost use lib.ListN.{take, set};
+ghost use mathlib.Core.List.{List, []};
+ghost use Prim.Native.Nat.{_≤_, _<_};
+ghost use lib.ListN.{take, length};
+ghost use lib.Ieee.{Float};
 ghost use Rattle.definition.specs.Num.{ent, isZero, matrix, tabulate};
 ghost use Rattle.definition.specs.Dense.{row};
-ghost use Rattle.definition.specs.Star.{better, pivotTo, columnAt, column, leftOf, grow, pivotedRoot, loads, on, sub, subAt, uAt, wAt, shrunkAt};
+ghost use Rattle.definition.specs.Star.{better, pivotTo, columnAt, column, pivotedRoot, loads, on, sub, subAt, uAt, wAt, shrunkAt};
 ghost use Rattle.dense.specs.Views.{vec, mat, rect};
 ghost use Rattle.dense.specs.Places.{Within};
 ghost use Rattle.star.specs.Views.{
   pivotOf,
-  growingOf,
-  factorOf,
+  factor,
   projectedAt,
   Found,
   States,
   Joined,
-  Taken,
   Sound,
   Downdated,
-  Followed,
   Replayed,
 };
+ghost use Rattle.star.specs.Workspace.{picked, Rows, Placed, Grew, leftFree, withRow, flip, exchanged, Renumbered};
 
 // Where the largest diagonal entry above 0 is, or the size for none, and how large.
 struct Pivot {
     place: usize,
     best: f64,
-}
-
-// What is left of the matrix, the places used up, and the columns so far.
-struct Growing {
-    left: [f64; 64],
-    used: [bool; 8],
-    cols: [f64; 64],
-    rank: usize,
-}
-
-// A factor of a matrix: rank columns, one after the other.
-struct Factor {
-    cols: [f64; 64],
-    rank: usize,
 }
 
 // The states that the design loads on.
@@ -80,7 +67,7 @@ fn better(b: Pivot, a: &[f64; 64], used: &[bool; 8], k: usize, j: usize) -> Pivo
 }
 
 // The pivot of what is left: the largest diagonal entry at a free place.
-fn find_pivot<'a>(a: &'a [f64; 64], used: &'a [bool; 8], k: usize) -> Pivot
+fn find_pivot(a: &[f64; 64], used: &[bool; 8], k: usize) -> Pivot
     requires { ⌜ k ≤ 8 ⌝ }
     ensures { λ r. ⌜ pivotOf r ≡ pivotTo k (mat k (now (a .entry))) (take k (now (used .entry))) k ⌝ }
 {
@@ -106,7 +93,7 @@ fn column_at(a: &[f64; 64], used: &[bool; 8], k: usize, j: usize, sd: f64, i: us
 }
 
 // The column by pivot j.
-fn column<'a>(a: &'a [f64; 64], used: &'a [bool; 8], k: usize, j: usize, sd: f64) -> [f64; 8]
+fn column(a: &[f64; 64], used: &[bool; 8], k: usize, j: usize, sd: f64) -> [f64; 8]
     requires { ⌜ (k ≤ 8) × (j < k) ⌝ }
     ensures { λ r. ⌜ vec k r ≡ column k (mat k (now (a .entry))) (take k (now (used .entry))) j sd ⌝ }
 {
@@ -117,68 +104,139 @@ fn column<'a>(a: &'a [f64; 64], used: &'a [bool; 8], k: usize, j: usize, sd: f64
     out
 }
 
-// What a column leaves of the matrix.
-fn take_off(a: &mut [f64; 64], col: &[f64; 8], k: usize)
-    requires { ⌜ k ≤ 8 ⌝ }
-    ensures { λ _. ⌜ mat k (now (a .exit)) ≡ leftOf k (mat k (now (a .entry))) (vec k (now (col .entry))) ⌝ }
+// ---- a matrix becomes its root in its own place: no entry in a used row or column is read again (specs/Workspace), so
+// a column goes into its pivot's row. `order` has the rows, in the order of their columns.
+
+// Entry (i, j) of what a column leaves. A row that is used up holds a column, and stays.
+fn left_at(work: &[f64; 64], used: &[bool; 8], col: &[f64; 8], k: usize, i: usize, j: usize) -> f64
+    requires { ⌜ Within k i j ⌝ }
+    ensures { λ r. ⌜ r ≡ leftFree k (take k (now (used .entry))) (vec k (now (col .entry))) (mat k (now (work .entry))) i j ⌝ }
 {
-    dense::sized(a);
+    let x = dense::get(work, k, i, j);
+    let spent = used[i];
+    if spent {
+        return x;
+    }
+    x - dense::nth(col, k, i) * dense::nth(col, k, j)
+}
+
+// What a column leaves.
+fn take_off(work: &mut [f64; 64], used: &[bool; 8], col: &[f64; 8], k: usize)
+    requires { ⌜ k ≤ 8 ⌝ }
+    ensures { λ _. ⌜ mat k (now (work .exit))
+        ≡ matrix k k (leftFree k (take k (now (used .entry))) (vec k (now (col .entry))) (mat k (now (work .entry)))) ⌝ }
+{
+    dense::sized(work);
     for i in 0..k {
         for j in 0..k {
-            let v = dense::get(a, k, i, j) - dense::nth(col, k, i) * dense::nth(col, k, j);
-            dense::put(a, k, i, j, v);
+            let v = left_at(work, used, col, k, i, j);
+            dense::put(work, k, i, j, v);
         }
     }
 }
 
-// Place j is used up.
-fn mark(used: &mut [bool; 8], k: usize, j: usize)
-    requires { ⌜ (k ≤ 8) × (j < k) ⌝ }
-    ensures { λ _. ⌜ take k (now (used .exit)) ≡ set (take k (now (used .entry))) j true ⌝ }
+// Row i becomes x.
+fn set_row(work: &mut [f64; 64], x: &[f64; 8], k: usize, i: usize)
+    requires { ⌜ (k ≤ 8) × (i < k) ⌝ }
+    ensures { λ _. ⌜ mat k (now (work .exit)) ≡ matrix k k (withRow k i (vec k (now (x .entry))) (mat k (now (work .entry)))) ⌝ }
 {
-    used[j] = true;
+    dense::sized(work);
+    for j in 0..k {
+        let v = dense::nth(x, k, j);
+        dense::put(work, k, i, j, v);
+    }
 }
 
-// One column more, where there is one.
-fn grow(g: Growing, k: usize) -> Growing
-    requires { ⌜ (k ≤ 8) × (g .rank < k) ⌝ }
-    ensures { λ r. ⌜ (growingOf k r ≡ grow k (growingOf k g)) × (r .rank ≤ g .rank + 1) ⌝ }
+// One column more, where there is one. How many there are then.
+fn grow(
+    work: &mut [f64; 64],
+    used: &mut [bool; 8],
+    order: &mut [usize; 8],
+    rank: usize,
+    k: usize,
+) -> usize
+    requires { ⌜ (k ≤ 8) × ((rank < k) × Placed k rank (take k (now used)) (now order)) ⌝ }
+    ensures { λ r. ⌜ Grew k rank (take k (now (used .entry))) (now (order .entry)) (mat k (now (work .entry)))
+        r (take k (now (used .exit))) (now (order .exit)) (mat k (now (work .exit))) ⌝ }
 {
-    let mut g = g;
-    let b = find_pivot(&g.left, &g.used, k);
+    let b = find_pivot(work, used, k);
     let j = b.place;
     if j == k {
-        return g;
+        return rank;
     }
-    let rank = g.rank;
-    let col = column(&g.left, &g.used, k, j, float::sqrt(b.best));
-    take_off(&mut g.left, &col, k);
-    mark(&mut g.used, k, j);
-    dense::put_row(&mut g.cols, &col, rank, k);
-    g.rank = rank + 1;
-    g
+    let col = column(work, used, k, j, float::sqrt(b.best));
+    take_off(work, used, &col, k);
+    set_row(work, &col, k, j);
+    used[j] = true;
+    order[rank] = j;
+    rank + 1
 }
 
-// A factor of a k by k matrix: column after column, each by the largest diagonal entry that is left.
-fn pivoted_root(a: [f64; 64], k: usize) -> Factor
-    requires { ⌜ k ≤ 8 ⌝ }
-    ensures { λ r. ⌜ (factorOf k r ≡ pivotedRoot k (mat k a)) × (r .rank ≤ k) ⌝ }
+// The other of i and j, and any third as it is.
+fn flip(i: usize, j: usize, x: usize) -> usize
+    ensures { λ r. ⌜ r ≡ flip i j x ⌝ }
 {
-    let mut g = Growing {
-        left: a,
-        used: [false; 8],
-        cols: [0.0; 64],
-        rank: 0,
-    };
-    for i in 0..k {
-        g = grow(g, k);
+    if x == i {
+        return j;
     }
-    let c = g.cols;
-    Factor {
-        cols: c,
-        rank: g.rank,
+    if x == j {
+        return i;
+    }
+    x
+}
+
+// Rows i and j change places.
+fn exchange(work: &mut [f64; 64], k: usize, i: usize, j: usize)
+    requires { ⌜ Within k i j ⌝ }
+    ensures { λ _. ⌜ mat k (now (work .exit)) ≡ matrix k k (exchanged k i j (mat k (now (work .entry)))) ⌝ }
+{
+    let x = dense::row_to_vec(work, k, k, i);
+    let y = dense::row_to_vec(work, k, k, j);
+    set_row(work, &y, k, i);
+    set_row(work, &x, k, j);
+}
+
+// And the first n numbers in `order` go with them.
+fn renumber(order: &mut [usize; 8], n: usize, i: usize, j: usize)
+    requires { ⌜ (n ≤ 8) × (length (now order) ≡ 8) ⌝ }
+    ensures { λ _. ⌜ Renumbered n i j (now (order .entry)) (now (order .exit)) ⌝ }
+{
+    for l in 0..n {
+        let x = order[l];
+        order[l] = flip(i, j, x);
     }
 }
+
+// The columns one after the other: column l, from row order[l], into row l.
+fn arrange(work: &mut [f64; 64], order: &mut [usize; 8], n: usize, k: usize)
+    requires { ⌜ (k ≤ 8) × ((n ≤ k) × Rows k n (now order)) ⌝ }
+    ensures { λ _. ⌜ rect n k (now (work .exit)) ≡ matrix n k (picked k (now (order .entry)) (mat k (now (work .entry)))) ⌝ }
+{
+    dense::sized(work);
+    for l in 0..n {
+        let j = order[l];
+        exchange(work, k, l, j);
+        renumber(order, n, l, j);
+    }
+}
+
+// A k by k matrix becomes its factor: column after column, each by the largest diagonal entry that is left. How many
+// there are.
+fn pivoted_root(work: &mut [f64; 64], k: usize) -> usize
+    requires { ⌜ k ≤ 8 ⌝ }
+    ensures { λ r. ⌜ (factor k r (now (work .exit)) ≡ pivotedRoot k (mat k (now (work .entry)))) × (r ≤ k) ⌝ }
+{
+    let mut used = [false; 8];
+    let mut order = [0; 8];
+    let mut rank = 0;
+    for i in 0..k {
+        rank = grow(work, &mut used, &mut order, rank, k);
+    }
+    arrange(work, &mut order, rank, k);
+    rank
+}
+
+// ---- the root at work
 
 // Entry l of u = S' z.
 fn u_at(cols: &[f64; 64], r: usize, k: usize, z: &[f64; 8], l: usize) -> f64
@@ -318,18 +376,17 @@ fn sub_at(pre: &[f64; 64], m: usize, s: &[usize; 8], k: usize, a: usize, b: usiz
 }
 
 // A matrix on the support.
-fn sub(pre: &[f64; 64], m: usize, s: &[usize; 8], k: usize) -> [f64; 64]
+fn sub(out: &mut [f64; 64], pre: &[f64; 64], m: usize, s: &[usize; 8], k: usize)
     requires { ⌜ States m k (now s) ⌝ }
-    ensures { λ r. ⌜ mat k r ≡ sub m k (take k (now (s .entry))) (mat m (now (pre .entry))) ⌝ }
+    ensures { λ _. ⌜ mat k (now (out .exit)) ≡ sub m k (take k (now (s .entry))) (mat m (now (pre .entry))) ⌝ }
 {
-    let mut out = [0.0; 64];
+    dense::sized(out);
     for a in 0..k {
         for b in 0..k {
             let v = sub_at(pre, m, s, k, a, b);
-            dense::put(&mut out, k, a, b, v);
+            dense::put(out, k, a, b, v);
         }
     }
-    out
 }
 
 impl StarRoot {
@@ -364,37 +421,45 @@ impl StarRoot {
         self
     }
 
-    // The factor of the predicted P*, taken through the period's first n updates.
-    pub fn replay(
-        p: usize,
-        m: usize,
-        design: &[f64; 64],
-        hs: &[f64; 64],
-        pre: &[f64; 64],
-        taken: &[usize; 8],
-        n: usize,
-    ) -> StarRoot
-        requires { ⌜ (p ≤ 8) × ((m ≤ 8) × Taken p n (now taken)) ⌝ }
-        ensures { λ r. ⌜ Replayed p m (rect p m (now (design .entry))) (mat p (now (hs .entry)))
-            (mat m (now (pre .entry))) (take n (now (taken .entry))) r ⌝ }
+    // The factor of a period's predicted P*: no update is followed yet.
+    pub fn build(p: usize, m: usize, design: &[f64; 64], pre: &[f64; 64]) -> StarRoot
+        requires { ⌜ (p ≤ 8) × (m ≤ 8) ⌝ }
+        ensures { λ r. ⌜ ((h : List Float) → Replayed p m (rect p m (now (design .entry))) h (mat m (now (pre .entry))) [] r) ⌝ }
     {
         let found = find_support(design, p, m);
-        let s = found.places;
+        let support = found.places;
         let k = found.count;
-        let f = pivoted_root(sub(pre, m, &s, k), k);
-        let c = f.cols;
-        let first = StarRoot {
-            support: s,
+        let mut cols = [0.0; 64];
+        sub(&mut cols, pre, m, &support, k);
+        let rank = pivoted_root(&mut cols, k);
+        StarRoot {
+            support,
             count: k,
-            cols: c,
-            rank: f.rank,
-        };
-        follow(first, p, m, design, hs, taken, n)
+            cols,
+            rank,
+        }
     }
 }
 
+// F of element i of the period, by the root.
+pub fn ask(
+    root: StarRoot,
+    p: usize,
+    m: usize,
+    design: &[f64; 64],
+    hs: &[f64; 64],
+    i: usize,
+) -> Projected
+    requires { ⌜ (p ≤ 8) × ((i < p) × Sound m root) ⌝ }
+    ensures { λ x. ⌜ (x .root ≡ root)
+        × (x .f ≡ projectedAt root (row m (rect p m (now (design .entry))) i) (ent p (mat p (now (hs .entry))) i i)) ⌝ }
+{
+    let z = dense::row_to_vec(design, p, m, i);
+    root.project(&z, dense::get(hs, p, i, i), m)
+}
+
 // The update for element i of the period.
-fn follow_one(
+pub fn follow(
     root: StarRoot,
     p: usize,
     m: usize,
@@ -408,26 +473,4 @@ fn follow_one(
 {
     let z = dense::row_to_vec(design, p, m, i);
     root.downdate(&z, dense::get(hs, p, i, i), m)
-}
-
-// The updates for the first n elements in `taken`, in order.
-fn follow(
-    root: StarRoot,
-    p: usize,
-    m: usize,
-    design: &[f64; 64],
-    hs: &[f64; 64],
-    taken: &[usize; 8],
-    n: usize,
-) -> StarRoot
-    requires { ⌜ (p ≤ 8) × (Sound m root × Taken p n (now taken)) ⌝ }
-    ensures { λ r. ⌜ Followed p m (rect p m (now (design .entry))) (mat p (now (hs .entry)))
-        (take n (now (taken .entry))) root r ⌝ }
-{
-    let mut root = root;
-    for t in 0..n {
-        let i = taken[t];
-        root = follow_one(root, p, m, design, hs, i);
-    }
-    root
 }
