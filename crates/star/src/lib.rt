@@ -1,6 +1,6 @@
 // filter.rs, `pivoted_root` and `StarRoot`: the square-root companion of a period's P*, for the decision on a suspect
-// element alone. It is seldom asked, and a call's stack has room for it whether it is or not: so a matrix becomes its root
-// in its own place, and the root goes by value (document 01), from hand to hand in crates/period alone.
+// element alone. It is seldom asked, and a call's stack has room for it whether it is or not. So a matrix becomes its root
+// in its own place; and the root, which goes by value as document 01 has it, is in one loop of crates/period alone.
 ghost use mathlib.Core.Path.{_≡_};
 ghost use mathlib.Core.Bool.{true, not, _||_};
 ghost use mathlib.Core.List.{List, []};
@@ -104,8 +104,8 @@ fn column(a: &[f64; 64], used: &[bool; 8], k: usize, j: usize, sd: f64) -> [f64;
     out
 }
 
-// ---- a matrix becomes its root in its own place: no entry in a used row or column is read again (specs/Workspace), so
-// a column goes into its pivot's row. `order` has the rows, in the order of their columns.
+// ---- a matrix becomes its root in its own place: no entry in a used row or column is read again (laws Unread), so a
+// column goes into its pivot's row. `order` has these rows, in the order of the columns.
 
 // Entry (i, j) of what a column leaves. A row that is used up holds a column, and stays.
 fn left_at(work: &[f64; 64], used: &[bool; 8], col: &[f64; 8], k: usize, i: usize, j: usize) -> f64
