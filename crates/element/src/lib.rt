@@ -12,7 +12,7 @@ ghost use Rattle.element.specs.Views.{carried, fixed_of, Updated, Entered, Recor
 use promise::Cause;
 
 // How an element ended: nothing moved, or it was taken; or it is left as it was, since the star root has to say.
-#[derive(Drop)]
+#[derive(Clone, Copy)]
 pub enum Step {
     Passed,
     Taken,

@@ -1,7 +1,7 @@
 // The arguments of the panel's two programs: which there are, and the files that they name.
 
 // `svg`, `save`, `from` and `file` are places among the arguments; 0: none.
-#[derive(Drop)]
+#[derive(Clone, Copy)]
 pub struct Options {
     pub smooth: bool,
     pub table: bool,

@@ -3,7 +3,7 @@
 
 // The answer: the log-likelihood; how many periods were diffuse, how many readings were not NaN, how many records are usual or diffuse; and the first
 // period whose covariances, and the first whose means, have a number that is not finite: that period plus 1, or 0 for none.
-#[derive(Drop)]
+#[derive(Clone, Copy)]
 pub struct Answer {
     pub loglik: f64,
     pub d_diffuse: usize,
@@ -14,7 +14,7 @@ pub struct Answer {
 }
 
 // Refused with its number, 1 to 12, 14 or 15, or answered.
-#[derive(Drop)]
+#[derive(Clone, Copy)]
 pub enum Outcome {
     Refused(u8),
     Answered(Answer),
@@ -22,7 +22,7 @@ pub enum Outcome {
 
 // Why an element was passed over: its reading is a gap; or F* is too small against its scale; or it is below the dust line; or it was suspect, and the
 // star root, replayed over the elements taken, failed it.
-#[derive(Drop)]
+#[derive(Clone, Copy)]
 pub enum Cause {
     Gap,
     TooSmall,
@@ -31,14 +31,14 @@ pub enum Cause {
 }
 
 // What became of an element: it was passed over, with the cause; v and F*; v, F* and F∞.
-#[derive(Drop)]
+#[derive(Clone, Copy)]
 pub enum Kind {
     Skipped(Cause),
     Usual(f64, f64),
     Diffuse(f64, f64, f64),
 }
 
-#[derive(Drop)]
+#[derive(Clone, Copy)]
 pub struct Record {
     pub kind: Kind,
 }
@@ -57,7 +57,7 @@ pub const BELOW_DUST: u8 = 4;
 pub const FAILED_REPLAY: u8 = 5;
 
 // A record as numbers: its kind, and the three numbers, the unused ones +0.0.
-#[derive(Drop)]
+#[derive(Clone, Copy)]
 pub struct FlatRecord {
     pub kind: u8,
     pub v: f64,

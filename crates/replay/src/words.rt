@@ -84,7 +84,7 @@ fn from(case: &[u8], j: usize) -> usize
     least(at, WORDS)
 }
 
-#[derive(Drop)]
+#[derive(Clone, Copy)]
 pub struct Span {
     pub from: usize,
     pub to: usize,

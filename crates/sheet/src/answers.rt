@@ -1,7 +1,7 @@
 // What the reader answers.
 
 // How far a number may be off: a standard deviation, or else a variance. Not given: false, true, 0.
-#[derive(Drop)]
+#[derive(Clone, Copy)]
 pub struct Spread {
     pub given: bool,
     pub sd: bool,
@@ -9,7 +9,7 @@ pub struct Spread {
 }
 
 // The clock at the start. Not given, or unknown: known is false.
-#[derive(Drop)]
+#[derive(Clone, Copy)]
 pub struct Start {
     pub given: bool,
     pub known: bool,
@@ -19,7 +19,7 @@ pub struct Start {
 }
 
 // Period 0, inputs 0, rate_keeps 0, season 0: not given.
-#[derive(Drop)]
+#[derive(Clone, Copy)]
 pub struct Settings {
     pub period: u64,
     pub inputs: u64,
@@ -38,7 +38,7 @@ pub struct Settings {
 }
 
 // What should have stood where a text is wrong.
-#[derive(Drop)]
+#[derive(Clone, Copy)]
 pub enum Wanted {
     Line,
     Seconds,
@@ -58,7 +58,7 @@ pub enum Wanted {
 }
 
 // Lines count from 1. text[from..to] is the word that was found; empty: the end of the line, or of the text.
-#[derive(Drop)]
+#[derive(Clone, Copy)]
 pub struct Wrong {
     pub line: u64,
     pub from: usize,
@@ -67,7 +67,7 @@ pub struct Wrong {
 }
 
 // The settings and how many periods; or the first thing that is wrong.
-#[derive(Drop)]
+#[derive(Clone, Copy)]
 pub enum Sheet {
     Good(Settings, usize),
     Bad(Wrong),
