@@ -1,6 +1,8 @@
 // filter.rs, the verdict on one element of a period: the tests that it has to pass, and what they find. The first that
 // it fails is the cause why it is passed over. What a finding brings is the crate element's. The star root is seldom
 // asked. So `judge` goes without it and says where it has to be asked, and `is_usual` has its F at hand.
+#![tactic(auto)]
+
 ghost use Rattle.std.specs.Prelude.{◌≡◌, true, false, ◌≤◌};
 ghost use Rattle.definition.specs.Cov.{f_star_by, f_inf_by, diffuse_test, scaled_test, bound, against, dust};
 ghost use Rattle.dense.specs.Views.{vec, mat};

@@ -1,4 +1,6 @@
 // Both passes back over the periods, one after the other: the covariances' is crates/cov_back, the means' crates/mean_back.
+#![tactic(auto)]
+
 ghost use Rattle.std.specs.Prelude.{length};
 ghost use Rattle.laws.specs.Flat.{flat_in};
 ghost use Rattle.backward.specs.View.{ReadyBack, Back};

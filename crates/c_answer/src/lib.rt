@@ -1,5 +1,7 @@
 // How an exported call tells its outcome, by the C calling convention: 0 says that the answer stands in its six places; any other is the refusal's number,
 // and these stay as they were.
+#![tactic(auto)]
+
 ghost use Rattle.promise.specs.Exported.{places, Told};
 
 // The outcome as a number, and the answer in its places.

@@ -1,5 +1,7 @@
 // The smoother's call by the C calling convention: numbers as themselves, a slice as pointer and length. It asks nothing of its caller. A crate of its own,
 // and so an object of its own in libgoxundar.a (DECISIONS 74). Its name ends in the interface's number, which the header puts there.
+#![tactic(auto)]
+
 ghost use Rattle.promise.specs.Lent.{given, lent_smooth};
 ghost use Rattle.promise.specs.Exported.{is_yes, places, SmoothedC};
 

@@ -1,6 +1,8 @@
 // A stretch's call by the C calling convention: numbers as themselves, a slice as pointer and length, yes as any byte but 0. It asks nothing of its
 // caller. A crate of its own, and so an object of its own in libgoxundar.a (DECISIONS 74). Its name ends in the interface's number, which the header
 // puts there.
+#![tactic(auto)]
+
 ghost use Rattle.promise.specs.Lent.{given, lent, given_stretch, lent_stretch};
 ghost use Rattle.promise.specs.Exported.{is_yes, places, StretchedC};
 

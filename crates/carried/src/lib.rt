@@ -1,5 +1,7 @@
 // The state that a run carries from one stretch of periods to the next, lent as one part: the mean, P*, P∞, its root, P∞ with
 // nothing resolved. What lies behind them stays. An empty part: the run begins at the start, and its state is not kept.
+#![tactic(auto)]
+
 ghost use Rattle.std.specs.Prelude.{◌≡◌, ◌≤◌, ◌+◌, length, take, drop};
 ghost use Rattle.dense.specs.Views.{vec, mat};
 ghost use Rattle.model.specs.Places.{StartFits};

@@ -1,4 +1,6 @@
 // The cells of a table's line: words and numbers, each in its field of a buffer of bytes; and words with no field.
+#![tactic(auto)]
+
 mod numbers;
 mod words;
 

@@ -18,7 +18,7 @@ fn word(out: &mut [u8], at: usize, width: usize, pad: usize, text: &[u8]) -> boo
     decimal::blanks(out, at, width);
     let from = at + pad;
     let to = from + text.len();
-    bytes::copy(text, &mut out[from..to]);
+    out[from..to].copy_from_slice(text);
     true
 }
 

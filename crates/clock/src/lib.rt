@@ -3,6 +3,8 @@
 //
 // Why thousandths of a ppb: the library's test for a diffuse period is absolute, and P∞ starts with ones. In ppb, two weeks of hourly periods with no
 // check before the first would pass for a rate that is known. In thousandths it takes ten years (docs/PANEL.md).
+#![tactic(auto)]
+
 ghost use Rattle.std.specs.Prelude.{◌≡◌, ◌/◌, ◌%◌, ◌<◌, length, if◌then◌else◌};
 ghost use Rattle.definition.specs.Num.{at};
 ghost use Rattle.clock.specs.Transition.{double_of, kept_of, keeping_of, transition_of, in_season, Seasons};

@@ -1,5 +1,7 @@
 // The covariance pass: the periods in order. Each is handed its own block of every output and can touch nothing else.
 // Where it begins and what it keeps of the state is crates/carried.
+#![tactic(auto)]
+
 ghost use Rattle.std.specs.Prelude.{◌≡◌, cond, map, ◌≤◌, ◌*◌, ◌+◌, length};
 ghost use Rattle.definition.specs.Cov.{period_of, cov_run};
 ghost use Rattle.definition.specs.Inputs.{class_of, gap_rows, system_from};

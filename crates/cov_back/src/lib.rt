@@ -1,5 +1,7 @@
 // smoother.rs, the covariances' way back: a period's elements last to first, its smoothed covariance, the step to the period before, and the pass
 // from the last period to the first. It takes the decisions, the gain vectors and the predicted covariances as the covariance pass left them.
+#![tactic(auto)]
+
 ghost use Rattle.std.specs.Prelude.{◌≡◌, cond, List, ◌≤◌, ◌*◌, ◌+◌, length, Float};
 ghost use Rattle.definition.specs.Dense.{quad, minus};
 ghost use Rattle.definition.specs.Run.{scan_back, join};

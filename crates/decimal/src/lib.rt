@@ -1,4 +1,6 @@
 // Numbers as text: whole numbers read, the words of a line, doubles as whole numbers of a decimal unit, and their printing with fixed decimals.
+#![tactic(auto)]
+
 pub mod answers;
 mod printed;
 mod reading;

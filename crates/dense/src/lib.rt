@@ -1,5 +1,7 @@
 // dense.rs: vectors in [f64; 8] and matrices in [f64; 64], row by row. A contract speaks of the places in use:
 // `vec m` of a vector, `mat m` of a square matrix, `rect r c` of one of r rows and c columns.
+#![tactic(auto)]
+
 ghost use Rattle.std.specs.Prelude.{◌≡◌, List, ◌++◌, ◌≤◌, ◌<◌, ◌+◌, ◌*◌, Float, set, length};
 ghost use Rattle.definition.specs.Num.{◌⊕◌, ◌⊗◌, is_zero, tabulate, matrix, zeros, at, ent, sum_from};
 ghost use Rattle.definition.specs.Dense.{dot, axpy, over, scaled, row, mat_vec, mat_tVec, mat_tVec_at};

@@ -1,6 +1,8 @@
 // filter.rs, one element of a period on the covariance track: the updates and the record that its verdict brings. Its
 // mean is the crate mean's. The star root is seldom asked. So `element` goes without it and stops at an element that
 // needs it, and `element_by_root` has its F at hand.
+#![tactic(auto)]
+
 ghost use Rattle.std.specs.Prelude.{◌≡◌, false, ◌≤◌, ◌<◌};
 ghost use Rattle.definition.specs.Cov.{k1_of, root_less, skipped, usual, sd_of, sd_at};
 ghost use Rattle.definition.specs.Dense.{outer_sub, over};

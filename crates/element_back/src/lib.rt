@@ -1,5 +1,7 @@
 // smoother.rs, one element back through the covariances: N0, N1 and N2 from those after it; and L and K1, of which the means' way back takes entries
 // too; and the period before one. Gains here multiply by 1 / F.
+#![tactic(auto)]
+
 ghost use Rattle.std.specs.Prelude.{◌≡◌, ◌≤◌, ◌-◌, Bool, cond, List, Float};
 ghost use Rattle.definition.specs.Dense.{plus, mul, quad};
 ghost use Rattle.definition.specs.Cov.{usual, diffuse};

@@ -1,5 +1,7 @@
 // What the library makes of a sheet: its call, the numbers of its answer that are shown, and the kinds, which say what became of each check. The other
 // outputs of 4096 periods stand on the stack, and a T for each, 2.4 MB.
+#![tactic(auto)]
+
 ghost use Rattle.std.specs.Prelude.{◌≤◌};
 
 use sheet::answers::Settings;

@@ -1,4 +1,6 @@
 // filter.rs: the filter's call: the checks (crates/model), the run and refusal 12 with its blanks (crates/judged), the answer.
+#![tactic(auto)]
+
 ghost use Rattle.std.specs.Prelude.{length};
 ghost use Rattle.forward.specs.View.{FitOn};
 ghost use Rattle.promise.specs.Lent.{model_of, offsets_of, cov_parts, mean_parts, given, lent};

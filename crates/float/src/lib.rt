@@ -1,4 +1,6 @@
 // What the language lacks on f64: the magnitude, the larger of a value and 0, the tests, the square root, the logarithm.
+#![tactic(auto)]
+
 mod log;
 mod parts;
 mod root;

@@ -1,5 +1,7 @@
 // Both passes over the periods, one after the other, and what ran off in them: the covariance pass is crates/cov, the mean pass crates/mean, the reports
 // are crates/reports.
+#![tactic(auto)]
+
 ghost use Rattle.std.specs.Prelude.{◌≡◌, length};
 ghost use Rattle.promise.specs.Lent.{model_of, offsets_of, cov_parts, mean_parts};
 ghost use Rattle.forward.specs.View.{Few, FitOn, Ran, counted_on, reported_on};

@@ -1,5 +1,6 @@
 // The library, under a caller's names, from Rattle. None of its calls asks anything of its caller. For C they stand in crates/c_filter, crates/c_smooth and
 // crates/c_stretch.
+#![tactic(auto)]
 
 // The filter's call, the smoother's and a stretch's, as crates/filter, crates/smoother and crates/stretch have them: refused with its number, or
 // answered. And the first two with a list of records lent too, as crates/records and crates/records_smooth have them.

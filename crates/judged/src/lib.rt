@@ -1,4 +1,6 @@
 // A stretch of periods past its checks: the run (crates/forward), and in the last one refusal 12, by crates/blank.
+#![tactic(auto)]
+
 ghost use Rattle.std.specs.Prelude.{◌≡◌, length};
 ghost use Rattle.definition.specs.Outcome.{ending_of, number_of};
 ghost use Rattle.promise.specs.Lent.{model_of, offsets_of, cov_parts, mean_parts};

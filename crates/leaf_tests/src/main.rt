@@ -1,4 +1,6 @@
 // Runs each leaf on the groups of vectors of tools/leaf-vectors, which come by standard input, and compares bits, all NaNs as one.
+#![tactic(auto)]
+
 mod matrices;
 mod vectors;
 mod words;

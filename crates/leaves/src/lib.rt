@@ -1,5 +1,7 @@
 // The leaves by the C calling convention, for timing and for comparisons at scale. A size above 8 does nothing, and answers 0 or false. The kernels that
 // tell whether all results are finite hand that word out.
+#![tactic(auto)]
+
 ghost use Rattle.std.specs.Prelude.{◌≡◌};
 ghost use Rattle.std.specs.Float.Ieee.{is_nan};
 ghost use Rattle.definition.specs.Num.{abs_of, max0, is_infinite, is_finite};

@@ -1,5 +1,7 @@
 // The mean track: one element, one period, the mean pass. It takes the decisions and the gain vectors as the covariance pass left them in the
 // flat parts, and works out each element's record, the means and the log-likelihood.
+#![tactic(auto)]
+
 ghost use Rattle.std.specs.Prelude.{◌≡◌, ◌≤◌, ◌*◌, ◌+◌, length};
 ghost use Rattle.definition.specs.Num.{at};
 ghost use Rattle.definition.specs.Dense.{dot, axpy, over, row};

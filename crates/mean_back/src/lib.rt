@@ -1,5 +1,7 @@
 // smoother.rs, the mean half of the way back: r0 and r1 from the last period to the first, and the smoothed means. It takes the records, the gain
 // vectors and the predicted moments as the two passes forward left them in the flat parts. Gains here multiply by 1 / F.
+#![tactic(auto)]
+
 ghost use Rattle.std.specs.Prelude.{◌≡◌, ◌≤◌, ◌<◌, ◌*◌, cond, length, ltb};
 ghost use Rattle.definition.specs.Num.{◌⊕◌, ◌⊗◌, is_zero, 1ᶠ, at};
 ghost use Rattle.definition.specs.Dense.{axpy, scaled, row, mat_vec, mat_vec_at, mat_tVec, mat_tVec_at};

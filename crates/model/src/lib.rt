@@ -1,4 +1,6 @@
 // model.rs: the checks of a call's inputs, with the noise R Q R'; the period's design and transition, the start.
+#![tactic(auto)]
+
 ghost use Rattle.std.specs.Prelude.{◌≡◌, map, ◌<◌, ◌≤◌, ◌-◌, ◌*◌, ◌/◌, min, length, drop};
 ghost use Rattle.definition.specs.Run.{any_of};
 ghost use Rattle.definition.specs.Inputs.{noise_of, start_from, is_infinity, class_of};

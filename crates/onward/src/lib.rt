@@ -1,5 +1,7 @@
 // A stretch of a run that is past its checks, by the whole lists, which count from the run's first period: the periods go by what those before them
 // have left of the lists (crates/judged).
+#![tactic(auto)]
+
 ghost use Rattle.std.specs.Prelude.{length};
 ghost use Rattle.promise.specs.Lent.{model_of, offsets_of, cov_parts, mean_parts};
 ghost use Rattle.forward.specs.View.{FitOn};

@@ -1,4 +1,5 @@
 // The arguments of the panel's two programs: which there are, and the files that they name.
+#![tactic(auto)]
 
 // `svg`, `save`, `from` and `file` are places among the arguments; 0: none.
 #[derive(Clone, Copy)]

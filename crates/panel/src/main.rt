@@ -1,5 +1,7 @@
 // The panel: reads a text that describes a clock and its checks against radio time, and prints what the library makes of it, as docs/PANEL.md says.
 // What goes wrong is told in one line on standard error, and then nothing else is written.
+#![tactic(auto)]
+
 ghost use Rattle.std.specs.Prelude.{◌≤◌};
 
 // A sheet that fills the buffer may go on past it.

@@ -2,6 +2,8 @@
 // It sees which readings are gaps, and no reading, mean or intercept. A period goes in up to three stretches: until an
 // element is taken; then, the standard deviations worked out, until one is doubtful; then with the star root, which is
 // built there and kept to the period's end.
+#![tactic(auto)]
+
 ghost use Rattle.std.specs.Prelude.{◌≡◌, true, false, ◌≤◌, ◌<◌, ◌*◌, length};
 ghost use Rattle.definition.specs.Run.{scan};
 ghost use Rattle.definition.specs.Cov.{element_of, is_live, step_star, step_inf, stepped};

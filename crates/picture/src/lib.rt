@@ -1,5 +1,7 @@
 // The picture: an SVG of 800 by 400 with the offset over time, filtered and smoothed, each with a band of two standard deviations either side, and
 // the checks by what became of them.
+#![tactic(auto)]
+
 mod plot;
 
 ghost use Rattle.std.specs.Prelude.{◌<◌, ◌≤◌};

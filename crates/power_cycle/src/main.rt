@@ -1,5 +1,7 @@
 // The panel over a power cycle: a sheet that is one stretch of a run. It goes on from a saved run, or begins one, and is saved, or is the last. A program
 // of its own: with the smoother's call beside a stretch's, the check of one would take more than 3 GB. tools/panel chooses between the two.
+#![tactic(auto)]
+
 mod saved;
 
 ghost use Rattle.std.specs.Prelude.{◌≤◌};

@@ -1,5 +1,7 @@
 // dense.rs, a matrix with a matrix: A B, A B', A' B, A', T P T' and A' N B, over the places of crates/dense. Every sum is document 01's.
 // Each product of two also tells whether all of it is finite; a transpose and a product of three do not.
+#![tactic(auto)]
+
 ghost use Rattle.std.specs.Prelude.{◌≡◌, ◌≤◌, ◌<◌};
 ghost use Rattle.definition.specs.Num.{tabulate};
 ghost use Rattle.definition.specs.Dense.{product, product_at, mul, transposed, transpose, sandwich, quad};

@@ -1,5 +1,6 @@
 // The words of the promises: what a call answers with, and the record of an element. What the calls promise of them is in specs/. No function
 // stands here.
+#![tactic(auto)]
 
 // The answer: the log-likelihood; how many periods were diffuse, how many readings were not NaN, how many records are usual or diffuse; and the first
 // period whose covariances, and the first whose means, have a number that is not finite: that period plus 1, or 0 for none.

@@ -1,5 +1,7 @@
 // The element record as a struct that holds an enum: to its flat form and back, into and out of a lent list of records, and a run's flat records
 // laid out as such a list.
+#![tactic(auto)]
+
 ghost use Rattle.std.specs.Prelude.{◌≡◌, set, get_or};
 ghost use Rattle.definition.specs.Num.{at};
 ghost use Rattle.definition.specs.Parts.{cause_no};

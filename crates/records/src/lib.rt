@@ -1,5 +1,7 @@
 // The filter's call with one lent part more: a list of records, which holds the run's records afterwards. The inputs share a lifetime, and so do the
 // outputs that are not read again. The smoother's is in crates/records_smooth, which goes by the same laws.
+#![tactic(auto)]
+
 ghost use Rattle.std.specs.Prelude.{◌≡◌};
 ghost use Rattle.promise.specs.Lent.{model_of, offsets_of, cov_parts, mean_parts, given, lent};
 ghost use Rattle.promise.specs.Calls.{Promise};

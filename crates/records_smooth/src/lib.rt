@@ -1,4 +1,6 @@
 // The smoother's call with one lent part more: a list of records, as crates/records has it of the filter's, and by the same laws.
+#![tactic(auto)]
+
 ghost use Rattle.promise.specs.Lent.{model_of, offsets_of, cov_parts, mean_parts, given, lent_smooth};
 ghost use Rattle.promise.specs.Calls.{PromiseSmooth};
 ghost use Rattle.promise.specs.WithRecords.{smooth_outcome_with_records, SmoothedRecords};

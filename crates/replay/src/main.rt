@@ -1,6 +1,7 @@
 // Replays a case file (oracle/FORMAT.md), which comes by standard input: each case's two calls are made, of the filter and of the
 // smoother, and all that they answer and leave is compared bit for bit, all NaNs as one. Prints how many cases there were and how many differ, and
 // the first difference.
+#![tactic(auto)]
 
 mod found;
 mod sides;

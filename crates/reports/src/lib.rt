@@ -1,5 +1,7 @@
 // The reports on numbers that ran off: the first period whose stored moments have a number that is not finite, plus 1, or 0 for none. Place n says
 // whether there is anything to look for: what has run off stays so to the end (laws RunsOff), but for P∞, which is cleared where the diffuse state ends.
+#![tactic(auto)]
+
 ghost use Rattle.std.specs.Prelude.{◌≡◌, ◌||◌, cond, ◌*◌, length};
 ghost use Rattle.definition.specs.Num.{tabulate};
 ghost use Rattle.definition.specs.Refusals.{not_finite};

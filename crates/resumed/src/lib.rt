@@ -1,6 +1,8 @@
 // What the library makes of a sheet that is one stretch of a run: its call, which begins the run or goes on from the bytes of a saved one, the numbers of
 // its answer that are shown, and the kinds, which say what became of each check. The other outputs of 4096 periods stand on the stack, and a T for each,
 // 2.0 MB.
+#![tactic(auto)]
+
 ghost use Rattle.std.specs.Prelude.{◌≤◌};
 
 use sheet::answers::Settings;

@@ -1,4 +1,6 @@
 // What is shown of each period: what became of its two checks, and eight numbers.
+#![tactic(auto)]
+
 ghost use Rattle.std.specs.Prelude.{◌≡◌, ◌+◌, ◌*◌, ◌<◌, ◌≤◌, length, slice_set};
 ghost use Rattle.std.proofs.lemmas.List.Edits.{sets};
 ghost use Rattle.rows.specs.Rows.{byte_at, num_at, time_of, open_of, offset_open_of, rate_open_of, deviation_of, half_of};

@@ -1,4 +1,6 @@
 // A saved run's bytes: tested, loaded, saved. docs/SAVED.md has their places.
+#![tactic(auto)]
+
 mod numbers;
 
 ghost use Rattle.std.specs.Prelude.{◌≡◌, not, ◌∷◌, [], map, ◌+◌, ◌*◌, ◌≤◌, length, take, drop, eqb};

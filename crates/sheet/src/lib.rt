@@ -1,4 +1,6 @@
 // The panel's text, read: settings and radio checks, line by line, into a struct and an array of readings.
+#![tactic(auto)]
+
 pub mod answers;
 mod effects;
 mod faults;

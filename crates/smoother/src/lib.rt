@@ -1,4 +1,6 @@
 // smoother.rs: the smoother's call: its checks, the filter's run (crates/filter), then both passes back (crates/backward).
+#![tactic(auto)]
+
 ghost use Rattle.promise.specs.Lent.{given, lent_smooth};
 ghost use Rattle.promise.specs.Calls.{Smoothed};
 

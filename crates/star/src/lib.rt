@@ -1,6 +1,8 @@
 // filter.rs, `pivoted_root` and `StarRoot`: the square-root companion of a period's P*, for the decision on a suspect
 // element alone. It is seldom asked, and a call's stack has room for it whether it is or not. So a matrix becomes its root
 // in its own place; and the root, which goes by value as document 01 has it, is in one loop of crates/period alone.
+#![tactic(auto)]
+
 ghost use Rattle.std.specs.Prelude.{◌≡◌, true, not, ◌||◌, List, [], ◌≤◌, ◌<◌, take, length, Float};
 ghost use Rattle.definition.specs.Num.{ent, is_zero, matrix, tabulate};
 ghost use Rattle.definition.specs.Dense.{row};

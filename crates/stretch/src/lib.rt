@@ -1,5 +1,7 @@
 // A stretch's call: the checks (crates/stretch_checks), where the run stands, the periods with refusal 12 (crates/onward), and the run saved
 // (crates/saved).
+#![tactic(auto)]
+
 ghost use Rattle.std.specs.Prelude.{◌≡◌, false, cond, ◌+◌, ◌*◌, ◌≤◌, length};
 ghost use Rattle.definition.specs.Run.{lay};
 ghost use Rattle.definition.specs.Saved.{saved_need, saved_of};

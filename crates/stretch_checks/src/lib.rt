@@ -1,4 +1,6 @@
 // The checks of a stretch's call: refusals 1 to 11, 15, and how far the lists reach. What they have worked out is handed on.
+#![tactic(auto)]
+
 ghost use Rattle.std.specs.Prelude.{◌≡◌, false, ◌&&◌, ◌||◌, cond, not, [], ◌∷◌, map, ◌+◌, ◌*◌, ◌≤◌, length, eqb, leb};
 ghost use Rattle.definition.specs.Run.{any_of};
 ghost use Rattle.definition.specs.Inputs.{is_infinity, class_of};

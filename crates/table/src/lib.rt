@@ -1,4 +1,6 @@
 // The panel's table: a line for each period, then the run's counts, and where numbers ran off a line that says so.
+#![tactic(auto)]
+
 mod closing;
 
 ghost use Rattle.std.specs.Prelude.{◌≡◌, ◌+◌, ◌≤◌, ◌<◌};

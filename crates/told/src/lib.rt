@@ -1,5 +1,7 @@
 // What goes wrong with the panel, told on standard error in one line: a wrong line of the sheet, a refusal of the library's, wrong arguments, a file
 // that can't be opened or written.
+#![tactic(auto)]
+
 ghost use Rattle.std.specs.Prelude.{◌≡◌, ◌≤◌, length};
 
 use sheet::answers::{Wanted, Wrong};

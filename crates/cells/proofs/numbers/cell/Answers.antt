@@ -1,0 +1,11 @@
+-- By the test: a wide field holds what is said.
+use Rattle.cells.proofs.Laws.{too_long, wide}
+use Rattle.cells.proofs.numbers.cell.Goals as goal
+
+pub returns-then-width-lt9 : goal.returns-then-width-lt9
+returns-then-width-lt9 c = let a = c.args in too_long 9 a.at a.width _ a.out.now c.if-width-lt9.true
+
+pub returns : goal.returns
+returns c =
+    let a = c.args in
+    wide a.at a.width a.decimals a.u a.out.now c.said.result c.said.new.out c.if-width-lt9.false c.said.ensures

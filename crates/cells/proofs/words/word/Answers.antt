@@ -1,0 +1,22 @@
+-- The field blank, then the word over the blanks.
+use mathlib.Core.List.{◌++◌}
+use Prim.Native.Nat.{◌+◌, ◌-◌}
+use native.Mathlib.Omega.{arith}
+use lib.ListN.{length, replicate}
+use Rattle.cells.proofs.Laws.{laid, yes, past_end}
+use Rattle.cells.proofs.words.word.Goals as goal
+
+pub returns-then-out-at : goal.returns-then-out-at
+returns-then-out-at c = let a = c.args in past_end (length a.text.now) a.at a.width _ a.out.now (omega (arith, c.if-out-at.true))
+
+pub returns-then-out-at-2 : goal.returns-then-out-at-2
+returns-then-out-at-2 c = let a = c.args in past_end (length a.text.now) a.at a.width _ a.out.now (omega (arith, c.if-out-at.false, c.if-out-at-2.true))
+
+pub returns : goal.returns
+returns c =
+    let a = c.args in
+    let n = length a.text.now in
+    yes n a.at a.width (replicate a.pad 32 ++ (a.text.now ++ replicate (a.width - (a.pad + n)) 32)) a.out.now _
+    (omega (arith, c.if-out-at.false, c.if-out-at-2.false)) (omega (arith, c.requires))
+    (laid a.out.now c.blanks.new.out a.text.now c.copy.new.1.0 a.at a.width a.pad (a.at + a.pad + n - (a.at + a.pad))
+    (omega (arith, c.if-out-at.false, c.if-out-at-2.false)) c.requires (omega arith) c.blanks.ensures c.copy.ensures.1)

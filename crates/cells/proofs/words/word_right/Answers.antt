@@ -1,0 +1,13 @@
+-- By the test.
+use lib.ListN.{length}
+use Rattle.cells.specs.Cells.{right_of}
+use Rattle.cells.proofs.Laws.{too_long, alike, right_is}
+use Rattle.cells.proofs.words.word_right.Goals as goal
+
+pub returns-then-width-text : goal.returns-then-width-text
+returns-then-width-text c = let a = c.args in too_long (length a.text.now) a.at a.width _ a.out.now c.if-width-text.true
+
+pub returns : goal.returns
+returns c =
+    let a = c.args in
+    alike (length a.text.now) a.at a.width _ (right_of a.width a.text.now) a.out.now c.word.result c.word.new.out (right_is a.width a.text.now c.if-width-text.false) c.word.ensures

@@ -1,0 +1,35 @@
+use mathlib.Core.Path.{refl, ap, ◌∙◌}
+use Prim.Native.Nat.{◌-◌, ◌/◌}
+use native.Mathlib.Omega.{arith}
+use lib.ListN.{length, length-set}
+use Rattle.decimal.specs.Printed.{digits_onto}
+use Rattle.decimal.proofs.Printing.{digit_on, byte_on, at_last}
+use Rattle.decimal.proofs.printed.spell.Goals as goal
+
+pub bounds-out-from : goal.bounds-out-from
+bounds-out-from c = let w = c.loop-i in omega (arith, w.invariant.1, c.requires)
+
+pub loop-i-preserved : goal.loop-i-preserved
+loop-i-preserved c =
+    let w = c.loop-i in
+    let a = c.args in
+    let h = c.loop-i-test.true in
+    let l = w.invariant.1 in
+    let p = c.requires in
+    let b = byte_on a.out.now w.out a.from w.i c.figure.result h (omega arith) w.invariant.2 in
+    (omega arith, simp length-set l, b.0, ap (digits_onto (w.i - 1) (w.rest / 10)) b.1 ∙ digit_on w.i w.rest c.figure.result _ h c.figure.ensures ∙ w.invariant.3)
+
+pub returns : goal.returns
+returns c =
+    let w = c.loop-i in
+    let a = c.args in
+    at_last a.out.now w.out a.from a.k w.i a.n w.rest (omega arith) w.invariant.1 w.invariant.2 w.invariant.3
+
+pub loop-i-init : goal.loop-i-init
+loop-i-init c = (omega arith, refl, refl, refl)
+
+pub overflow_add-out : goal.overflow_add-out
+overflow_add-out c = requires)
+
+pub shape_of-out : goal.shape_of-out
+shape_of-out c = 1

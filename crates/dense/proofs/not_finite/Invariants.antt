@@ -1,0 +1,10 @@
+-- The loop: `found` is whether the test holds of an entry passed.
+use Prim.Native.Nat.{◌≤◌, ◌-◌}
+use mathlib.Core.Path.{◌≡◌}
+use lib.ListN.{length, take}
+use Rattle.definition.specs.Run.{any_of}
+use Rattle.definition.specs.Refusals.{unfit}
+use Rattle.dense.proofs.not_finite.Given as goal
+
+abbrev pub invariant-loop-i : goal.invariant-loop-i
+invariant-loop-i l = (l.i ≤ l.i-end) × (l.i-end ≡ length l.a) × (l.found ≡ any_of unfit (take l.i l.a))

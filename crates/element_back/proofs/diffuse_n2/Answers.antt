@@ -1,0 +1,6 @@
+-- The sum of five, over what each call left.
+use Rattle.element_back.proofs.Laws as laws
+use Rattle.element_back.proofs.diffuse_n2.Goals as goal
+
+pub returns : goal.returns
+returns c = laws.diffuse_n2_lem _ _ _ _ _ _ _ _ _ _ _ _ _ _ c.outer_scaled-s.ensures c.add_quad.ensures c.add_quad-2.ensures c.transpose-turned.ensures c.add_quad-3.ensures c.add_quad-4.ensures

@@ -1,0 +1,47 @@
+-- The run from the start: no state is carried.
+use mathlib.Core.Path.{refl}
+use Rattle.promise.specs.Lent.{model_of, offsets_of, cov_parts, mean_parts}
+use Rattle.filter.proofs.Judged as judged
+use Rattle.filter.proofs.run.Goals as goal
+
+pub run-requires : goal.run-requires
+run-requires c = c.requires
+
+pub shape_of-pred_mean : goal.shape_of-pred_mean
+shape_of-pred_mean c = c.run.auto.pred_mean
+
+pub shape_of-pred_cov : goal.shape_of-pred_cov
+shape_of-pred_cov c = c.run.auto.pred_cov
+
+pub shape_of-pred_inf : goal.shape_of-pred_inf
+shape_of-pred_inf c = c.run.auto.pred_inf
+
+pub shape_of-filt_mean : goal.shape_of-filt_mean
+shape_of-filt_mean c = c.run.auto.filt_mean
+
+pub shape_of-filt_cov : goal.shape_of-filt_cov
+shape_of-filt_cov c = c.run.auto.filt_cov
+
+pub shape_of-kinds : goal.shape_of-kinds
+shape_of-kinds c = c.run.auto.kinds
+
+pub shape_of-v : goal.shape_of-v
+shape_of-v c = c.run.auto.v
+
+pub shape_of-f_star : goal.shape_of-f_star
+shape_of-f_star c = c.run.auto.f_star
+
+pub shape_of-f_inf : goal.shape_of-f_inf
+shape_of-f_inf c = c.run.auto.f_inf
+
+pub shape_of-m_star : goal.shape_of-m_star
+shape_of-m_star c = c.run.auto.m_star
+
+pub shape_of-m_inf : goal.shape_of-m_inf
+shape_of-m_inf c = c.run.auto.m_inf
+
+pub returns : goal.returns
+unfolding cov_parts mean_parts
+returns c =
+    let a = c.args in
+    judged.run_told {x = model_of a.p a.m a.r a.n a.z.now a.zs.now a.repeats a.h.now a.t.now a.ts.now a.rr.now a.q.now a.p_star.now a.flags.now} {o = offsets_of a.c.now a.d.now a.a1.now} {y = a.y.now} {w = cov_parts a.pred_cov.now a.pred_inf.now a.filt_cov.now a.kinds.now a.f_star.now a.f_inf.now a.m_star.now a.m_inf.now} {w' = mean_parts a.pred_mean.now a.filt_mean.now a.v.now} refl c.run.ensures c.told.ensures

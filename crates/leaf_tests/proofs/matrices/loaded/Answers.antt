@@ -1,0 +1,11 @@
+use Rattle.std.proofs.Common.{◌≡◌, length, take, sym, arith, length-take-le}
+use Rattle.leaf_tests.proofs.matrices.loaded.Goals as goal
+
+part : (c : goal.Start) → length (take c.args.n c.args.s.now) ≡ c.args.n
+part c = length-take-le c.args.n c.args.s.now c.requires.1
+
+pub slice_bounds-load64-end : goal.slice_bounds-load64-end
+slice_bounds-load64-end c = sym (part c)
+
+pub load64-requires : goal.load64-requires
+load64-requires c = omega (arith, part c)

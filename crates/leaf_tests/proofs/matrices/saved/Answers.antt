@@ -1,0 +1,11 @@
+use Rattle.std.proofs.Common.{◌≡◌, length, take, sym, arith, length-take-le}
+use Rattle.leaf_tests.proofs.matrices.saved.Goals as goal
+
+part : (c : goal.Start) → length (take c.args.n c.args.out.now) ≡ c.args.n
+part c = length-take-le c.args.n c.args.out.now c.requires.1
+
+pub slice_bounds-save64-end-2 : goal.slice_bounds-save64-end-2
+slice_bounds-save64-end-2 c = sym (part c)
+
+pub save64-requires : goal.save64-requires
+save64-requires c = omega (arith, part c)

@@ -1,0 +1,18 @@
+use native.Mathlib.Omega.{arith}
+use Prim.Native.Nat.{◌-◌}
+use mathlib.Core.Path.{refl}
+use lib.Dec.{eqb}
+use Rattle.laws.specs.Any as any
+use Rattle.model.proofs.diffuse.any_flag.Goals as goal
+
+pub loop-i-init : goal.loop-i-init
+loop-i-init c = (omega arith, refl, any.of_none (eqb 1) c.args.flags.now)
+
+pub loop-i-preserved : goal.loop-i-preserved
+loop-i-preserved c =
+    let w = c.loop-i in
+    let l = c.args.flags.now in
+    (omega arith, w.invariant.1, any.of_next (eqb 1) l w.i 0 w.found _ (omega arith) w.invariant.2 refl)
+
+pub returns : goal.returns
+returns c = let w = c.loop-i in any.of_end (eqb 1) c.args.flags.now {k = w.i} w.invariant.2 (omega arith) (omega arith)

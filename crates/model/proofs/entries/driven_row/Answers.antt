@@ -1,0 +1,15 @@
+use native.Mathlib.Omega.{arith}
+use Prim.Native.Nat.{◌-◌}
+use Rattle.definition.specs.Refusals.{driven_row, driven_at}
+use Rattle.laws.specs.Any as any
+use Rattle.model.proofs.entries.driven_row.Goals as goal
+
+pub loop-j-init : goal.loop-j-init
+loop-j-init c = (omega arith, any.any_none _)
+
+pub loop-j-preserved : goal.loop-j-preserved
+loop-j-preserved c = let w = c.loop-j in (omega arith, any.any_next _ _ _ _ w.invariant.1 c.driven_at-found.ensures)
+
+pub returns : goal.returns
+unfolding driven_row
+returns c = let w = c.loop-j in any.any_end _ w.invariant.1 w.invariant.0 c.loop-j-test.false

@@ -1,0 +1,16 @@
+use native.Mathlib.Omega.{arith}
+use Prim.Native.Nat.{◌-◌}
+use Rattle.definition.specs.Refusals.{negative, negative_at}
+use Rattle.laws.specs.Any as any
+use Rattle.model.proofs.entries.negative.Goals as goal
+
+pub loop-i-init : goal.loop-i-init
+loop-i-init c = (omega arith, any.any_none _)
+
+pub loop-i-preserved : goal.loop-i-preserved
+unfolding negative_at
+loop-i-preserved c = let w = c.loop-i in (omega arith, any.any_next _ _ _ _ w.invariant.1 (cc))
+
+pub returns : goal.returns
+unfolding negative
+returns c = let w = c.loop-i in any.any_end _ w.invariant.1 w.invariant.0 c.loop-i-test.false

@@ -1,0 +1,17 @@
+-- The products that the code works out fit; the tests are the definition's.
+use mathlib.Core.Path.{refl}
+use Rattle.model.specs.Lengths.{rooms_smoothed}
+use Rattle.model.proofs.lengths.rooms_smoothed.Goals as goal
+
+pub returns : goal.returns
+unfolding rooms_smoothed
+returns c = refl
+
+pub overflow_mul-result : goal.overflow_mul-result
+overflow_mul-result c = requires)
+
+pub overflow_mul-result-2 : goal.overflow_mul-result-2
+overflow_mul-result-2 c = requires)
+
+pub overflow_mul-result-3 : goal.overflow_mul-result-3
+overflow_mul-result-3 c = requires)

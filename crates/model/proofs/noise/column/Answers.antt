@@ -1,0 +1,31 @@
+use native.Mathlib.Omega.{arith}
+use mathlib.Core.Path.{refl}
+use Prim.Native.Nat.{◌<◌, ◌*◌, ◌+◌, ◌-◌}
+use lib.ListN.{length}
+use Rattle.laws.specs.Lists.{place_lt}
+use Rattle.dense.proofs.Laws as laws
+use Rattle.model.proofs.noise.column.Goals as goal
+
+place : (c : goal.In-loop-i) → c.loop-i.i * c.args.r + c.args.l < length c.args.a.now
+place c = omega (arith, place_lt c.args.m c.args.r c.loop-i.i c.args.l c.loop-i-test.true c.requires.column, c.requires.whole)
+
+pub loop-i-init : goal.loop-i-init
+loop-i-init c = (omega arith, refl, laws.row_none _ _ _ _ refl)
+
+pub loop-i-preserved : goal.loop-i-preserved
+loop-i-preserved c = let w = c.loop-i in (omega arith, w.invariant.1, laws.vec_next _ _ _ _ _ w.invariant.2 refl)
+
+pub returns : goal.returns
+returns c = laws.vec-row _ _ _ _ (omega arith) (laws.row_end _ _ _ c.loop-i.invariant.2 c.loop-i.invariant.0 c.loop-i-test.false)
+
+pub overflow_mul-out : goal.overflow_mul-out
+overflow_mul-out c = omega (arith, place c)
+
+pub overflow_add-out : goal.overflow_add-out
+overflow_add-out c = omega (arith, place c)
+
+pub offset_bounds-a-i : goal.offset_bounds-a-i
+offset_bounds-a-i c = omega (arith, place c)
+
+pub bounds-a-i : goal.bounds-a-i
+bounds-a-i c = before

@@ -1,0 +1,32 @@
+-- By the tests, in their order.
+use mathlib.Core.Path.{◌≡◌, refl, sym, ap, ◌∙◌}
+use native.Mathlib.Omega.{arith}
+use lib.ListN.{length}
+use mathlib.Core.List.{List}
+use lib.Ieee.{Float}
+use Rattle.definition.specs.Inputs.{transition_from}
+use Rattle.definition.specs.Refusals.{first_of, mixed_driven}
+use Rattle.model.specs.Lists.{length_part}
+use Rattle.model.proofs.refusals.of_step.Goals as goal
+
+-- whether the first T drives
+driven : (c : goal.After-mixed_driven) → c.mixed_driven.result ≡ mixed_driven c.args.m (transition_from c.args.m c.args.t.now c.args.ts.now 0) c.args.flags.now
+driven c = c.mixed_driven.ensures ∙ ap (λ (t : List Float). mixed_driven c.args.m t c.args.flags.now) c.part-first.ensures
+
+pub part-first-requires : goal.part-first-requires
+part-first-requires c = (c.requires.0.t, omega arith)
+
+pub mixed_driven-requires : goal.mixed_driven-requires
+mixed_driven-requires c = let s = c.requires.0 in (record { most = s.t.m8; whole = ap length c.part-first.ensures ∙ length_part _ _ 0 s.t.chosen }, s.flags)
+
+pub returns-then-mixed_driven : goal.returns-then-mixed_driven
+unfolding first_of
+returns-then-mixed_driven c = (rw (sym (driven c) ∙ c.if-mixed_driven.true) refl, λ e. absurd (omega arith))
+
+pub returns-then-bad_noise : goal.returns-then-bad_noise
+unfolding first_of
+returns-then-bad_noise c = (rw (sym (driven c) ∙ c.if-mixed_driven.false, sym c.bad_noise.ensures.0 ∙ c.if-bad_noise.true) refl, λ e. absurd (omega arith))
+
+pub returns : goal.returns
+unfolding first_of
+returns c = (rw (sym (driven c) ∙ c.if-mixed_driven.false, sym c.bad_noise.ensures.0 ∙ c.if-bad_noise.false) refl, λ e. c.bad_noise.ensures.1)

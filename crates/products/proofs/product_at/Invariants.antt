@@ -1,0 +1,9 @@
+use mathlib.Core.Path.{◌≡◌}
+use Prim.Native.Nat.{◌≤◌, ◌-◌}
+use Rattle.definition.specs.Num.{sum_to}
+use Rattle.definition.specs.Dense.{product_term}
+use Rattle.dense.specs.Views.{rect}
+use Rattle.products.proofs.product_at.Given as goal
+
+abbrev pub invariant-loop-l : goal.invariant-loop-l
+invariant-loop-l l = (l.l ≤ l.k) × (l.s ≡ sum_to l.l (product_term l.k l.c (rect l.r l.k l.a) (rect l.k l.c l.b) l.i l.j))

@@ -1,0 +1,12 @@
+use mathlib.Core.Path.{◌≡◌}
+use Prim.Native.Nat.{◌≤◌, ◌*◌, ◌-◌}
+use Rattle.definition.specs.Dense.{product_at, transpose}
+use Rattle.dense.specs.Views.{rect}
+use Rattle.dense.proofs.Laws as laws
+use Rattle.products.proofs.product_t_into.Given as goal
+
+abbrev pub invariant-loop-j : goal.invariant-loop-j
+invariant-loop-j l = (l.j ≤ l.c) × (l.out ≡ laws.row (product_at l.k l.c (rect l.r l.k l.a) (transpose l.c l.k (rect l.c l.k l.b)) l.i) (l.i * l.c) l.j l.initial.out)
+
+abbrev pub invariant-loop-i : goal.invariant-loop-i
+invariant-loop-i l = (l.i ≤ l.r) × (l.out ≡ laws.grid (product_at l.k l.c (rect l.r l.k l.a) (transpose l.c l.k (rect l.c l.k l.b))) l.c l.i l.initial.out)

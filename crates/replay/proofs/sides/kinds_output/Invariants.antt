@@ -1,0 +1,5 @@
+use Rattle.std.proofs.Common.{◌-◌, ◌≤◌}
+use Rattle.replay.proofs.sides.kinds_output.Given as goal
+
+abbrev pub invariant-loop-i : goal.invariant-loop-i
+invariant-loop-i l = (l.i ≤ l.n) × (l.n ≤ 1024) × (l.s.from ≤ 8192)

@@ -1,0 +1,19 @@
+-- What place n says, then the search.
+use mathlib.Core.Path.{ap, ◌∙◌}
+use Prim.Native.Nat.{ℕ}
+use Rattle.definition.specs.Num.{tabulate}
+use Rattle.definition.specs.Refusals.{not_finite}
+use Rattle.definition.specs.Reports.{first_from}
+use Rattle.laws.specs.Flat.{block_at}
+use Rattle.laws.specs.Told.{off_at}
+use Rattle.reports.proofs.Steps as steps
+use Rattle.reports.proofs.means.Goals as goal
+
+pub until-requires : goal.until-requires
+until-requires c = steps.mean_place_n c.requires
+
+pub first_off-requires : goal.first_off-requires
+first_off-requires c = let a = c.args in steps.mean_blocks_lem c.requires _ (not_finite (block_at a.m a.pred_mean.now a.n)) c.until.ensures
+
+pub returns : goal.returns
+returns c = let a = c.args in c.first_off.ensures ∙ ap (λ (u : ℕ). first_from a.done (tabulate u (off_at a.m a.pred_mean.now a.filt_mean.now a.filt_mean.now))) c.until.ensures

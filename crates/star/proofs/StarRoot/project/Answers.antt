@@ -1,0 +1,6 @@
+use mathlib.Core.Path.{refl}
+use Rattle.star.proofs.Laws as laws
+use Rattle.star.proofs.StarRoot.project.Goals as goal
+
+pub returns : goal.returns
+returns c = (refl, laws.projected_at_lem _ _ _ c.on_support-zs.ensures c.all_u-u.ensures c.dot.ensures)
