@@ -7,9 +7,6 @@ use Rattle.sheet.proofs.Laws.{not-true, not-false}
 use Rattle.sheet.proofs.Walking.{first, line_length, stopped, ended, onward}
 use Rattle.sheet.proofs.sheets.read.Goals as goal
 
-small : (c : goal.At-loop-settings) → length c.args.text.now < 18446744073709551616
-small c = omega arith
-
 pub loop-settings-init : goal.loop-settings-init
 loop-settings-init c =
     let a = c.args in
@@ -20,7 +17,7 @@ unfolding line_fault
 returns-then-not-f c =
     let w = c.loop-settings in
     let a = c.args in
-    let q = stopped a.table a.text.now a.y.now w.settings w.periods w.lines w.at w.y-1 c.run_end-end.result w.invariant.0 c.run_end-end.ensures.0 c.run_end-end.ensures.1 c.fault-f.result w.invariant.2
+    let q = stopped a.table a.text.now a.y.now w.settings w.periods w.lines w.at w.y c.run_end-end.result w.invariant.0 c.run_end-end.ensures.0 c.run_end-end.ensures.1 c.fault-f.result w.invariant.2
     (c.fault-f.ensures ∙ ap (fault_of a.table w.settings w.periods) c.line_tokens-t.ensures) (not-true _ c.if-not-f.true) in
     record { value = c.wrong_line.ensures ∙ q.0; y_after = q.1 }
 
@@ -34,10 +31,10 @@ pub returns-then-end-text : goal.returns-then-end-text
 returns-then-end-text c =
     let w = c.loop-settings in
     let a = c.args in
-    let q = ended a.table a.text.now a.y.now w.settings w.periods w.lines w.at w.y-1 c.run_end-end.result w.invariant.0 c.run_end-end.ensures.0 c.run_end-end.ensures.1 c.fault-f.result w.invariant.2
+    let q = ended a.table a.text.now a.y.now w.settings w.periods w.lines w.at w.y c.run_end-end.result w.invariant.0 c.run_end-end.ensures.0 c.run_end-end.ensures.1 c.fault-f.result w.invariant.2
     c.line_tokens-t.result c.after-settings.result c.store-periods.result c.store-periods.new.y c.line_tokens-t.ensures c.fault-f.ensures (not-false _ c.if-not-f.false)
     c.store-periods.ensures.value c.store-periods.ensures.laid c.after-settings.ensures (omega (arith, c.if-end-text.true)) in
-    record { value = c.end_of_lem.ensures ∙ q.0; y_after = q.1 }
+    record { value = c.end_of.ensures ∙ q.0; y_after = q.1 }
 
 pub loop-settings-preserved : goal.loop-settings-preserved
 loop-settings-preserved c =
@@ -46,7 +43,7 @@ loop-settings-preserved c =
     let less : c.run_end-end.result < length a.text.now = omega (arith, c.if-end-text.false, c.run_end-end.ensures.1) in (
       omega arith,
       omega (arith, w.invariant.1, c.run_end-end.ensures.0),
-      onward a.table a.text.now a.y.now w.settings w.periods w.lines w.at w.y-1 c.run_end-end.result w.invariant.0 c.run_end-end.ensures.0 c.run_end-end.ensures.1 c.fault-f.result w.invariant.2
+      onward a.table a.text.now a.y.now w.settings w.periods w.lines w.at w.y c.run_end-end.result w.invariant.0 c.run_end-end.ensures.0 c.run_end-end.ensures.1 c.fault-f.result w.invariant.2
           c.line_tokens-t.result c.after-settings.result c.store-periods.result c.store-periods.new.y c.line_tokens-t.ensures c.fault-f.ensures (not-false _ c.if-not-f.false)
           c.store-periods.ensures.value c.store-periods.ensures.laid c.after-settings.ensures less,
     )
@@ -54,7 +51,6 @@ loop-settings-preserved c =
 pub wrong_line-requires : goal.wrong_line-requires
 wrong_line-requires c =
     let w = c.loop-settings in
-    let h = small c in
     let l = line_length c.args.text.now w.at c.run_end-end.result w.invariant.0 c.run_end-end.ensures.0 c.run_end-end.ensures.1 in
     omega (arith, c.run_end-end.ensures.1)
 
@@ -67,7 +63,6 @@ shape_of-y-then-end-text c =
 
 pub overflow_add-at : goal.overflow_add-at
 overflow_add-at c =
-    let h = small c in
     omega (arith, c.if-end-text.false, c.run_end-end.ensures.1)
 
 pub loop-settings-smaller : goal.loop-settings-smaller

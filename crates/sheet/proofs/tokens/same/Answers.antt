@@ -24,4 +24,4 @@ returns c =
     sym (w.invariant.2 ∙ equal_none a.a.now a.b.now w.i c.loop-i-test.false (omega (arith, w.invariant.1)))
 
 pub loop-i-init : goal.loop-i-init
-loop-i-init c = false, refl)
+loop-i-init c = (omega arith, c.if-a-b.false, refl)

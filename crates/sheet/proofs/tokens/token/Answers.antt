@@ -11,15 +11,15 @@ by_sign minus n w e = ap (λ (m : Bool). word (cond m 13 12) n) (sym e)
 
 pub returns-then-minus : goal.returns-then-minus
 returns-then-minus c =
-    let told = c.minus-1.given in
+    let told = c.in-Whole in
     let w = c.args.w.now in
-    by_sign told.0.0 told.0.1.0 w c.if-minus.true ∙ token_by_lem w c.read.result c.read.ensures told.1
+    by_sign told.minus told.size w c.if-minus.true ∙ token_by_lem w c.read.result c.read.ensures told.is
 
 pub returns-else-minus : goal.returns-else-minus
 returns-else-minus c =
-    let told = c.minus-1.given in
+    let told = c.in-Whole in
     let w = c.args.w.now in
-    by_sign told.0.0 told.0.1.0 w c.if-minus.false ∙ token_by_lem w c.read.result c.read.ensures told.1
+    by_sign told.minus told.size w c.if-minus.false ∙ token_by_lem w c.read.result c.read.ensures told.is
 
 pub returns-in-Empty : goal.returns-in-Empty
 unfolding token_by
