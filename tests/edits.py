@@ -10,11 +10,20 @@ from pathlib import Path
 KINDS = ("program", "promise", "definition", "theorem")
 
 
+def clauses(text):
+    """Where the contracts' clauses stand: from their first brace to its match."""
+    for m in re.finditer(r"^ *(?:requires|ensures)\*?(?: \w+)? \{", text, re.M):
+        depth, end = 1, m.end()
+        while depth:
+            depth += {"{": 1, "}": -1}.get(text[end], 0)
+            end += 1
+        yield m.end() - 1, end
+
+
 def kind(crate, file, text, at):
     """What a change at that place of the file is a change of."""
     if file.startswith("src/"):
-        # a contract's facts stand between corners
-        return "promise" if text.count("⌜", 0, at) > text.count("⌝", 0, at) else "program"
+        return "promise" if any(a <= at < b for a, b in clauses(text)) else "program"
     return {"definition": "definition", "laws": "theorem", "demands": "theorem"}.get(crate.name, "promise")
 
 

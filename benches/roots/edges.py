@@ -82,13 +82,11 @@ def ln(b):
 
 rows = [int(e, 16) for e in EDGES]
 print("-- The definition's root and logarithm at the edges: benches/roots/edges.py made the rows, by exact fractions. antt computes them all at once. Assumes nothing.")
-print("""use mathlib.Core.Bool.{Bool, true, _&&_}
-use mathlib.Core.List.{List, [], _∷_}
-use Prim.Native.Nat.{ℕ}
-use lib.Dec.{T, eqb}
-use lib.Ieee.{binary64, size, units, odd, ofBits, toBits, add, sub, mul, div, lt, round, ofInt}
-use Rattle·definition.specs.Root.{cutRoot, isqrt, smallestsIn, rootOf, sqrtIn, sqrtOf}
-use Rattle·definition.specs.Log.{coefficient, series, logOf, reduced, logCount, lnOf}
+print("""use Rattle.std.specs.Prelude.{Bool, true, ◌&&◌, List, [], ◌∷◌, ℕ, T, eqb}
+use Rattle.std.specs.Float.{binary64}
+use Rattle.std.specs.Float.Ieee.{size, units, odd, of_bits, to_bits, add, sub, mul, div, lt, round, of_int}
+use Rattle.definition.specs.Root.{cut_root, isqrt, smallests_in, root_of, sqrt_in, sqrt_of}
+use Rattle.definition.specs.Log.{coefficient, series, log_of, reduced, log_count, ln_of}
 
 -- the bit patterns of a value, of its root and of its logarithm
 pub record Row : Type 0 where
@@ -100,7 +98,7 @@ pub row : ℕ → ℕ → ℕ → Row
 row x root log = record { x = x; root = root; log = log }
 
 pub holds : Row → Bool
-holds r = eqb (toBits binary64 (sqrtOf (ofBits binary64 (r .x)))) (r .root) && eqb (toBits binary64 (lnOf (ofBits binary64 (r .x)))) (r .log)
+holds r = eqb (to_bits binary64 (sqrt_of (of_bits binary64 r.x))) r.root && eqb (to_bits binary64 (ln_of (of_bits binary64 r.x))) r.log
 
 pub all : List Row → Bool
 all [] = true
@@ -112,6 +110,6 @@ for b in rows:
     print(f"    row 0x{b:016X} 0x{sqrt(b):016X} 0x{ln(b):016X} ∷")
 print("""    []
 
-pub at-the-edges : T (all edges)
-unfolding all edges row holds sqrtIn rootOf isqrt cutRoot smallestsIn units odd size ofBits toBits lnOf logCount reduced logOf series coefficient add sub mul div lt round ofInt
-at-the-edges = tt""")
+pub at_the_edges : T (all edges)
+unfolding all edges row holds sqrt_in root_of isqrt cut_root smallests_in units odd size of_bits to_bits ln_of log_count reduced log_of series coefficient add sub mul div lt round of_int
+at_the_edges = tt""")
