@@ -5,11 +5,11 @@ use mathlib.Core.List.{List, ◌++◌, append_assoc, append-nil}
 use Prim.Native.Nat.{ℕ, ◌+◌, ◌-◌, ◌≤◌, ◌<◌}
 use native.Mathlib.Nat.{le_refl, sub_self}
 use native.Mathlib.Omega.{arith}
-use lib.ListN.{length, take, drop, replicate, length-append, length-drop, length-replicate, replicate-append-replicate, drop_of_length-le}
-use lib.Seq.{length-take-le, take_at, drop_at, take-length}
+use lib.ListN.{length, take, drop, replicate, length-append, length-drop, length-replicate, replicate-append-replicate}
+use lib.Seq.{length-take-le, take_at, drop_at}
 use lib.Dec.{leb}
 use borrow.Author.Tests.{leb-false, le-leb, lt-leb}
-use borrow.Rule.Slice.PartMut.{mid_of, put_mid}
+use borrow.Rule.Slice.PartMut.{put_mid}
 use Rattle.decimal.specs.declared.answers.Units.{Units}
 use Rattle.decimal.specs.declared.answers.Units.TheVariants.{Whole}
 use Rattle.decimal.specs.Printed.{Onto, text_of, shown, fits_in, put_in, Added}
@@ -21,7 +21,7 @@ use Rattle.cells.specs.Kept.{said_fits, fits_is}
 -- the bytes of text, copied over the blanks of a field
 pub laid : (old blank text new : List ℕ) (at width pad k : ℕ) → at + width ≤ length old → pad + length text ≤ width → k ≡ length text
     → Onto at (replicate width 32 ++ drop (at + width) old) old blank
-    → new ≡ take (length text) text ++ drop (length text) (mid_of (at + pad) k blank)
+    → new ≡ text
     → put_mid (at + pad) k blank new ≡ take at old ++ ((replicate pad 32 ++ (text ++ replicate (width - (pad + length text)) 32)) ++ drop (at + width) old)
 laid old blank text new at width pad k h g e o c =
     let n = length text in
@@ -38,13 +38,8 @@ laid old blank text new at width pad k h g e o c =
     let f : length front ≡ at + pad = length-append (take at old) (replicate pad 32) ∙ omega (arith, length-take-le at old (omega arith), length-replicate {A = ℕ} pad 32) in
     let y : length (replicate {A = ℕ} n 32) ≡ k = length-replicate n 32 ∙ sym e in
     let d : drop (at + pad) blank ≡ replicate n 32 ++ (replicate rest 32 ++ back) = ap (drop (at + pad)) b ∙ drop_at front _ (at + pad) f in
-    let m : mid_of (at + pad) k blank ≡ replicate n 32 = ap (take k) d ∙ take_at (replicate n 32) _ k y in
-    let w : new ≡ text =
-    c ∙ ap (λ (l : List ℕ). l ++ drop n (mid_of (at + pad) k blank)) (take-length text)
-    ∙ ap (λ (l : List ℕ). text ++ l) (ap (drop n) m ∙ drop_of_length-le (replicate {A = ℕ} n 32) {i = n} (omega (arith, length-replicate {A = ℕ} n 32)))
-    ∙ append-nil text in
     ap (λ (l : List ℕ). l ++ (new ++ drop k (drop (at + pad) blank))) (ap (take (at + pad)) b ∙ take_at front _ (at + pad) f)
-    ∙ ap (λ (l : List ℕ). front ++ (l ++ drop k (drop (at + pad) blank))) w
+    ∙ ap (λ (l : List ℕ). front ++ (l ++ drop k (drop (at + pad) blank))) c
     ∙ ap (λ (l : List ℕ). front ++ (text ++ l)) (ap (drop k) d ∙ drop_at (replicate n 32) _ k y)
     ∙ simp append_assoc
 

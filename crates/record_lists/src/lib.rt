@@ -1,5 +1,4 @@
-// The calls with a list of records, for a program: the list goes in by value and comes back. A function that lends a list of structs is proved by hand,
-// so a program makes these two calls and lends none.
+// The calls with a list of records, for a program: the list goes in by value and comes back.
 #![tactic(auto)]
 
 ghost use Rattle.promise.specs.Lent.{given, lent, lent_smooth};

@@ -1,4 +1,2 @@
-pub mod Both
-pub mod Four
 pub mod Laws
 pub mod Told

@@ -14,6 +14,3 @@ loop-i-preserved c = let w = c.loop-i in let a = c.args in (omega arith, simp le
 
 pub returns : goal.returns
 returns c = let w = c.loop-i in let a = c.args in filling.all 0ᶠ a.out.now w.out w.i a.k (omega arith) w.invariant.2
-
-pub shape_of-out : goal.shape_of-out
-shape_of-out c = 1

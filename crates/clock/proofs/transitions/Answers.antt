@@ -1,4 +1,5 @@
-use Rattle.std.proofs.Common.{◌-◌, length, sym, ◌∙◌, add-one, arith, length-set}
+-- One number more, then all of them.
+use Rattle.std.proofs.Common.{sym, ◌∙◌, add-one, arith, length-set}
 use Rattle.clock.proofs.Told.{next, all}
 use Rattle.clock.proofs.transitions.Goals as goal
 

@@ -1,5 +1,5 @@
 -- The first i numbers are told.
-use Rattle.std.proofs.Common.{◌≡◌, ◌-◌, ◌≤◌, length}
+use Rattle.std.proofs.Common.{◌≡◌, ◌≤◌, length}
 use Rattle.clock.proofs.Told.{Told}
 use Rattle.clock.proofs.transitions.Given as goal
 

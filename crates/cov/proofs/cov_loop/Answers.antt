@@ -163,32 +163,8 @@ overflow_step-t c = blocks.next_fits c.requires.0.n4096 c.loop-t-test.true
 pub loop-t-preserved : goal.loop-t-preserved
 loop-t-preserved c = let w = c.cov_period-live in
     let h = c.loop-t-test.true in
-    let long = sizes.kept (going.blocks_in _ _ _ _ _ _ _ _ _ _ _ c.loop-t.invariant.0 h c.requires.1) w.auto.1.1.1.1.0 w.auto.1.1.1.1.1.0 w.auto.1.1.1.1.1.1.0 w.auto.1.1.1.1.1.1.1.0 w.auto.1.1.1.1.1.1.1.1.0 w.auto.1.1.1.1.1.1.1.1.1.0 w.auto.1.1.1.1.1.1.1.1.1.1.0 w.auto.1.1.1.1.1.1.1.1.1.1.1.0 in
-    (going.going_next _ _ _ _ _ _ _ _ _ _ _ w.new.1.1.1.1.0 w.new.1.1.1.1.1.0 w.new.1.1.1.1.1.1.0 w.new.1.1.1.1.1.1.1.0 w.new.1.1.1.1.1.1.1.1.0 w.new.1.1.1.1.1.1.1.1.1.0 w.new.1.1.1.1.1.1.1.1.1.1.0 w.new.1.1.1.1.1.1.1.1.1.1.1.0 c.loop-t.invariant.0 h c.requires.1 long c.part-design.ensures c.transition.ensures w.ensures c.and_one-d.ensures, steps.stepped c.args.m c.loop-t.t c.args.tr.now c.args.trs.now _ c.transition.ensures)
+    let long = sizes.kept (going.blocks_in _ _ _ _ _ _ _ _ _ _ _ c.loop-t.invariant.0 h c.requires.1) w.auto.pred w.auto.pred_inf w.auto.filt w.auto.kinds w.auto.f_star w.auto.f_inf w.auto.m_star w.auto.m_inf in
+    (going.going_next _ _ _ _ _ _ _ _ _ _ _ w.new.pred w.new.pred_inf w.new.filt w.new.kinds w.new.f_star w.new.f_inf w.new.m_star w.new.m_inf c.loop-t.invariant.0 h c.requires.1 long c.part-design.ensures c.transition.ensures w.ensures c.and_one-d.ensures, steps.stepped c.args.m c.loop-t.t c.args.tr.now c.args.trs.now _ c.transition.ensures)
 
 pub returns : goal.returns
 returns c = going.going_all _ _ _ _ _ _ _ _ _ _ _ _ _ _ _ c.loop-t.invariant.0 c.loop-t-test.false c.requires.1
-
-pub shape_of-pred_cov : goal.shape_of-pred_cov
-shape_of-pred_cov c = 0
-
-pub shape_of-pred_inf : goal.shape_of-pred_inf
-shape_of-pred_inf c = 0
-
-pub shape_of-filt_cov : goal.shape_of-filt_cov
-shape_of-filt_cov c = 0
-
-pub shape_of-kinds : goal.shape_of-kinds
-shape_of-kinds c = 0
-
-pub shape_of-f_star : goal.shape_of-f_star
-shape_of-f_star c = 0
-
-pub shape_of-f_inf : goal.shape_of-f_inf
-shape_of-f_inf c = 0
-
-pub shape_of-m_star : goal.shape_of-m_star
-shape_of-m_star c = 0
-
-pub shape_of-m_inf : goal.shape_of-m_inf
-shape_of-m_inf c = 0

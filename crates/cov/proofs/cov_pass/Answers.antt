@@ -61,33 +61,6 @@ save64-requires-2 c = at_most (block_long _ (c.args.m * c.args.m) _ (as_long c.r
 pub keep_cov-requires : goal.keep_cov-requires
 keep_cov-requires c = c.requires.0
 
-pub shape_of-pred_cov : goal.shape_of-pred_cov
-shape_of-pred_cov c = c.pred_cov-2-1.given.1 ∙ c.cov_loop-ended.auto.pred_cov
-
-pub shape_of-pred_inf : goal.shape_of-pred_inf
-shape_of-pred_inf c = c.pred_inf-2-1.given.1 ∙ c.cov_loop-ended.auto.pred_inf
-
-pub shape_of-filt_cov : goal.shape_of-filt_cov
-shape_of-filt_cov c = c.cov_loop-ended.auto.filt_cov
-
-pub shape_of-kinds : goal.shape_of-kinds
-shape_of-kinds c = c.cov_loop-ended.auto.kinds
-
-pub shape_of-f_star : goal.shape_of-f_star
-shape_of-f_star c = c.cov_loop-ended.auto.f_star
-
-pub shape_of-f_inf : goal.shape_of-f_inf
-shape_of-f_inf c = c.cov_loop-ended.auto.f_inf
-
-pub shape_of-m_star : goal.shape_of-m_star
-shape_of-m_star c = c.cov_loop-ended.auto.m_star
-
-pub shape_of-m_inf : goal.shape_of-m_inf
-shape_of-m_inf c = c.cov_loop-ended.auto.m_inf
-
-pub shape_of-state : goal.shape_of-state
-shape_of-state c = c.keep_cov.auto.state
-
 pub returns : goal.returns
 returns c = let z = c.requires in let m = c.args.m in
     going.finished _ _ _ _ _ _ _ _ _ _ _ _ _ c.save64.new.out c.save64-2.new.out (loaded_rect _ _ _ _ z.1.noise c.load64-hs.ensures) c.cov_from-live.ensures c.cov_loop-ended.ensures

@@ -63,7 +63,7 @@ loop-t-preserved c =
     let h = one_less c.loop-t-test.true g.low in
     let k = c.args.m * c.args.m in
     let w = c.period in (
-      going.going_next _ _ _ _ _ _ _ _ _ _ g (up c.loop-t-test.true) c.requires.1 (w.auto.1.1.1.0 ∙ block_long _ k _ (blocks.part_in k h c.requires.1 g.out.0))
+      going.going_next _ _ _ _ _ _ _ _ _ _ g (up c.loop-t-test.true) c.requires.1 (w.auto.out ∙ block_long _ k _ (blocks.part_in k h c.requires.1 g.out.0))
           (going.framed c.args.p c.args.m _ _ c.args.z.now c.args.zs.now c.args.tr.now c.args.trs.now _ _ _ _ c.part-design.ensures c.before-earlier.ensures c.transition.ensures w.ensures),
       steps.stepped c.args.m _ c.args.tr.now c.args.trs.now _ c.transition.ensures,
     )

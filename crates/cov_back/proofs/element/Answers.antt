@@ -9,5 +9,5 @@ returns c =
     let a = c.args in
     let h = c.requires in
     laws.element_back a.m a.i a.k a.live a.design.now (flat_in a.kinds.now a.f_star.now a.f_inf.now a.m_star.now a.m_inf.now) _ _ _ _
-    (dense.loaded_row a.i a.m a.design.now _ h.row c.load8-z.ensures) (laws.loaded_block a.k a.m a.m_star.now _ h.ms-1 c.load8-ms.ensures) (laws.loaded_block a.k a.m a.m_inf.now _ h.mi-1 c.load8-mi.ensures)
+    (dense.loaded_row a.i a.m a.design.now _ h.row c.load8-z.ensures) (laws.loaded_block a.k a.m a.m_star.now _ h.ms c.load8-ms.ensures) (laws.loaded_block a.k a.m a.m_inf.now _ h.mi c.load8-mi.ensures)
     c.back_element.ensures

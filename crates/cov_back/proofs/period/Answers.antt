@@ -20,6 +20,6 @@ shape_of-out c = c.smoothed_at.auto.out
 pub returns : goal.returns
 returns c =
     let a = c.args in
-    laws.whole a.p a.m a.t a.d-diffuse a.pred_cov.now a.pred_inf.now (mat a.m a.tr.now) a.design.now
+    laws.whole a.p a.m a.t a.d_diffuse a.pred_cov.now a.pred_inf.now (mat a.m a.tr.now) a.design.now
     (flat_in a.kinds.now a.f_star.now a.f_inf.now a.m_star.now a.m_inf.now) (ns_in a.m a.n0.now a.n1.now a.n2.now)
     c.elements.ensures c.smoothed_at.ensures c.step_all.ensures

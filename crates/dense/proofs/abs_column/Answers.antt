@@ -1,6 +1,6 @@
+-- One term more is the sum of one row more.
 use native.Mathlib.Omega.{arith}
 use mathlib.Core.Path.{◌≡◌}
-use Prim.Native.Nat.{◌-◌}
 use Rattle.dense.proofs.Laws as laws
 use Rattle.definition.specs.Num.{◌⊗◌}
 use Rattle.definition.specs.Dense.{abs_term}

@@ -1,3 +1,4 @@
+-- By whether z is 0 at j.
 use mathlib.Core.Path.{sym, ap, ◌∙◌}
 use Rattle.definition.specs.Dense.{abs_column}
 use Rattle.definition.specs.Num.{is_zero}

@@ -1,6 +1,6 @@
+-- One column more is the sum of one column more.
 use native.Mathlib.Omega.{arith}
 use mathlib.Core.Path.{◌≡◌, refl}
-use Prim.Native.Nat.{◌-◌}
 use native.Mathlib.Numerals.{add-one}
 use Rattle.definition.specs.Dense.{abs_quad_form, abs_to}
 use Rattle.dense.proofs.abs_quad_form.Goals as goal

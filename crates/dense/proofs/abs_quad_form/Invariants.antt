@@ -1,5 +1,6 @@
+-- The sum has the terms of the first j columns.
 use mathlib.Core.Path.{◌≡◌}
-use Prim.Native.Nat.{◌≤◌, ◌-◌}
+use Prim.Native.Nat.{◌≤◌}
 use Rattle.definition.specs.Dense.{abs_to}
 use Rattle.dense.specs.Views.{vec, mat}
 use Rattle.dense.proofs.abs_quad_form.Given as goal

@@ -1,6 +1,6 @@
+-- Each place is a sum, so the whole is.
 use native.Mathlib.Omega.{arith}
 use mathlib.Core.Path.{refl}
-use Prim.Native.Nat.{◌-◌}
 use lib.Ieee.{binary64, add}
 use Rattle.definition.specs.Dense.{plus, plus_at}
 use Rattle.dense.proofs.Laws as laws

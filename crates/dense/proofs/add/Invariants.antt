@@ -1,5 +1,6 @@
+-- The first k places are sums.
 use mathlib.Core.Path.{◌≡◌}
-use Prim.Native.Nat.{◌≤◌, ◌*◌, ◌-◌}
+use Prim.Native.Nat.{◌≤◌, ◌*◌}
 use lib.Ieee.{binary64, add}
 use Rattle.dense.proofs.Laws as laws
 use Rattle.dense.proofs.add.Given as goal

@@ -1,6 +1,6 @@
+-- An entry not yet written is as it was, so its sum is the wanted one.
 use native.Mathlib.Omega.{arith}
 use mathlib.Core.Path.{◌≡◌, refl}
-use Prim.Native.Nat.{◌-◌}
 use Rattle.definition.specs.Num.{◌⊕◌, ◌⊗◌, at}
 use Rattle.definition.specs.Dense.{mat_vec_term}
 use Rattle.dense.specs.Views.{vec, mat}

@@ -1,5 +1,6 @@
+-- The first i entries have their terms of column j.
 use mathlib.Core.Path.{◌≡◌}
-use Prim.Native.Nat.{◌≤◌, ◌-◌}
+use Prim.Native.Nat.{◌≤◌}
 use Rattle.dense.specs.Views.{vec, mat}
 use Rattle.dense.specs.Columns.{more_at}
 use Rattle.dense.proofs.Laws as laws

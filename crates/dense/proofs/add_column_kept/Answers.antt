@@ -1,3 +1,4 @@
+-- By whether x is 0 at j.
 use native.Mathlib.Omega.{arith}
 use mathlib.Core.Path.{sym, ap, ◌∙◌}
 use Rattle.definition.specs.Num.{is_zero}

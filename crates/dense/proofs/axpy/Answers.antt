@@ -1,15 +1,11 @@
+-- Each entry is y + s x, so the whole is; and a look through it.
 use native.Mathlib.Omega.{arith}
 use mathlib.Core.Path.{refl}
-use Prim.Native.Nat.{◌-◌}
-use lib.Ieee.{Float}
-use Rattle.definition.specs.Num.{◌⊕◌, ◌⊗◌}
 use Rattle.definition.specs.Dense.{axpy, axpy_at}
 use Rattle.dense.specs.Told.{told}
 use Rattle.dense.proofs.Laws as laws
+use Rattle.dense.proofs.axpy.Invariants.{plus_times}
 use Rattle.dense.proofs.axpy.Goals as goal
-
-unfoldable plus_times : Float → Float → Float → Float
-plus_times s y x = y ⊕ s ⊗ x
 
 pub loop-i-init : goal.loop-i-init
 loop-i-init c = (omega arith, laws.row_none _ _ _ _ refl)
@@ -27,6 +23,3 @@ returns c =
     told
     (laws.both-vec (plus_times c.args.s) _ _ _ _ (omega (arith, c.sized8.ensures)) (laws.row_end _ _ _ w.invariant.1 w.invariant.0 c.loop-i-test.false))
     c.vector_not_finite.ensures
-
-pub vector_not_finite-requires : goal.vector_not_finite-requires
-vector_not_finite-requires c = requires

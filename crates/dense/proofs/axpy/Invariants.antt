@@ -1,11 +1,12 @@
+-- The first i entries have their multiple of x; and y + s x of two numbers.
 use mathlib.Core.Path.{◌≡◌}
-use Prim.Native.Nat.{◌≤◌, ◌-◌}
+use Prim.Native.Nat.{◌≤◌}
 use lib.Ieee.{Float}
 use Rattle.definition.specs.Num.{◌⊕◌, ◌⊗◌}
 use Rattle.dense.proofs.Laws as laws
 use Rattle.dense.proofs.axpy.Given as goal
 
-unfoldable plus_times : Float → Float → Float → Float
+unfoldable pub plus_times : Float → Float → Float → Float
 plus_times s y x = y ⊕ s ⊗ x
 
 abbrev pub invariant-loop-i : goal.invariant-loop-i

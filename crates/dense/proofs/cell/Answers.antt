@@ -1,3 +1,4 @@
+-- The place is within 64, and an entry of the view is one of the array.
 use native.Mathlib.Omega.{arith}
 use mathlib.Core.Path.{sym}
 use Prim.Native.Nat.{◌<◌, ◌*◌, ◌+◌}

@@ -1,6 +1,7 @@
+-- Each place is 0, so the whole is.
 use native.Mathlib.Omega.{arith}
 use mathlib.Core.Path.{refl, sym, ◌∙◌}
-use Prim.Native.Nat.{◌*◌, ◌-◌}
+use Prim.Native.Nat.{◌*◌}
 use Rattle.definition.specs.Num.{0ᶠ}
 use Rattle.laws.specs.Lists.{replicate_tab}
 use Rattle.dense.specs.Views.{vec, rect}

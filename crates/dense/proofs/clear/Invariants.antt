@@ -1,5 +1,6 @@
+-- The first k places are 0.
 use mathlib.Core.Path.{◌≡◌}
-use Prim.Native.Nat.{◌≤◌, ◌*◌, ◌-◌}
+use Prim.Native.Nat.{◌≤◌, ◌*◌}
 use Rattle.definition.specs.Num.{0ᶠ}
 use Rattle.dense.proofs.Laws as laws
 use Rattle.dense.proofs.clear.Given as goal

@@ -1,6 +1,6 @@
+-- One product more is the sum of one product more.
 use native.Mathlib.Omega.{arith}
 use mathlib.Core.Path.{◌≡◌}
-use Prim.Native.Nat.{◌-◌}
 use Rattle.definition.specs.Num.{◌⊗◌}
 use Rattle.definition.specs.Dense.{dot, dot_at}
 use Rattle.dense.specs.Views.{vec}

@@ -1,5 +1,6 @@
+-- The sum has the first i products.
 use mathlib.Core.Path.{◌≡◌}
-use Prim.Native.Nat.{◌≤◌, ◌-◌}
+use Prim.Native.Nat.{◌≤◌}
 use Rattle.definition.specs.Num.{sum_to}
 use Rattle.definition.specs.Dense.{dot_at}
 use Rattle.dense.specs.Views.{vec}

@@ -1,6 +1,6 @@
+-- One column more is the sum of one column more.
 use native.Mathlib.Omega.{arith}
 use mathlib.Core.Path.{◌≡◌, refl}
-use Prim.Native.Nat.{◌-◌}
 use native.Mathlib.Numerals.{add-one}
 use Rattle.definition.specs.Dense.{frob_sq, sq_to}
 use Rattle.dense.proofs.frob_sq.Goals as goal

@@ -1,5 +1,6 @@
+-- The sum has the squares of the first j columns.
 use mathlib.Core.Path.{◌≡◌}
-use Prim.Native.Nat.{◌≤◌, ◌-◌}
+use Prim.Native.Nat.{◌≤◌}
 use Rattle.definition.specs.Dense.{sq_to}
 use Rattle.dense.specs.Views.{mat}
 use Rattle.dense.proofs.frob_sq.Given as goal

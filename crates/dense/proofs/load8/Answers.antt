@@ -1,6 +1,6 @@
+-- Each place is copied, so the whole is.
 use native.Mathlib.Omega.{arith}
 use mathlib.Core.Path.{refl}
-use Prim.Native.Nat.{◌-◌}
 use Rattle.dense.proofs.Laws as laws
 use Rattle.dense.proofs.load8.Goals as goal
 

@@ -1,9 +1,8 @@
+-- Each entry is that of the product, so the whole is.
 use native.Mathlib.Omega.{arith}
 use mathlib.Core.Path.{refl}
-use Prim.Native.Nat.{◌-◌}
 use Rattle.dense.proofs.Laws as laws
 use Rattle.definition.specs.Dense.{mat_tVec}
-use Rattle.dense.specs.Views.{vec}
 use Rattle.dense.proofs.mat_t_vec.Goals as goal
 
 pub loop-j-init : goal.loop-j-init

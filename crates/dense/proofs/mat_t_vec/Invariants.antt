@@ -1,5 +1,6 @@
+-- The first j entries are those of the product.
 use mathlib.Core.Path.{◌≡◌}
-use Prim.Native.Nat.{◌≤◌, ◌-◌}
+use Prim.Native.Nat.{◌≤◌}
 use lib.ListN.{length}
 use Rattle.dense.proofs.Laws as laws
 use Rattle.definition.specs.Dense.{mat_tVec_at}

@@ -1,6 +1,6 @@
+-- One term more is the sum of one row more.
 use native.Mathlib.Omega.{arith}
 use mathlib.Core.Path.{◌≡◌, ◌∙◌}
-use Prim.Native.Nat.{◌-◌}
 use Rattle.laws.specs.Lists as sums
 use Rattle.definition.specs.Num.{◌⊗◌}
 use Rattle.definition.specs.Dense.{mat_tVec_at, mat_tVec_term}

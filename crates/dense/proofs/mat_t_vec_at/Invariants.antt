@@ -1,5 +1,6 @@
+-- The sum has the terms of the first i rows.
 use mathlib.Core.Path.{◌≡◌}
-use Prim.Native.Nat.{◌≤◌, ◌-◌}
+use Prim.Native.Nat.{◌≤◌}
 use Rattle.definition.specs.Num.{sum_to}
 use Rattle.definition.specs.Dense.{mat_tVec_term}
 use Rattle.dense.specs.Views.{vec, mat}

@@ -1,5 +1,6 @@
+-- The entries have their terms of the first j columns.
 use mathlib.Core.Path.{◌≡◌}
-use Prim.Native.Nat.{◌≤◌, ◌-◌}
+use Prim.Native.Nat.{◌≤◌}
 use Rattle.definition.specs.Num.{tabulate}
 use Rattle.dense.specs.Views.{vec, mat}
 use Rattle.dense.specs.Columns.{mat_vec_to}

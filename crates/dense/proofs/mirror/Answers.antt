@@ -1,3 +1,4 @@
+-- Which of the two entries comes first is no matter: a sum commutes.
 use mathlib.Core.Path.{◌≡◌}
 use lib.Ieee.{binary64}
 use Rattle.definition.specs.Num.{◌⊕◌, ◌⊗◌, half}

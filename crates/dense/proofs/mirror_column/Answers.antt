@@ -1,6 +1,6 @@
+-- One pair more is mirrored, then all of the column.
 use native.Mathlib.Omega.{arith}
 use mathlib.Core.Path.{refl}
-use Prim.Native.Nat.{◌-◌}
 use Rattle.dense.proofs.Laws as laws
 use Rattle.dense.proofs.Pairs as pairs
 use Rattle.dense.proofs.mirror_column.Goals as goal

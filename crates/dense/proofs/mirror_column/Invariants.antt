@@ -1,5 +1,6 @@
+-- The first i pairs of column j are mirrored.
 use mathlib.Core.List.{List}
-use Prim.Native.Nat.{◌≤◌, ◌-◌}
+use Prim.Native.Nat.{◌≤◌}
 use lib.Ieee.{Float}
 use Rattle.dense.specs.Pairs.{Paired}
 use Rattle.dense.proofs.mirror_column.Given as goal

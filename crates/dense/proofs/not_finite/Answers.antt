@@ -1,5 +1,5 @@
+-- One entry more, then all of them.
 use native.Mathlib.Omega.{arith}
-use Prim.Native.Nat.{◌-◌}
 use mathlib.Core.Path.{refl, ap}
 use Rattle.laws.specs.Any as any
 use mathlib.Core.Bool.{not}

@@ -1,5 +1,5 @@
 -- The loop: `found` is whether the test holds of an entry passed.
-use Prim.Native.Nat.{◌≤◌, ◌-◌}
+use Prim.Native.Nat.{◌≤◌}
 use mathlib.Core.Path.{◌≡◌}
 use lib.ListN.{length, take}
 use Rattle.definition.specs.Run.{any_of}

@@ -1,3 +1,4 @@
+-- An entry of the view is one of the array.
 use mathlib.Core.Path.{sym}
 use Rattle.dense.proofs.Laws.{vec-at}
 use Rattle.dense.proofs.nth.Goals as goal

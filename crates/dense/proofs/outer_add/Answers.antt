@@ -1,7 +1,8 @@
+-- An entry not yet written is as it was, so its sum is the wanted one.
 use native.Mathlib.Omega.{arith}
 use mathlib.Core.Path.{◌≡◌, refl, ◌∙◌}
 use mathlib.Core.List.{List}
-use Prim.Native.Nat.{ℕ, ◌-◌}
+use Prim.Native.Nat.{ℕ}
 use lib.Ieee.{Float}
 use Rattle.definition.specs.Num.{ent, ◌⊕◌, ◌⊗◌}
 use Rattle.dense.specs.Views.{vec, mat}

@@ -1,5 +1,6 @@
+-- The first i rows have their products, and the first j entries of row i.
 use mathlib.Core.Path.{◌≡◌}
-use Prim.Native.Nat.{◌≤◌, ◌*◌, ◌-◌}
+use Prim.Native.Nat.{◌≤◌, ◌*◌}
 use Rattle.dense.specs.Views.{vec, mat}
 use Rattle.dense.specs.Columns.{outer_more_at}
 use Rattle.dense.proofs.Laws as laws

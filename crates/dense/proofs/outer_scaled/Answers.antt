@@ -1,6 +1,6 @@
+-- Each entry is a product, so each row is, and the whole.
 use native.Mathlib.Omega.{arith}
 use mathlib.Core.Path.{◌≡◌, refl, ◌∙◌}
-use Prim.Native.Nat.{◌-◌}
 use Rattle.definition.specs.Num.{◌⊗◌}
 use Rattle.definition.specs.Dense.{outer_scaled, outer_scaled_at}
 use Rattle.dense.specs.Views.{vec}

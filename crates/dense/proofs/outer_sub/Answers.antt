@@ -1,5 +1,5 @@
+-- One column more, then all of them; and a look through the matrix.
 use native.Mathlib.Omega.{arith}
-use Prim.Native.Nat.{◌-◌}
 use Rattle.dense.specs.Told.{told}
 use Rattle.dense.proofs.Laws as laws
 use Rattle.dense.proofs.Columns as cols

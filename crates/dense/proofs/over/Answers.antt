@@ -1,6 +1,6 @@
+-- Each entry is a quotient, so the whole is.
 use native.Mathlib.Omega.{arith}
 use mathlib.Core.Path.{◌≡◌, refl}
-use Prim.Native.Nat.{◌-◌}
 use Rattle.definition.specs.Num.{◌⊘◌}
 use Rattle.definition.specs.Dense.{over, over_at}
 use Rattle.dense.specs.Views.{vec}

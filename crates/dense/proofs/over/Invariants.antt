@@ -1,5 +1,6 @@
+-- The first i entries are quotients.
 use mathlib.Core.Path.{◌≡◌}
-use Prim.Native.Nat.{◌≤◌, ◌-◌}
+use Prim.Native.Nat.{◌≤◌}
 use lib.ListN.{length}
 use Rattle.definition.specs.Dense.{over_at}
 use Rattle.dense.specs.Views.{vec}

@@ -1,5 +1,6 @@
+-- The first j entries of the row are copied.
 use mathlib.Core.Path.{◌≡◌}
-use Prim.Native.Nat.{◌≤◌, ◌*◌, ◌-◌}
+use Prim.Native.Nat.{◌≤◌, ◌*◌}
 use lib.Ieee.{nan}
 use Rattle.dense.proofs.Laws as laws
 use Rattle.dense.proofs.put_row.Given as goal

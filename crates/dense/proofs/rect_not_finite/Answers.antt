@@ -13,4 +13,4 @@ slice_bounds-not_finite-end c = omega (arith, area c.requires.0 c.requires.1)
 
 pub returns : goal.returns
 unfolding rect
-returns c = rw sub-zero at c.not-Finite.ensures
+returns c = rw sub-zero at c.not_finite.ensures

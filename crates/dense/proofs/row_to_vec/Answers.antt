@@ -1,6 +1,7 @@
+-- The row is within 64 places, and each entry is copied.
 use native.Mathlib.Omega.{arith}
 use mathlib.Core.Path.{refl, sym}
-use Prim.Native.Nat.{◌<◌, ◌*◌, ◌-◌, ◌+◌}
+use Prim.Native.Nat.{◌<◌, ◌*◌, ◌+◌}
 use Rattle.dense.proofs.Laws as laws
 use Rattle.definition.specs.Dense.{row, row_at}
 use Rattle.dense.proofs.row_to_vec.Goals as goal

@@ -1,8 +1,9 @@
+-- The first j entries of the row are copied.
 use mathlib.Core.Path.{◌≡◌}
-use Prim.Native.Nat.{◌≤◌, ◌-◌}
+use Prim.Native.Nat.{◌≤◌}
 use lib.ListN.{length}
 use Rattle.dense.proofs.Laws as laws
-use Rattle.definition.specs.Dense.{row, row_at}
+use Rattle.definition.specs.Dense.{row_at}
 use Rattle.dense.specs.Views.{rect}
 use Rattle.dense.proofs.row_to_vec.Given as goal
 

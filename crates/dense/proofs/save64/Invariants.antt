@@ -1,5 +1,6 @@
+-- The first i places are copied, and the part is as long as it was.
 use mathlib.Core.Path.{◌≡◌}
-use Prim.Native.Nat.{◌≤◌, ◌-◌}
+use Prim.Native.Nat.{◌≤◌}
 use lib.Ieee.{nan}
 use lib.ListN.{length}
 use Rattle.dense.proofs.Laws as laws

@@ -1,8 +1,8 @@
+-- Each place is copied, so the whole is.
 use native.Mathlib.Omega.{arith}
 use mathlib.Core.Path.{refl}
-use Prim.Native.Nat.{◌-◌}
 use lib.Ieee.{nan}
-use lib.ListN.{length, length-set}
+use lib.ListN.{length-set}
 use Rattle.dense.proofs.Laws as laws
 use Rattle.dense.proofs.save8.Goals as goal
 

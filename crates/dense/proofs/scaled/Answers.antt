@@ -1,6 +1,6 @@
+-- Each entry is a product, so the whole is.
 use native.Mathlib.Omega.{arith}
 use mathlib.Core.Path.{◌≡◌, refl}
-use Prim.Native.Nat.{◌-◌}
 use Rattle.definition.specs.Num.{◌⊗◌}
 use Rattle.definition.specs.Dense.{scaled, scaled_at}
 use Rattle.dense.specs.Views.{vec}

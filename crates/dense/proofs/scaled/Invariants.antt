@@ -1,5 +1,6 @@
+-- The first i entries are products.
 use mathlib.Core.Path.{◌≡◌}
-use Prim.Native.Nat.{◌≤◌, ◌-◌}
+use Prim.Native.Nat.{◌≤◌}
 use lib.ListN.{length}
 use Rattle.definition.specs.Dense.{scaled_at}
 use Rattle.dense.specs.Views.{vec}

@@ -1,3 +1,4 @@
+-- The place is within 64.
 use native.Mathlib.Omega.{arith}
 use mathlib.Core.Path.{refl}
 use Prim.Native.Nat.{◌<◌, ◌*◌, ◌+◌}

@@ -1,5 +1,6 @@
+-- The sum has the squares of the first i rows.
 use mathlib.Core.Path.{◌≡◌}
-use Prim.Native.Nat.{◌≤◌, ◌-◌}
+use Prim.Native.Nat.{◌≤◌}
 use Rattle.definition.specs.Num.{sum_from}
 use Rattle.definition.specs.Dense.{sq_term}
 use Rattle.dense.specs.Views.{mat}

@@ -1,6 +1,6 @@
+-- Each place is a difference, so the whole is.
 use native.Mathlib.Omega.{arith}
 use mathlib.Core.Path.{refl}
-use Prim.Native.Nat.{◌-◌}
 use lib.Ieee.{binary64, sub}
 use Rattle.definition.specs.Dense.{minus, minus_at}
 use Rattle.dense.proofs.Laws as laws

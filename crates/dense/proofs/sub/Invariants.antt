@@ -1,5 +1,6 @@
+-- The first k places are differences.
 use mathlib.Core.Path.{◌≡◌}
-use Prim.Native.Nat.{◌≤◌, ◌*◌, ◌-◌}
+use Prim.Native.Nat.{◌≤◌, ◌*◌}
 use lib.Ieee.{binary64, sub}
 use Rattle.dense.proofs.Laws as laws
 use Rattle.dense.proofs.sub.Given as goal

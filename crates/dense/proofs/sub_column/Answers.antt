@@ -1,6 +1,6 @@
+-- An entry not yet written is as it was, so its difference is the wanted one.
 use native.Mathlib.Omega.{arith}
 use mathlib.Core.Path.{◌≡◌, refl, ◌∙◌}
-use Prim.Native.Nat.{◌-◌}
 use Rattle.definition.specs.Num.{◌⊖◌, ◌⊗◌}
 use Rattle.dense.specs.Views.{vec, mat}
 use Rattle.dense.specs.Columns.{less_at, column_less}

@@ -1,5 +1,6 @@
+-- The first i entries of column j are less their products.
 use mathlib.Core.Path.{◌≡◌}
-use Prim.Native.Nat.{◌≤◌, ◌-◌}
+use Prim.Native.Nat.{◌≤◌}
 use Rattle.dense.specs.Views.{vec, mat}
 use Rattle.dense.specs.Columns.{less_at}
 use Rattle.dense.proofs.Laws as laws

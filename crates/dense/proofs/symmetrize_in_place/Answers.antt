@@ -1,5 +1,5 @@
+-- One column more is mirrored, then all of them.
 use native.Mathlib.Omega.{arith}
-use Prim.Native.Nat.{◌-◌}
 use Rattle.dense.proofs.Laws as laws
 use Rattle.dense.proofs.Pairs as pairs
 use Rattle.dense.proofs.symmetrize_in_place.Goals as goal

@@ -1,4 +1,5 @@
-use Prim.Native.Nat.{◌≤◌, ◌-◌}
+-- The pairs of the first j columns are mirrored.
+use Prim.Native.Nat.{◌≤◌}
 use Rattle.dense.specs.Pairs.{Paired}
 use Rattle.dense.proofs.symmetrize_in_place.Given as goal
 

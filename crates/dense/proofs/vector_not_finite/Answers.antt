@@ -5,4 +5,4 @@ use Rattle.dense.proofs.vector_not_finite.Goals as goal
 
 pub returns : goal.returns
 unfolding vec
-returns c = rw sub-zero at c.not-Finite.ensures
+returns c = rw sub-zero at c.not_finite.ensures

@@ -9,7 +9,7 @@ pub returns-in-Usual : goal.returns-in-Usual
 returns-in-Usual c = laws.settled_usual _ _ _ _ _ _ _ _ c.in-Usual.is (laws.moved_usual _ _ _ _ _ _ _ c.usual_update.ensures refl refl c.record_usual.ensures)
 
 pub returns-in-Diffuse : goal.returns-in-Diffuse
-returns-in-Diffuse c = laws.settled_diffuse _ _ _ _ _ _ _ _ _ c.in-Diffuse.is (laws.moved_diffuse _ _ _ _ _ _ _ _ _ c.diffuse_update.ensures c.root_less_lem.ensures c.enter.ensures)
+returns-in-Diffuse c = laws.settled_diffuse _ _ _ _ _ _ _ _ _ c.in-Diffuse.is (laws.moved_diffuse _ _ _ _ _ _ _ _ _ c.diffuse_update.ensures c.root_less.ensures c.enter.ensures)
 
 pub returns-in-Doubtful : goal.returns-in-Doubtful
 returns-in-Doubtful c = laws.settled_doubt _ _ _ _ _ _ _ _ _ c.in-Doubtful.is refl refl

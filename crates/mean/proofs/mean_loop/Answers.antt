@@ -88,19 +88,10 @@ loop-t-preserved c =
     let lf = block_long _ c.args.m _ (blocks.part_in c.args.m h c.requires.1.fm g.fm.0) in
     let lv = block_long _ c.args.p _ (blocks.part_in c.args.p h c.requires.1.vs g.vs.0) in
     let w = c.mean_period in (
-      going.going_next _ _ _ _ _ _ _ _ _ _ _ g h c.requires.1 (w.auto.1.0 ∙ lp) (w.auto.1.1.0 ∙ lf) (w.auto.1.1.1.0 ∙ lv)
+      going.going_next _ _ _ _ _ _ _ _ _ _ _ g h c.requires.1 (w.auto.pred ∙ lp) (w.auto.filt ∙ lf) (w.auto.v ∙ lv)
           (going.framed c.args.p c.args.m _ c.args.z.now c.args.zs.now c.args.tr.now c.args.trs.now _ _ _ _ _ _ c.part-design.ensures c.transition.ensures w.ensures),
       steps.stepped c.args.m c.loop-t.t c.args.tr.now c.args.trs.now _ c.transition.ensures,
     )
 
 pub returns : goal.returns
 returns c = going.going_all _ _ _ _ _ _ _ _ c.loop-t.invariant.0 c.loop-t-test.false c.requires.1
-
-pub shape_of-pred_mean : goal.shape_of-pred_mean
-shape_of-pred_mean c = 0
-
-pub shape_of-filt_mean : goal.shape_of-filt_mean
-shape_of-filt_mean c = 0
-
-pub shape_of-v : goal.shape_of-v
-shape_of-v c = 0

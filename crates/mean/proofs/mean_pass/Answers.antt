@@ -42,22 +42,10 @@ save8-requires c = at_most (block_long _ c.args.m _ (omega (arith, c.requires.2.
 pub keep_mean-requires : goal.keep_mean-requires
 keep_mean-requires c = c.requires.0
 
-pub shape_of-pred_mean : goal.shape_of-pred_mean
-shape_of-pred_mean c = c.pred_mean-2-1.given.1 ∙ c.mean_loop-answer.auto.pred_mean
-
-pub shape_of-filt_mean : goal.shape_of-filt_mean
-shape_of-filt_mean c = c.mean_loop-answer.auto.filt_mean
-
-pub shape_of-v : goal.shape_of-v
-shape_of-v c = c.mean_loop-answer.auto.v
-
-pub shape_of-state : goal.shape_of-state
-shape_of-state c = c.keep_mean.auto.state
-
 pub returns : goal.returns
 returns c =
     let g = c.requires.1 in
     let a = c.args in
     going.passed a.p a.m a.n a.z.now a.zs.now a.t.now a.ts.now a.c.now a.d.now _ _ _ _ c.save8.new.out c.mean_loop-answer.ensures
-    (dense.loaded_vec a.m _ g.shift-1 c.load8-shift.ensures) c.mean_from_lem.ensures
+    (dense.loaded_vec a.m _ g.shift c.load8-shift.ensures) c.mean_from-a.ensures
     (block_long _ a.m _ (omega (arith, c.requires.2.pm, c.mean_loop-answer.auto.pred_mean))) c.save8.ensures c.keep_mean.ensures

@@ -19,15 +19,6 @@ save8-requires-2 c = at_most c.requires.1.0 c.requires.1.1.m8
 pub mean_step-requires : goal.mean_step-requires
 mean_step-requires c = c.requires.1.1.m8
 
-pub shape_of-pred : goal.shape_of-pred
-shape_of-pred c = c.save8.auto.out
-
-pub shape_of-filt : goal.shape_of-filt
-shape_of-filt c = c.save8-2.auto.out
-
-pub shape_of-v : goal.shape_of-v
-shape_of-v c = c.elements-loglik.auto.v
-
 pub returns : goal.returns
 returns c =
     let a = c.args in
@@ -52,4 +43,4 @@ returns c =
     (saved_vec _ c.requires.0 c.save8.ensures)
     c.elements-loglik.ensures
     (saved_vec _ c.requires.1.0 c.save8-2.ensures)
-    c.mean_step_lem.ensures
+    c.mean_step.ensures

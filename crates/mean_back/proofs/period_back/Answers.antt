@@ -21,5 +21,5 @@ pub returns : goal.returns
 returns c =
     let a = c.args in
     let r = flat_in a.kinds.now a.f_star.now a.f_inf.now a.m_star.now a.m_inf.now in
-    laws.whole a.p a.m a.d-diffuse a.t (mat a.m a.tr.now) a.design.now a.pred_mean.now a.pred_cov.now a.pred_inf.now a.v.now r (rs_in a.m a.r0.now a.r1.now) _ _ _
+    laws.whole a.p a.m a.d_diffuse a.t (mat a.m a.tr.now) a.design.now a.pred_mean.now a.pred_cov.now a.pred_inf.now a.v.now r (rs_in a.m a.r0.now a.r1.now) _ _ _
     c.elements_back.ensures c.smooth_at.ensures c.step_back.ensures

@@ -1,69 +1,82 @@
 -- Refusal 1, 2, one of the lists' reach, or the first after them. What the later ones require comes from the first two.
 use mathlib.Core.Path.{◌≡◌, sym, ◌∙◌}
 use Prim.Native.Nat.{ℕ}
-use mathlib.Core.List.{map}
-use lib.ListN.{length, drop}
-use Rattle.definition.specs.Run.{any_of}
-use Rattle.definition.specs.Inputs.{Model, Offsets, is_infinity, class_of}
-use Rattle.definition.specs.Refusals.{first_of, of_sizes, of_lengths, of_reach, tests, refusal}
-use Rattle.laws.specs.Numbered.{stops, goes_on}
-use Rattle.laws.specs.Accepted.{InRange, past_sizes, past_lengths}
-use Rattle.promise.specs.Lent.{model_of, offsets_of}
+use mathlib.Core.Bool.{Bool}
+use mathlib.Core.List.{[], ◌∷◌}
+use Rattle.definition.specs.Inputs.{Model, Offsets}
+use Rattle.definition.specs.Refusals.{first_of, outside, of_sizes, of_lengths, of_reach, of_entries, tests, refusal}
+use Rattle.laws.specs.Numbered.{first_none, stops, goes_on}
+use Rattle.laws.specs.Accepted.{InRange, InputsFit, in_range, past_lengths}
 use Rattle.model.proofs.refusal.Goals as goal
-
--- the inputs
-abbrev model : tie.Start → Model
-model s =
-    let a = s.args in
-    model_of a.p a.m a.r a.n a.z.now a.zs.now a.repeats a.h.now a.t.now a.ts.now a.rr.now a.q.now a.p_star.now a.flags.now
-
-abbrev offsets : tie.Start → Offsets
-offsets s = let a = s.args in offsets_of a.c.now a.d.now a.a1.now
-
--- k is the number of the first test after the j-th that holds
-abbrev Left : ℕ → tie.Start → ℕ → Type 0
-Left j s k =
-    let a = s.args in
-    k ≡ first_of (drop j (tests (model s) (offsets s) (length a.y.now) (any_of is_infinity (map class_of a.y.now)) a.room))
-
-sizes : (c : goal.Else-sizes-ne0) → InRange c.args.p c.args.m c.args.r c.args.n
-sizes c = past_sizes (model c) (sym c.of_sizes-sizes.ensures ∙ c.if-sizes-ne0.false)
-
--- ---- past each segment
-
-after-sizes : (c : goal.Else-sizes-ne0) {k : ℕ} → Left 1 c k → Left 0 c k
-unfolding tests
-after-sizes c h = goes_on (of_sizes (model c)) _ tt c.of_sizes-sizes.ensures c.if-sizes-ne0.false h
-
-after-lengths : (c : goal.Else-lengths-ne0) {k : ℕ} → Left 2 c k → Left 0 c k
-unfolding tests
-after-lengths c h = after-sizes c (goes_on (of_lengths (model c) (offsets c) _ _) _ tt c.of_lengths-lengths.ensures c.if-lengths-ne0.false h)
 
 -- ---- what each segment may use
 
--- ---- what is returned
+sizes : {p m r n i : ℕ} → i ≡ first_of ((1, outside p m r n) ∷ []) → i ≡ 0 → InRange p m r n
+sizes {p} {m} {r} {n} e z = in_range p m r n (first_none ((1, outside p m r n) ∷ []) tt (sym e ∙ z)).0
+
+inputs : (x : Model) (o : Offsets) (readings : ℕ) (room : Bool) {i : ℕ} → i ≡ first_of (of_lengths x o readings room) → i ≡ 0 → InputsFit x o
+inputs x o readings room e z = (past_lengths x o readings room (sym e ∙ z)).0
+
+-- ---- whose number it is: each segment's, past those before it
+
+module _ (x : Model) (o : Offsets) (readings : ℕ) (infinity room : Bool) where
+  abbrev Number : ℕ → Type 0
+  Number k = k ≡ refusal x o readings infinity room
+
+  module _ {i : ℕ} (e : i ≡ first_of (of_sizes x)) where
+    of_the_sizes : (i ≡ 0 → ⊥) → Number i
+    unfolding refusal tests
+    of_the_sizes n = stops (of_sizes x) _ tt e n
+
+    module _ (z : i ≡ 0) {j : ℕ} (f : j ≡ first_of (of_lengths x o readings room)) where
+      of_the_lengths : (j ≡ 0 → ⊥) → Number j
+      unfolding refusal tests
+      of_the_lengths n = goes_on (of_sizes x) _ tt e z (stops (of_lengths x o readings room) _ tt f n)
+
+      module _ (y : j ≡ 0) {l : ℕ} (g : l ≡ first_of (of_reach x x.n)) where
+        of_the_reach : (l ≡ 0 → ⊥) → Number l
+        unfolding refusal tests
+        of_the_reach n = goes_on (of_sizes x) _ tt e z (goes_on (of_lengths x o readings room) _ tt f y (stops (of_reach x x.n) _ tt g n))
+
+        of_the_entries : l ≡ 0 → {k : ℕ} → k ≡ first_of (of_entries x o infinity) → Number k
+        unfolding refusal tests
+        of_the_entries w h =
+            goes_on (of_sizes x) _ tt e z (goes_on (of_lengths x o readings room) _ tt f y (goes_on (of_reach x x.n) _ tt g w h))
+
+-- ---- what is required
 
 pub of_lengths-lengths-requires : goal.of_lengths-lengths-requires
-of_lengths-lengths-requires c = sizes (c)
+of_lengths-lengths-requires c = sizes c.of_sizes-sizes.ensures c.if-sizes-ne0.false
 
 pub of_reach-reach-requires : goal.of_reach-reach-requires
-of_reach-reach-requires c = let s = sizes c in (s.p0, s.p8, s.m0, s.m8)
+of_reach-reach-requires c = let s = sizes c.of_sizes-sizes.ensures c.if-sizes-ne0.false in (s.p0, s.p8, s.m0, s.m8)
 
 pub refusal_of_entries-requires : goal.refusal_of_entries-requires
-refusal_of_entries-requires c = (sizes c, (past_lengths (model c) (offsets c) _ _ (sym c.of_lengths-lengths.ensures ∙ c.if-lengths-ne0.false)).0)
+refusal_of_entries-requires c =
+    (sizes c.of_sizes-sizes.ensures c.if-sizes-ne0.false, inputs _ _ _ _ c.of_lengths-lengths.ensures c.if-lengths-ne0.false)
+
+-- ---- what is returned
 
 pub returns-then-sizes-ne0 : goal.returns-then-sizes-ne0
-unfolding refusal tests
-returns-then-sizes-ne0 c = (stops (of_sizes (model c)) _ tt c.of_sizes-sizes.ensures c.if-sizes-ne0.true, λ e. absurd (c.if-sizes-ne0.true e))
+returns-then-sizes-ne0 c =
+    (of_the_sizes _ _ _ _ _ c.of_sizes-sizes.ensures c.if-sizes-ne0.true, λ e. absurd (c.if-sizes-ne0.true e))
 
 pub returns-then-lengths-ne0 : goal.returns-then-lengths-ne0
-unfolding refusal tests
-returns-then-lengths-ne0 c = (after-sizes c (stops (of_lengths (model c) (offsets c) _ _) _ tt c.of_lengths-lengths.ensures c.if-lengths-ne0.true), λ e. absurd (c.if-lengths-ne0.true e))
+returns-then-lengths-ne0 c = (
+  of_the_lengths _ _ _ _ _ c.of_sizes-sizes.ensures c.if-sizes-ne0.false c.of_lengths-lengths.ensures c.if-lengths-ne0.true,
+  λ e. absurd (c.if-lengths-ne0.true e),
+)
 
 pub returns-then-reach-ne0 : goal.returns-then-reach-ne0
-unfolding refusal tests
-returns-then-reach-ne0 c = (after-lengths c (stops (of_reach (model c) c.args.n) _ tt c.of_reach-reach.ensures c.if-reach-ne0.true), λ e. absurd (c.if-reach-ne0.true e))
+returns-then-reach-ne0 c = (
+  of_the_reach _ _ _ _ _ c.of_sizes-sizes.ensures c.if-sizes-ne0.false c.of_lengths-lengths.ensures c.if-lengths-ne0.false c.of_reach-reach.ensures
+      c.if-reach-ne0.true,
+  λ e. absurd (c.if-reach-ne0.true e),
+)
 
 pub returns : goal.returns
-unfolding refusal tests
-returns c = (after-lengths c (goes_on (of_reach (model c) c.args.n) _ tt c.of_reach-reach.ensures c.if-reach-ne0.false c.refusal_of_entries.ensures.0), c.refusal_of_entries.ensures.1)
+returns c = (
+  of_the_entries _ _ _ _ _ c.of_sizes-sizes.ensures c.if-sizes-ne0.false c.of_lengths-lengths.ensures c.if-lengths-ne0.false c.of_reach-reach.ensures
+      c.if-reach-ne0.false c.refusal_of_entries.ensures.0,
+  c.refusal_of_entries.ensures.1,
+)

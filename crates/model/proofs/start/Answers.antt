@@ -8,4 +8,4 @@ pub load64-requires : goal.load64-requires
 load64-requires c = omega (arith, area c.requires.m8 c.requires.m8)
 
 pub returns : goal.returns
-returns c = started _ _ _ _ _ c.requires c.load64.ensures c.diffuse_cov.ensures c.diffuse_root.ensures c.any_flag_lem.ensures
+returns c = started _ _ _ _ _ c.requires c.load64.ensures c.diffuse_cov.ensures c.diffuse_root.ensures c.any_flag.ensures

@@ -1,9 +1,9 @@
-use mathlib.Core.Logic.{⊎_elim}
 use native.Mathlib.Omega.{arith}
 use Prim.Native.Nat.{◌-◌}
 use Rattle.dense.specs.Views.{mat}
 use Rattle.period.proofs.Along as along
 use Rattle.period.proofs.by_root.Goals as goal
+use Rattle.period.proofs.by_root.Goals.{then-taken, else-taken}
 
 pub build-root-requires : goal.build-root-requires
 build-root-requires c = (c.requires.0.elements, c.requires.0.states)
@@ -25,10 +25,10 @@ overflow_step-i c = omega (arith, c.requires.0.elements, c.loop-i-test.true)
 
 pub loop-i-preserved : goal.loop-i-preserved
 loop-i-preserved c =
-    ⊎_elim
-    (λ w. rw w.2 (along.rooted_follows _ _ _ _ _ c.args.ys.now _ _ _ c.loop-i.i _ _ _ _ _ _ c.loop-i.invariant.1 c.loop-i-test.true c.requires.0.here c.requires.0.readings c.ask-asked.ensures c.taken_at-taken.ensures c.loop-i.invariant.0 w.0.taken w.1.ensures))
-    (λ w. rw w.1 (along.rooted_kept _ _ _ _ _ c.args.ys.now _ _ _ c.loop-i.i _ _ _ _ _ _ c.loop-i.invariant.1 c.loop-i-test.true c.requires.0.here c.requires.0.readings c.ask-asked.ensures c.taken_at-taken.ensures c.loop-i.invariant.0 w.0.left))
-    c.if-taken.branch
+    elim c.if-taken.branch [
+      then-taken w ↦ rw w.root-is (along.rooted_follows _ _ _ _ _ c.args.ys.now _ _ _ c.loop-i.i _ _ _ _ _ _ c.loop-i.invariant.1 c.loop-i-test.true c.requires.0.here c.requires.0.readings c.ask-asked.ensures c.taken_at-taken.ensures c.loop-i.invariant.0 w.if-taken.true w.follow-root.ensures)
+      | else-taken w ↦ rw w.root-is (along.rooted_kept _ _ _ _ _ c.args.ys.now _ _ _ c.loop-i.i _ _ _ _ _ _ c.loop-i.invariant.1 c.loop-i-test.true c.requires.0.here c.requires.0.readings c.ask-asked.ensures c.taken_at-taken.ensures c.loop-i.invariant.0 w.if-taken.false)
+    ]
 
 pub returns : goal.returns
 returns c = along.rooted_end _ _ _ _ _ _ _ _ _ _ _ _ _ c.loop-i.invariant.1 c.loop-i-test.false c.requires.0.here

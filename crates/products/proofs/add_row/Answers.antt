@@ -1,6 +1,6 @@
+-- An entry not yet written is as it was, so its sum is the wanted one.
 use native.Mathlib.Omega.{arith}
 use mathlib.Core.Path.{◌≡◌, refl}
-use Prim.Native.Nat.{◌-◌}
 use Rattle.definition.specs.Num.{◌⊕◌, ◌⊗◌, at}
 use Rattle.dense.specs.Views.{vec, mat}
 use Rattle.products.specs.Rows.{row_more_at}
@@ -16,7 +16,7 @@ loop-j-preserved c =
     let w = c.loop-j in
     let a = c.args in
     let f = laws.vec_fresh _ _ _ _ _ c.loop-j-test.true w.invariant.1 in
-    let v : at w.r-1 w.j ⊕ a.x ⊗ c.get.result ≡ row_more_at a.m a.x (mat a.m a.b.now) a.l (vec a.m a.r.now) w.j = cc in
+    let v : at w.r w.j ⊕ a.x ⊗ c.get.result ≡ row_more_at a.m a.x (mat a.m a.b.now) a.l (vec a.m a.r.now) w.j = cc in
     (omega arith, laws.vec_next _ _ _ _ _ w.invariant.1 v)
 
 pub returns : goal.returns

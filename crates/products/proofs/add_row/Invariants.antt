@@ -1,6 +1,6 @@
 -- The loop adds the terms of row l place by place.
 use mathlib.Core.Path.{◌≡◌}
-use Prim.Native.Nat.{◌≤◌, ◌-◌}
+use Prim.Native.Nat.{◌≤◌}
 use Rattle.dense.specs.Views.{vec, mat}
 use Rattle.products.specs.Rows.{row_more_at}
 use Rattle.dense.proofs.Laws as laws

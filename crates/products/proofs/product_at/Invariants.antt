@@ -1,5 +1,6 @@
+-- The sum has the first l products.
 use mathlib.Core.Path.{◌≡◌}
-use Prim.Native.Nat.{◌≤◌, ◌-◌}
+use Prim.Native.Nat.{◌≤◌}
 use Rattle.definition.specs.Num.{sum_to}
 use Rattle.definition.specs.Dense.{product_term}
 use Rattle.dense.specs.Views.{rect}

@@ -1,8 +1,7 @@
+-- Each entry is that of the product, so each row is, and the whole; and a look through it.
 use native.Mathlib.Omega.{arith}
 use mathlib.Core.Path.{refl, ◌∙◌}
-use Prim.Native.Nat.{◌-◌}
 use Rattle.definition.specs.Dense.{product_at, product}
-use Rattle.dense.specs.Views.{rect}
 use Rattle.dense.specs.Told.{told}
 use Rattle.dense.proofs.Laws as laws
 use Rattle.products.proofs.product_into.Goals as goal

@@ -1,6 +1,6 @@
 -- The loop adds row by row.
 use mathlib.Core.Path.{◌≡◌}
-use Prim.Native.Nat.{◌≤◌, ◌-◌}
+use Prim.Native.Nat.{◌≤◌}
 use Rattle.definition.specs.Num.{tabulate}
 use Rattle.dense.specs.Views.{vec, mat}
 use Rattle.products.specs.Rows.{row_to}

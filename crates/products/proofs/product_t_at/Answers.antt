@@ -1,6 +1,6 @@
+-- One product more is the sum of one product more; an entry of the transpose is one of the matrix.
 use native.Mathlib.Omega.{arith}
 use mathlib.Core.Path.{◌≡◌}
-use Prim.Native.Nat.{◌-◌}
 use Rattle.definition.specs.Num.{◌⊗◌}
 use Rattle.definition.specs.Dense.{product_at, product_term, transpose}
 use Rattle.dense.specs.Views.{rect}

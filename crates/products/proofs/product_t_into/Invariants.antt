@@ -1,5 +1,6 @@
+-- The first i rows are those of the product, and the first j entries of row i.
 use mathlib.Core.Path.{◌≡◌}
-use Prim.Native.Nat.{◌≤◌, ◌*◌, ◌-◌}
+use Prim.Native.Nat.{◌≤◌, ◌*◌}
 use Rattle.definition.specs.Dense.{product_at, transpose}
 use Rattle.dense.specs.Views.{rect}
 use Rattle.dense.proofs.Laws as laws

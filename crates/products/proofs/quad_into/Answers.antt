@@ -1,3 +1,4 @@
+-- A product of products.
 use Rattle.definition.specs.Dense.{quad}
 use Rattle.products.proofs.quad_into.Goals as goal
 

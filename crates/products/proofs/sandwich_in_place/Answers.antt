@@ -1,3 +1,4 @@
+-- The sandwich is copied back.
 use Rattle.definition.specs.Dense.{sandwich}
 use Rattle.products.proofs.sandwich_in_place.Goals as goal
 

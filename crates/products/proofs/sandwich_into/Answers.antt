@@ -1,3 +1,4 @@
+-- A product of products.
 use Rattle.definition.specs.Dense.{sandwich}
 use Rattle.products.proofs.sandwich_into.Goals as goal
 

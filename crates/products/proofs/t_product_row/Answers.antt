@@ -1,5 +1,5 @@
+-- One row more is added, then all of them.
 use native.Mathlib.Omega.{arith}
-use Prim.Native.Nat.{◌-◌}
 use Rattle.products.proofs.Rows as rows
 use Rattle.products.proofs.t_product_row.Goals as goal
 

@@ -1,6 +1,6 @@
 -- The loop adds row by row.
 use mathlib.Core.Path.{◌≡◌}
-use Prim.Native.Nat.{◌≤◌, ◌-◌}
+use Prim.Native.Nat.{◌≤◌}
 use Rattle.definition.specs.Num.{tabulate}
 use Rattle.definition.specs.Dense.{transposed}
 use Rattle.dense.specs.Views.{vec, mat}

@@ -1,6 +1,6 @@
+-- Each entry is copied from its row, so each row is that of the product, and the whole.
 use native.Mathlib.Omega.{arith}
 use mathlib.Core.Path.{refl, ◌∙◌}
-use Prim.Native.Nat.{◌-◌}
 use Rattle.definition.specs.Dense.{product_at, product}
 use Rattle.dense.proofs.Laws as laws
 use Rattle.products.proofs.Rows as rows

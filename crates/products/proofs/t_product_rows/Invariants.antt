@@ -1,6 +1,6 @@
 -- Each row is put where it stays.
 use mathlib.Core.Path.{◌≡◌}
-use Prim.Native.Nat.{◌≤◌, ◌*◌, ◌-◌}
+use Prim.Native.Nat.{◌≤◌, ◌*◌}
 use Rattle.definition.specs.Dense.{product_at, transposed}
 use Rattle.dense.specs.Views.{mat}
 use Rattle.dense.proofs.Laws as laws

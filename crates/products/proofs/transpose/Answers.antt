@@ -1,8 +1,7 @@
+-- Each entry is that of the transpose, so each row is, and the whole.
 use native.Mathlib.Omega.{arith}
 use mathlib.Core.Path.{refl, ◌∙◌}
-use Prim.Native.Nat.{◌-◌}
 use Rattle.definition.specs.Dense.{transpose, transpose_at}
-use Rattle.dense.specs.Views.{rect}
 use Rattle.dense.proofs.Laws as laws
 use Rattle.products.proofs.transpose.Goals as goal
 

@@ -1,5 +1,6 @@
+-- The first i rows are columns, and the first j entries of row i.
 use mathlib.Core.Path.{◌≡◌}
-use Prim.Native.Nat.{◌≤◌, ◌*◌, ◌-◌}
+use Prim.Native.Nat.{◌≤◌, ◌*◌}
 use lib.ListN.{length}
 use Rattle.definition.specs.Dense.{transpose_at}
 use Rattle.dense.specs.Views.{rect}

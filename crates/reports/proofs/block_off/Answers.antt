@@ -7,4 +7,4 @@ use Rattle.laws.specs.Backward.{part_block}
 use Rattle.reports.proofs.block_off.Goals as goal
 
 pub returns : goal.returns
-returns c = c.not-Finite.ensures ∙ ap (λ (l : List Float). not_finite l) (part_block c.args.t c.args.k c.args.a.now c.requires.inside)
+returns c = c.not_finite.ensures ∙ ap (λ (l : List Float). not_finite l) (part_block c.args.t c.args.k c.args.a.now c.requires.inside)

@@ -1,5 +1,5 @@
+-- A block that is off is told, one that is not is passed; after the last there is none.
 use mathlib.Core.Path.{sym, ◌∙◌}
-use Prim.Native.Nat.{◌-◌}
 use native.Mathlib.Omega.{arith}
 use Rattle.laws.specs.Told.{off_at}
 use Rattle.reports.proofs.Steps as steps
@@ -21,7 +21,7 @@ pub returns-then-off_at : goal.returns-then-off_at
 returns-then-off_at c =
     let a = c.args in
     let w = c.loop-t in
-    sym (w.invariant.1 ∙ steps.here a.done a.n (off_at a.k a.a.now a.b.now a.c.now) w.t (omega arith) (sym c.Off-at.ensures ∙ c.if-off_at.true))
+    sym (w.invariant.1 ∙ steps.here a.done a.n (off_at a.k a.a.now a.b.now a.c.now) w.t (omega arith) (sym c.off_at.ensures ∙ c.if-off_at.true))
 
 pub overflow_step-t : goal.overflow_step-t
 overflow_step-t c = omega (arith, c.requires.n4096)
@@ -30,7 +30,7 @@ pub loop-t-preserved : goal.loop-t-preserved
 loop-t-preserved c =
     let a = c.args in
     let w = c.loop-t in
-    (omega arith, w.invariant.1 ∙ steps.later a.done a.n (off_at a.k a.a.now a.b.now a.c.now) w.t (omega arith) (sym c.Off-at.ensures ∙ c.if-off_at.false))
+    (omega arith, w.invariant.1 ∙ steps.later a.done a.n (off_at a.k a.a.now a.b.now a.c.now) w.t (omega arith) (sym c.off_at.ensures ∙ c.if-off_at.false))
 
 pub returns : goal.returns
 returns c =

@@ -1,6 +1,6 @@
 -- The loop: none of the blocks passed is off, so what is told of all is told of the rest.
 use mathlib.Core.Path.{◌≡◌}
-use Prim.Native.Nat.{◌-◌, ◌≤◌}
+use Prim.Native.Nat.{◌≤◌}
 use Rattle.definition.specs.Num.{tabulate}
 use Rattle.definition.specs.Reports.{first_from}
 use Rattle.laws.specs.Told.{off_at}

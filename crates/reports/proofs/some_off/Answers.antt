@@ -1,5 +1,5 @@
+-- One entry more of each list, then all of them.
 use native.Mathlib.Omega.{arith}
-use Prim.Native.Nat.{◌-◌}
 use mathlib.Core.Path.{refl, ap, ap₂, ◌∙◌}
 use mathlib.Core.Bool.{Bool, not, ◌||◌}
 use lib.ListN.{take}

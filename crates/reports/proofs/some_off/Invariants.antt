@@ -1,5 +1,5 @@
 -- The loop: `found` is whether the test holds of an entry passed, in one of the lists.
-use Prim.Native.Nat.{◌≤◌, ◌-◌}
+use Prim.Native.Nat.{◌≤◌}
 use mathlib.Core.Path.{◌≡◌}
 use mathlib.Core.Bool.{◌||◌}
 use lib.ListN.{length, take}

@@ -14,4 +14,4 @@ unfolding told_before
 returns-then-before-eq0 c = rw c.if-before-eq0.true refl
 
 pub returns-else-before-eq0 : goal.returns-else-before-eq0
-returns-else-before-eq0 c = stays c.args c.args.later c.if-before-eq0.false
+returns-else-before-eq0 c = stays c.args.before c.args.later c.if-before-eq0.false

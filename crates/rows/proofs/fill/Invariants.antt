@@ -1,5 +1,5 @@
 -- The first t periods' numbers are told.
-use Rattle.std.proofs.Common.{◌-◌, ◌*◌, ◌≤◌}
+use Rattle.std.proofs.Common.{◌*◌, ◌≤◌}
 use Rattle.definition.specs.Num.{0ᶠ}
 use Rattle.rows.specs.Filled.{Filled}
 use Rattle.rows.proofs.Filling.{flat}

@@ -1,4 +1,5 @@
-use Rattle.std.proofs.Common.{◌≡◌, ◌-◌, arith}
+-- One square more, then all nine.
+use Rattle.std.proofs.Common.{◌≡◌, arith}
 use Rattle.definition.specs.Num.{◌⊗◌}
 use Rattle.rows.specs.Rows.{square_at, open_of}
 use Rattle.laws.specs.Lists.{sum_none, sum_next}

@@ -1,5 +1,5 @@
 -- The sum of the first i squares.
-use Rattle.std.proofs.Common.{◌≡◌, ◌-◌, ◌≤◌}
+use Rattle.std.proofs.Common.{◌≡◌, ◌≤◌}
 use Rattle.definition.specs.Num.{sum_to}
 use Rattle.rows.specs.Rows.{square_at}
 use Rattle.rows.proofs.open.Given as goal

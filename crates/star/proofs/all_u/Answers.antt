@@ -1,9 +1,7 @@
+-- The entries of u, one after the other.
 use native.Mathlib.Omega.{arith}
 use mathlib.Core.Path.{refl}
-use Prim.Native.Nat.{◌-◌}
 use Rattle.dense.proofs.Laws as laws
-use Rattle.dense.specs.Views.{vec}
-use Rattle.definition.specs.Star.{u_at}
 use Rattle.star.proofs.all_u.Goals as goal
 
 pub loop-l-init : goal.loop-l-init

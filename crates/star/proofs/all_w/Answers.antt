@@ -1,9 +1,7 @@
+-- The entries of w, one after the other.
 use native.Mathlib.Omega.{arith}
 use mathlib.Core.Path.{refl}
-use Prim.Native.Nat.{◌-◌}
 use Rattle.dense.proofs.Laws as laws
-use Rattle.dense.specs.Views.{vec}
-use Rattle.definition.specs.Star.{w_at}
 use Rattle.star.proofs.all_w.Goals as goal
 
 pub loop-a-init : goal.loop-a-init

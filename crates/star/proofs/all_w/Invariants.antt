@@ -1,5 +1,6 @@
+-- The loop: the places passed hold the entries of w.
 use mathlib.Core.Path.{◌≡◌}
-use Prim.Native.Nat.{◌≤◌, ◌-◌}
+use Prim.Native.Nat.{◌≤◌}
 use lib.ListN.{length}
 use Rattle.dense.proofs.Laws as laws
 use Rattle.dense.specs.Views.{vec, rect}

@@ -1,5 +1,5 @@
+-- Each turn puts one column into its row; after the last all stand in order.
 use native.Mathlib.Omega.{arith}
-use Prim.Native.Nat.{◌-◌}
 use lib.Seq.{length-take-le}
 use Rattle.dense.specs.Views.{rect}
 use Rattle.laws.specs.Sizes.{square_le}

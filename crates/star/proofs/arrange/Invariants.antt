@@ -1,4 +1,5 @@
-use Prim.Native.Nat.{◌≤◌, ◌-◌}
+-- The loop: the columns passed stand in their rows.
+use Prim.Native.Nat.{◌≤◌}
 use Rattle.dense.specs.Views.{mat}
 use Rattle.star.proofs.InPlace as place
 use Rattle.star.proofs.arrange.Given as goal

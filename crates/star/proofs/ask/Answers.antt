@@ -1,3 +1,4 @@
+-- What `project` ensures, of the element's row and variance.
 use mathlib.Core.Path.{◌∙◌, ap₂}
 use Rattle.star.specs.Views.{projected_at}
 use Rattle.star.proofs.ask.Goals as goal

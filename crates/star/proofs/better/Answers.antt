@@ -1,3 +1,4 @@
+-- By whether place j is used, and whether its entry is larger.
 use Rattle.star.proofs.Laws as laws
 use Rattle.star.proofs.better.Goals as goal
 

@@ -1,3 +1,4 @@
+-- By whether the row is used up.
 use Rattle.star.proofs.Laws as laws
 use Rattle.star.proofs.column_at.Goals as goal
 

@@ -1,3 +1,4 @@
+-- Two rows set, each to what the other was.
 use Rattle.star.proofs.InPlace as place
 use Rattle.star.proofs.exchange.Goals as goal
 

@@ -1,6 +1,6 @@
+-- The pivot so far is the best of the places passed.
 use native.Mathlib.Omega.{arith}
 use mathlib.Core.Path.{◌≡◌, ap, ◌∙◌}
-use Prim.Native.Nat.{◌-◌}
 use Rattle.star.proofs.Laws as own
 use Rattle.definition.specs.Star.{pivot_to}
 use Rattle.star.proofs.find_pivot.Goals as goal

@@ -1,5 +1,6 @@
+-- The loop: the pivot of the places passed.
 use mathlib.Core.Path.{◌≡◌}
-use Prim.Native.Nat.{◌≤◌, ◌-◌}
+use Prim.Native.Nat.{◌≤◌}
 use lib.ListN.{take}
 use Rattle.dense.specs.Views.{mat}
 use Rattle.definition.specs.Star.{pivot_to}

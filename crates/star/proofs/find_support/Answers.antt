@@ -1,6 +1,6 @@
+-- The states so far are those of the first j on which the design loads.
 use native.Mathlib.Omega.{arith}
 use mathlib.Core.Path.{refl}
-use Prim.Native.Nat.{◌-◌}
 use Rattle.star.proofs.Laws as own
 use Rattle.star.proofs.find_support.Goals as goal
 

@@ -1,4 +1,5 @@
-use Prim.Native.Nat.{◌≤◌, ◌-◌}
+-- The loop: the support among the states passed.
+use Prim.Native.Nat.{◌≤◌}
 use Rattle.dense.specs.Views.{rect}
 use Rattle.star.specs.Views.{Found}
 use Rattle.star.proofs.find_support.Given as goal

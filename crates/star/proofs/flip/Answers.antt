@@ -1,3 +1,4 @@
+-- By the two tests.
 use Rattle.star.proofs.InPlace as place
 use Rattle.star.proofs.flip.Goals as goal
 

@@ -1,3 +1,4 @@
+-- What `downdate` ensures, of the element's row and variance.
 use Rattle.star.proofs.Laws as laws
 use Rattle.star.proofs.follow.Goals as goal
 

@@ -1,3 +1,4 @@
+-- By whether there is a pivot: without one nothing changes, and with one its column goes into its row.
 use native.Mathlib.Omega.{arith}
 use Rattle.star.proofs.InPlace as place
 use Rattle.star.proofs.grow.Goals as goal

@@ -1,3 +1,4 @@
+-- By whether the state joins.
 use borrow.Author.Rules.{rules}
 use mathlib.Core.Path.{◌≡◌}
 use native.Mathlib.Omega.{arith}

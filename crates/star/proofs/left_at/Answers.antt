@@ -1,3 +1,4 @@
+-- By whether the row is used up.
 use Rattle.star.proofs.InPlace as place
 use Rattle.star.proofs.left_at.Goals as goal
 

@@ -1,6 +1,6 @@
+-- Whether a row passed loads on the state.
 use native.Mathlib.Omega.{arith}
 use mathlib.Core.Path.{◌≡◌, ap, ◌∙◌}
-use Prim.Native.Nat.{◌-◌}
 use Rattle.star.proofs.Laws as own
 use Rattle.definition.specs.Star.{loads}
 use Rattle.star.proofs.loads.Goals as goal

@@ -1,5 +1,6 @@
+-- The loop: whether a row passed loads on the state.
 use mathlib.Core.Path.{◌≡◌}
-use Prim.Native.Nat.{◌≤◌, ◌-◌}
+use Prim.Native.Nat.{◌≤◌}
 use Rattle.dense.specs.Views.{rect}
 use Rattle.definition.specs.Star.{loads}
 use Rattle.star.proofs.loads.Given as goal

@@ -1,4 +1,4 @@
-use Prim.Native.Nat.{◌-◌}
+-- By the two tests.
 use Rattle.star.proofs.loads_at.Goals as goal
 
 pub returns-then-b : goal.returns-then-b

@@ -1,9 +1,8 @@
+-- The states are below m; the places filled are the vector on the support.
 use native.Mathlib.Omega.{arith}
 use mathlib.Core.Path.{refl}
-use Prim.Native.Nat.{◌-◌}
 use Rattle.star.proofs.Laws as own
 use Rattle.dense.proofs.Laws as laws
-use Rattle.dense.specs.Views.{vec}
 use Rattle.definition.specs.Star.{on}
 use Rattle.star.proofs.on_support.Goals as goal
 

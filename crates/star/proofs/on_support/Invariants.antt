@@ -1,5 +1,6 @@
+-- The loop: the places passed are filled from the states that the support names.
 use mathlib.Core.Path.{◌≡◌}
-use Prim.Native.Nat.{◌≤◌, ◌-◌}
+use Prim.Native.Nat.{◌≤◌}
 use lib.ListN.{length, take}
 use Rattle.dense.proofs.Laws as laws
 use Rattle.dense.specs.Views.{vec}

@@ -1,5 +1,5 @@
+-- Each turn grows the factor as the definition does; the columns in order are the root.
 use native.Mathlib.Omega.{arith}
-use Prim.Native.Nat.{◌-◌}
 use Rattle.star.proofs.InPlace as place
 use Rattle.star.proofs.pivoted_root.Goals as goal
 

@@ -1,4 +1,5 @@
-use Prim.Native.Nat.{◌≤◌, ◌-◌}
+-- The loop: the workspace holds what the definition grows in as many steps, but for entries that are never read.
+use Prim.Native.Nat.{◌≤◌}
 use lib.ListN.{take}
 use Rattle.definition.specs.Star.{grow_to, seed}
 use Rattle.dense.specs.Views.{mat}

@@ -1,7 +1,6 @@
+-- The numbers passed are flipped, and the others as they were.
 use native.Mathlib.Omega.{arith}
 use mathlib.Core.Path.{refl}
-use Prim.Native.Nat.{◌-◌}
-use Rattle.star.specs.Workspace.{flip}
 use Rattle.dense.proofs.Laws as laws
 use Rattle.star.proofs.InPlace as place
 use Rattle.star.proofs.renumber.Goals as goal

@@ -1,5 +1,6 @@
+-- The loop: the numbers passed are flipped.
 use mathlib.Core.Path.{◌≡◌}
-use Prim.Native.Nat.{◌≤◌, ◌-◌}
+use Prim.Native.Nat.{◌≤◌}
 use lib.ListN.{get_or}
 use Rattle.star.specs.Workspace.{flip}
 use Rattle.dense.proofs.Laws as laws

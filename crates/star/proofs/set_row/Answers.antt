@@ -1,6 +1,6 @@
+-- The places of row i are written one after the other; then the row is x.
 use native.Mathlib.Omega.{arith}
 use mathlib.Core.Path.{refl, ◌∙◌}
-use Prim.Native.Nat.{◌-◌}
 use Rattle.dense.proofs.Laws as laws
 use Rattle.laws.specs.Sizes.{square_le}
 use Rattle.star.proofs.InPlace as place

@@ -1,5 +1,6 @@
+-- The loop: the places of row i that are passed hold x.
 use mathlib.Core.Path.{◌≡◌}
-use Prim.Native.Nat.{◌≤◌, ◌*◌, ◌-◌}
+use Prim.Native.Nat.{◌≤◌, ◌*◌}
 use Rattle.definition.specs.Num.{at}
 use Rattle.dense.specs.Views.{vec}
 use Rattle.dense.proofs.Laws as laws

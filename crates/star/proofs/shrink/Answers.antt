@@ -1,7 +1,8 @@
+-- Row by row, and entry by entry, the shrunk columns.
 use native.Mathlib.Omega.{arith}
 use mathlib.Core.Path.{◌≡◌, refl, ◌∙◌}
 use mathlib.Core.List.{List}
-use Prim.Native.Nat.{ℕ, ◌-◌}
+use Prim.Native.Nat.{ℕ}
 use lib.Ieee.{Float}
 use Rattle.dense.proofs.Laws as laws
 use Rattle.definition.specs.Num.{ent, ◌⊖◌, ◌⊗◌}

@@ -1,5 +1,6 @@
+-- The loops: the columns passed, and the entries passed of the column, are shrunk.
 use mathlib.Core.Path.{◌≡◌}
-use Prim.Native.Nat.{◌≤◌, ◌*◌, ◌-◌}
+use Prim.Native.Nat.{◌≤◌, ◌*◌}
 use Rattle.dense.proofs.Laws as laws
 use Rattle.dense.specs.Views.{vec, rect}
 use Rattle.definition.specs.Star.{shrunk_at}

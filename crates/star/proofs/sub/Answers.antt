@@ -1,6 +1,6 @@
+-- Row by row, and entry by entry, the matrix on the support.
 use native.Mathlib.Omega.{arith}
 use mathlib.Core.Path.{refl, ◌∙◌}
-use Prim.Native.Nat.{◌-◌}
 use Rattle.dense.proofs.Laws as laws
 use Rattle.definition.specs.Star.{sub, sub_at}
 use Rattle.laws.specs.Sizes.{square_le}

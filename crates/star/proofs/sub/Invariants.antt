@@ -1,5 +1,6 @@
+-- The loops: the rows passed, and the entries passed of the row, are those on the support.
 use mathlib.Core.Path.{◌≡◌}
-use Prim.Native.Nat.{◌≤◌, ◌*◌, ◌-◌}
+use Prim.Native.Nat.{◌≤◌, ◌*◌}
 use lib.ListN.{take}
 use Rattle.dense.proofs.Laws as laws
 use Rattle.dense.specs.Views.{mat}

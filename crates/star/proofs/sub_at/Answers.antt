@@ -1,3 +1,4 @@
+-- The two states are below m, so their entry is within the matrix.
 use Rattle.star.proofs.Laws as laws
 use Rattle.star.proofs.sub_at.Goals as goal
 

@@ -1,6 +1,6 @@
+-- Row by row, and entry by entry, what the column leaves.
 use native.Mathlib.Omega.{arith}
 use mathlib.Core.Path.{refl, ◌∙◌}
-use Prim.Native.Nat.{◌-◌}
 use lib.ListN.{take}
 use Rattle.dense.proofs.Laws as laws
 use Rattle.dense.specs.Views.{vec}

@@ -1,6 +1,6 @@
+-- The sum so far is that of the terms passed; after the last it is the entry.
 use native.Mathlib.Omega.{arith}
 use mathlib.Core.Path.{◌≡◌}
-use Prim.Native.Nat.{◌-◌}
 use Rattle.laws.specs.Lists as sums
 use Rattle.definition.specs.Num.{◌⊗◌}
 use Rattle.dense.specs.Views.{vec, rect}

@@ -1,5 +1,6 @@
+-- The loop: the sum of the terms passed.
 use mathlib.Core.Path.{◌≡◌}
-use Prim.Native.Nat.{◌≤◌, ◌-◌}
+use Prim.Native.Nat.{◌≤◌}
 use Rattle.definition.specs.Num.{sum_to}
 use Rattle.dense.specs.Views.{vec, rect}
 use Rattle.definition.specs.Star.{w_term}

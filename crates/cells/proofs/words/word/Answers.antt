@@ -7,16 +7,23 @@ use Rattle.cells.proofs.Laws.{laid, yes, past_end}
 use Rattle.cells.proofs.words.word.Goals as goal
 
 pub returns-then-out-at : goal.returns-then-out-at
-returns-then-out-at c = let a = c.args in past_end (length a.text.now) a.at a.width _ a.out.now (omega (arith, c.if-out-at.true))
+returns-then-out-at c =
+    let a = c.args in
+    let h = past_end (length a.text.now) a.at a.width _ a.out.now (omega (arith, c.if-out-at.true)) in
+    record { value = h.0; out_after = h.1 }
 
 pub returns-then-out-at-2 : goal.returns-then-out-at-2
-returns-then-out-at-2 c = let a = c.args in past_end (length a.text.now) a.at a.width _ a.out.now (omega (arith, c.if-out-at.false, c.if-out-at-2.true))
+returns-then-out-at-2 c =
+    let a = c.args in
+    let h = past_end (length a.text.now) a.at a.width _ a.out.now (omega (arith, c.if-out-at.false, c.if-out-at-2.true)) in
+    record { value = h.0; out_after = h.1 }
 
 pub returns : goal.returns
 returns c =
     let a = c.args in
     let n = length a.text.now in
-    yes n a.at a.width (replicate a.pad 32 ++ (a.text.now ++ replicate (a.width - (a.pad + n)) 32)) a.out.now _
+    let h = yes n a.at a.width (replicate a.pad 32 ++ (a.text.now ++ replicate (a.width - (a.pad + n)) 32)) a.out.now _
     (omega (arith, c.if-out-at.false, c.if-out-at-2.false)) (omega (arith, c.requires))
-    (laid a.out.now c.blanks.new.out a.text.now c.copy.new.1.0 a.at a.width a.pad (a.at + a.pad + n - (a.at + a.pad))
-    (omega (arith, c.if-out-at.false, c.if-out-at-2.false)) c.requires (omega arith) c.blanks.ensures c.copy.ensures.1)
+    (laid a.out.now c.blanks.new.out a.text.now c.copy_from_slice.new.self a.at a.width a.pad (a.at + a.pad + n - (a.at + a.pad))
+    (omega (arith, c.if-out-at.false, c.if-out-at-2.false)) c.requires (omega arith) c.blanks.ensures c.copy_from_slice.ensures.after) in
+    record { value = h.0; out_after = h.1 }

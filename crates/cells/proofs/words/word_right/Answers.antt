@@ -5,9 +5,13 @@ use Rattle.cells.proofs.Laws.{too_long, alike, right_is}
 use Rattle.cells.proofs.words.word_right.Goals as goal
 
 pub returns-then-width-text : goal.returns-then-width-text
-returns-then-width-text c = let a = c.args in too_long (length a.text.now) a.at a.width _ a.out.now c.if-width-text.true
+returns-then-width-text c =
+    let a = c.args in
+    let h = too_long (length a.text.now) a.at a.width _ a.out.now c.if-width-text.true in
+    record { value = h.0; out_after = h.1 }
 
 pub returns : goal.returns
 returns c =
     let a = c.args in
-    alike (length a.text.now) a.at a.width _ (right_of a.width a.text.now) a.out.now c.word.result c.word.new.out (right_is a.width a.text.now c.if-width-text.false) c.word.ensures
+    let h = alike (length a.text.now) a.at a.width _ (right_of a.width a.text.now) a.out.now c.word.result c.word.new.out (right_is a.width a.text.now c.if-width-text.false) (c.word.ensures.value, c.word.ensures.out_after) in
+    record { value = h.0; out_after = h.1 }

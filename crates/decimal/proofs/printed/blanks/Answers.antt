@@ -27,9 +27,3 @@ returns c =
 
 pub loop-i-init : goal.loop-i-init
 loop-i-init c = (omega arith, refl, refl, refl)
-
-pub overflow_add-out : goal.overflow_add-out
-overflow_add-out c = requires)
-
-pub shape_of-out : goal.shape_of-out
-shape_of-out c = 1

@@ -6,14 +6,11 @@ use Rattle.decimal.specs.Reading.{value_from}
 use Rattle.decimal.proofs.Numbers.{value_step, value_grows, value_small, at_end}
 use Rattle.decimal.proofs.reading.value.Goals as goal
 
-small : (c : goal.In-loop-i) → c.loop-i.n ≤ 24 * 10 ^ 14
-small c = value_small c.loop-i.n c.loop-i.i c.loop-i.invariant.2 (omega (arith, c.requires))
-
 pub overflow_mul-n : goal.overflow_mul-n
-overflow_mul-n c = let h = small c in omega arith
+overflow_mul-n c = let h = value_small c.loop-i.n c.loop-i.i c.loop-i.invariant.2 (omega (arith, c.requires)) in omega arith
 
 pub overflow_add-n : goal.overflow_add-n
-overflow_add-n c = let h = small c in omega (arith, c.digit.ensures.1)
+overflow_add-n c = let h = value_small c.loop-i.n c.loop-i.i c.loop-i.invariant.2 (omega (arith, c.requires)) in omega (arith, c.digit.ensures.1)
 
 pub loop-i-preserved : goal.loop-i-preserved
 loop-i-preserved c =

@@ -16,7 +16,7 @@ pub raised-requires : goal.raised-requires
 raised-requires c =
     let q = c.product-w in
     let l : 2 ^ 52 * 1 ≤ c.args.m * c.args.p = mul-le-mul (c.requires.3 c.if-place-lt1048.false) c.requires.2 in
-    λ _. (omega (arith, q.ensures.0, q.ensures.1), q.ensures.2, q.ensures.1)
+    (omega (arith, q.ensures.0, q.ensures.1), q.ensures.2, q.ensures.1)
 
 pub returns : goal.returns
 returns c =

@@ -23,7 +23,4 @@ pub returns-in-5 : goal.returns-in-5
 returns-in-5 c = (sym (ap (λ (x : ℕ). 10 ^ x) c.in-5.is), omega arith, omega arith)
 
 pub returns-in_default : goal.returns-in_default
-returns-in_default c =
-    let r = c.in-0.rest in
-    let e : c.args.d ≡ 6 = omega (arith, c.requires, r.1, r.0.1, r.0.0.1, r.0.0.0.1, r.0.0.0.0.1, r.0.0.0.0.0.1) in
-    (sym (ap (λ (x : ℕ). 10 ^ x) e), omega arith, omega arith)
+returns-in_default c = let e : c.args.d ≡ 6 = omega arith in (sym (ap (λ (x : ℕ). 10 ^ x) e), omega arith, omega arith)

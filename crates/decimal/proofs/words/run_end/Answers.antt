@@ -30,4 +30,4 @@ returns c =
     (omega (arith, w.invariant.1), w.invariant.0)
 
 pub loop-i-init : goal.loop-i-init
-loop-i-init c = requires, refl)
+loop-i-init c = (c.requires, refl)

@@ -24,14 +24,14 @@ log_of-requires c = let h = c.parts-p.ensures.small in omega arith
 
 pub returns-then-s : goal.returns-then-s
 returns-then-s c =
-    c.log_of.ensures ∙ as_is c.parts-p.ensures (parts-p-requires c _) c.if-s.true
+    c.log_of.ensures ∙ as_is c.parts-p.ensures (positive_of c.args.x c.if-x.true c.if-x-top.false) c.if-s.true
 
 pub log_of-requires-then-x : goal.log_of-requires-then-x
 log_of-requires-then-x c = let h = c.parts-p.ensures.small in omega arith
 
 pub returns-then-x : goal.returns-then-x
 returns-then-x c =
-    c.log_of-then-x.ensures ∙ halved c.parts-p.ensures (parts-p-requires c _) c.if-s.false
+    c.log_of-then-x.ensures ∙ halved c.parts-p.ensures (positive_of c.args.x c.if-x.true c.if-x-top.false) c.if-s.false
 
 pub returns-then-x-2 : goal.returns-then-x-2
 returns-then-x-2 c = at_zero c.args.x (zero_of c.args.x c.if-x-2.true)

@@ -1,34 +1,30 @@
 use mathlib.Core.Path.{◌≡◌, subst}
-use mathlib.Core.Logic.{⊎_elim}
 use Prim.Native.Nat.{ℕ, ◌-◌, ◌*◌, ◌^◌, ◌≤◌, ◌<◌}
 use native.Mathlib.Omega.{arith}
 use Rattle.float.proofs.Digits.{Step, start, stay, take, bound, done, moved}
 use Rattle.float.proofs.root.long_root.Goals as goal
-
--- the guess is below 2 ^ 54 and what is left is at most twice it
-near : (c : goal.In-loop-i) → (c.loop-i.q < 2 ^ 54) × (c.loop-i.r ≤ 2 * c.loop-i.q) × (c.loop-i.w < 2 ^ 64)
-near c = (bound c.args.m c.loop-i.q c.loop-i.r c.loop-i.w c.loop-i.i c.loop-i.invariant.1 c.loop-i.invariant.0, c.loop-i.invariant.1.rest, c.loop-i.invariant.1.ahead)
+use Rattle.float.proofs.root.long_root.Goals.{then-t-r, else-t-r}
 
 pub loop-i-init : goal.loop-i-init
 loop-i-init c = (omega arith, start c.args.m c.requires)
 
 pub overflow_mul-t : goal.overflow_mul-t
-overflow_mul-t c = let h = near c in omega arith
+overflow_mul-t c = let h = bound c.args.m c.loop-i.q c.loop-i.r c.loop-i.w c.loop-i.i c.loop-i.invariant.1 c.loop-i.invariant.0 in let s = c.loop-i.invariant.1 in let a = s.rest in let b = s.ahead in omega arith
 
 pub overflow_add-t : goal.overflow_add-t
-overflow_add-t c = let h = near c in omega arith
+overflow_add-t c = let h = bound c.args.m c.loop-i.q c.loop-i.r c.loop-i.w c.loop-i.i c.loop-i.invariant.1 c.loop-i.invariant.0 in let s = c.loop-i.invariant.1 in let a = s.rest in let b = s.ahead in omega arith
 
 pub overflow_mul-r : goal.overflow_mul-r
-overflow_mul-r c = let h = near c in omega arith
+overflow_mul-r c = let h = bound c.args.m c.loop-i.q c.loop-i.r c.loop-i.w c.loop-i.i c.loop-i.invariant.1 c.loop-i.invariant.0 in let s = c.loop-i.invariant.1 in let a = s.rest in let b = s.ahead in omega arith
 
 pub overflow_add-r : goal.overflow_add-r
-overflow_add-r c = let h = near c in omega arith
+overflow_add-r c = let h = bound c.args.m c.loop-i.q c.loop-i.r c.loop-i.w c.loop-i.i c.loop-i.invariant.1 c.loop-i.invariant.0 in let s = c.loop-i.invariant.1 in let a = s.rest in let b = s.ahead in omega arith
 
 pub overflow_mul-q : goal.overflow_mul-q
-overflow_mul-q c = let h = near c in omega arith
+overflow_mul-q c = let h = bound c.args.m c.loop-i.q c.loop-i.r c.loop-i.w c.loop-i.i c.loop-i.invariant.1 c.loop-i.invariant.0 in let s = c.loop-i.invariant.1 in let a = s.rest in let b = s.ahead in omega arith
 
 pub overflow_add-q : goal.overflow_add-q
-overflow_add-q c = let h = near c in omega arith
+overflow_add-q c = let h = bound c.args.m c.loop-i.q c.loop-i.r c.loop-i.w c.loop-i.i c.loop-i.invariant.1 c.loop-i.invariant.0 in let s = c.loop-i.invariant.1 in let a = s.rest in let b = s.ahead in omega arith
 
 pub loop-i-preserved : goal.loop-i-preserved
 loop-i-preserved c =
@@ -37,7 +33,13 @@ loop-i-preserved c =
     let q = c.loop-i.q in
     let r = c.loop-i.r in
     let i = c.loop-i.i in
-    (omega arith, ⊎_elim (λ h. moved h.1 h.2 (take m q r w i c.loop-i.invariant.1 h.0.taken)) (λ h. moved h.1 h.2 (stay m q r w i c.loop-i.invariant.1 h.0.left)) c.if-t-r.branch)
+    (
+      omega arith,
+      elim c.if-t-r.branch [
+      | then-t-r b ↦ moved b.q-is b.r-is (take m q r w i c.loop-i.invariant.1 b.if-t-r.true)
+      | else-t-r b ↦ moved b.q-is b.r-is (stay m q r w i c.loop-i.invariant.1 b.if-t-r.false)
+      ],
+    )
 
 pub returns : goal.returns
 returns c =

@@ -31,7 +31,7 @@ float_from_bits-result c =
     no_nan_bits _ (omega arith)
 
 pub returns-then-x : goal.returns-then-x
-returns-then-x c = root_bits c.parts-p.ensures (parts-p-requires c _) c.rounded-q.ensures
+returns-then-x c = root_bits c.parts-p.ensures (positive_of c.args.x c.if-x.true c.if-x-2.false) c.rounded-q.ensures
 
 pub returns-then-x-3 : goal.returns-then-x-3
 returns-then-x-3 c = at_zero c.args.x (zero_of c.args.x c.if-x-3.true)

@@ -1,6 +1,6 @@
+-- Row by row, and entry by entry, the definition's.
 use native.Mathlib.Omega.{arith}
 use mathlib.Core.Path.{◌≡◌, refl, ◌∙◌}
-use Prim.Native.Nat.{◌-◌}
 use Rattle.definition.specs.Inputs.{start_inf, start_inf_at}
 use Rattle.dense.proofs.Laws as laws
 use Rattle.model.proofs.diffuse.diffuse_cov.Goals as goal

@@ -1,6 +1,6 @@
 -- The loops: the rows passed, and the entries passed of the row, are the definition's.
 use mathlib.Core.Path.{◌≡◌}
-use Prim.Native.Nat.{◌≤◌, ◌*◌, ◌-◌}
+use Prim.Native.Nat.{◌≤◌, ◌*◌}
 use lib.ListN.{length}
 use Rattle.definition.specs.Inputs.{start_inf_at}
 use Rattle.dense.proofs.Laws as laws

@@ -1,6 +1,6 @@
+-- Row by row, and entry by entry, the definition's; a row's one is in the column of its flag.
 use native.Mathlib.Omega.{arith}
 use mathlib.Core.Path.{◌≡◌, refl, ◌∙◌}
-use Prim.Native.Nat.{◌-◌}
 use Rattle.definition.specs.Inputs.{start_root, start_root_at}
 use Rattle.dense.proofs.Laws as laws
 use Rattle.model.proofs.Flags as before

@@ -1,6 +1,6 @@
 -- The loops: the rows passed, and the entries passed of the row, are the definition's; `column` is how many flags stand before the row.
 use mathlib.Core.Path.{◌≡◌}
-use Prim.Native.Nat.{◌≤◌, ◌*◌, ◌-◌}
+use Prim.Native.Nat.{◌≤◌, ◌*◌}
 use lib.ListN.{length}
 use Rattle.definition.specs.Inputs.{flags_before, start_root_at}
 use Rattle.dense.proofs.Laws as laws

@@ -1,5 +1,5 @@
+-- Whether the test holds of an entry passed; after the last, of any.
 use native.Mathlib.Omega.{arith}
-use Prim.Native.Nat.{◌-◌}
 use mathlib.Core.Path.{refl, sym, ◌∙◌}
 use Rattle.laws.specs.Any as any
 use lib.Ieee.{nan}

@@ -1,6 +1,6 @@
+-- Whether the test holds at a place passed; after the last, at any.
 use native.Mathlib.Omega.{arith}
-use Prim.Native.Nat.{◌-◌}
-use Rattle.definition.specs.Refusals.{driven_row, driven_at}
+use Rattle.definition.specs.Refusals.{driven_row}
 use Rattle.laws.specs.Any as any
 use Rattle.model.proofs.entries.driven_row.Goals as goal
 

@@ -1,5 +1,5 @@
 -- The loop: `found` is whether the test holds at a place passed.
-use Prim.Native.Nat.{◌≤◌, ◌-◌}
+use Prim.Native.Nat.{◌≤◌}
 use mathlib.Core.Path.{◌≡◌}
 use Rattle.definition.specs.Run.{any_to}
 use Rattle.definition.specs.Refusals.{driven_at}

@@ -1,6 +1,5 @@
+-- Whether the test holds at a place passed; after the last, at any.
 use native.Mathlib.Omega.{arith}
-use Prim.Native.Nat.{◌-◌}
-use Rattle.definition.specs.Refusals.{shape_of}
 use Rattle.laws.specs.Any as any
 use Rattle.model.proofs.entries.misshapen.Goals as goal
 

@@ -1,6 +1,6 @@
+-- Whether the test holds at a place passed; after the last, at any.
 use native.Mathlib.Omega.{arith}
-use Prim.Native.Nat.{◌-◌}
-use Rattle.definition.specs.Refusals.{mixed_driven, driven_row}
+use Rattle.definition.specs.Refusals.{mixed_driven}
 use Rattle.laws.specs.Any as any
 use Rattle.model.proofs.entries.mixed_driven.Goals as goal
 

@@ -1,5 +1,5 @@
+-- Whether the test holds at a place passed; after the last, at any.
 use native.Mathlib.Omega.{arith}
-use Prim.Native.Nat.{◌-◌}
 use Rattle.definition.specs.Refusals.{negative, negative_at}
 use Rattle.laws.specs.Any as any
 use Rattle.model.proofs.entries.negative.Goals as goal

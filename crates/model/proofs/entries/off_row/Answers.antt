@@ -1,5 +1,5 @@
+-- Whether the test holds at a place passed; after the last, at any.
 use native.Mathlib.Omega.{arith}
-use Prim.Native.Nat.{◌-◌}
 use Rattle.definition.specs.Refusals.{off_row}
 use Rattle.laws.specs.Any as any
 use Rattle.model.proofs.entries.off_row.Goals as goal
@@ -8,7 +8,7 @@ pub loop-j-init : goal.loop-j-init
 loop-j-init c = (omega arith, any.any_none _)
 
 pub loop-j-preserved : goal.loop-j-preserved
-loop-j-preserved c = let w = c.loop-j in (omega arith, any.any_next _ _ _ _ w.invariant.1 c.Off-at.ensures)
+loop-j-preserved c = let w = c.loop-j in (omega arith, any.any_next _ _ _ _ w.invariant.1 c.off_at-found.ensures)
 
 pub returns : goal.returns
 unfolding off_row

@@ -53,4 +53,4 @@ pub returns : goal.returns
 returns c = last c.args.t c.requires.0 (omega arith)
 
 pub overflow_mul-from : goal.overflow_mul-from
-overflow_mul-from c = 1)
+overflow_mul-from c = omega (arith, small c.requires.2 c.requires.1)

@@ -8,7 +8,7 @@ use lib.Seq.{take_all}
 use lib.Ieee.{Float}
 use Rattle.laws.specs.Later.{later_from}
 use Rattle.dense.proofs.Laws.{area}
-use Rattle.model.specs.Lists.{entry_of}
+use Rattle.model.specs.Lists.{Whole, entry_of}
 use Rattle.model.proofs.lists.later.Goals as goal
 
 none : (i : ℕ) (list : List Float) → length list ≡ 0 → list ≡ drop i list
@@ -17,8 +17,8 @@ none (suc i) [] e = refl
 none i (x ∷ list) e = absurd (omega arith)
 
 -- the entry that the next period takes begins within the list
-within : (c : goal.After-entry_from-from) → c.entry_from-from.result ≤ length c.args.list.now
-within c = omega (arith, c.entry_from-from.ensures, entry_of c.args.done (c.requires.3 c.if-list-eq0.false))
+within : {k list from : ℕ} (t : ℕ) → Whole k list → from ≡ min t (list / k - 1) * k → from ≤ list
+within t s e = omega (arith, entry_of t s)
 
 rest : (a : ℕ) (list : List Float) → take (length list - a) (drop a list) ≡ drop a list
 rest a list = take_all (length list - a) (drop a list) (simp length-drop (omega arith))
@@ -34,13 +34,13 @@ pub entry_from-from-requires : goal.entry_from-from-requires
 entry_from-from-requires c = (c.requires.3 c.if-list-eq0.false, area c.requires.0 c.requires.1, c.requires.2)
 
 pub offset_bounds-list-from : goal.offset_bounds-list-from
-offset_bounds-list-from c = omega (arith, within (c))
+offset_bounds-list-from c = omega (arith, within c.args.done (c.requires.3 c.if-list-eq0.false) c.entry_from-from.ensures)
 
 pub slice_bounds-result-count : goal.slice_bounds-result-count
-slice_bounds-result-count c = within (c)
+slice_bounds-result-count c = within c.args.done (c.requires.3 c.if-list-eq0.false) c.entry_from-from.ensures
 
 pub slice_bounds-result-start : goal.slice_bounds-result-start
-slice_bounds-result-start c = within (c)
+slice_bounds-result-start c = within c.args.done (c.requires.3 c.if-list-eq0.false) c.entry_from-from.ensures
 
 pub returns : goal.returns
 unfolding later_from

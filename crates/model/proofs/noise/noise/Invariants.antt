@@ -1,5 +1,5 @@
 -- From zeros on, disturbance by disturbance; then symmetrised.
-use Prim.Native.Nat.{◌≤◌, ◌-◌}
+use Prim.Native.Nat.{◌≤◌}
 use Rattle.model.proofs.Disturbances as sums
 use Rattle.model.proofs.noise.noise.Given as goal
 

@@ -6,8 +6,8 @@ use Rattle.model.proofs.refusals.of_lengths.Goals as goal
 
 pub returns-then-fit-room : goal.returns-then-fit-room
 unfolding first_of bad_length
-returns-then-fit-room c = rw (lengths_fit_lem, ← c.lengths_fit_lem.ensures, c.if-fit-room.true) refl
+returns-then-fit-room c = rw (lengths_fit_lem, ← c.lengths_fit-fit.ensures, c.if-fit-room.true) refl
 
 pub returns-else-fit-room : goal.returns-else-fit-room
 unfolding first_of bad_length
-returns-else-fit-room c = rw (lengths_fit_lem, ← c.lengths_fit_lem.ensures, c.if-fit-room.false) refl
+returns-else-fit-room c = rw (lengths_fit_lem, ← c.lengths_fit-fit.ensures, c.if-fit-room.false) refl

@@ -1,17 +1,19 @@
 -- By the tests, in their order.
 use mathlib.Core.Path.{◌≡◌, refl, sym, ap, ◌∙◌}
 use native.Mathlib.Omega.{arith}
+use Prim.Native.Nat.{ℕ}
+use mathlib.Core.Bool.{Bool}
 use lib.ListN.{length}
 use mathlib.Core.List.{List}
 use lib.Ieee.{Float}
-use Rattle.definition.specs.Inputs.{transition_from}
 use Rattle.definition.specs.Refusals.{first_of, mixed_driven}
 use Rattle.model.specs.Lists.{length_part}
 use Rattle.model.proofs.refusals.of_step.Goals as goal
 
 -- whether the first T drives
-driven : (c : goal.After-mixed_driven) → c.mixed_driven.result ≡ mixed_driven c.args.m (transition_from c.args.m c.args.t.now c.args.ts.now 0) c.args.flags.now
-driven c = c.mixed_driven.ensures ∙ ap (λ (t : List Float). mixed_driven c.args.m t c.args.flags.now) c.part-first.ensures
+driven : (m : ℕ) (flags : List ℕ) {first given : List Float} {b : Bool} → first ≡ given → b ≡ mixed_driven m first flags
+    → b ≡ mixed_driven m given flags
+driven m flags e h = h ∙ ap (λ (t : List Float). mixed_driven m t flags) e
 
 pub part-first-requires : goal.part-first-requires
 part-first-requires c = (c.requires.0.t, omega arith)
@@ -21,12 +23,12 @@ mixed_driven-requires c = let s = c.requires.0 in (record { most = s.t.m8; whole
 
 pub returns-then-mixed_driven : goal.returns-then-mixed_driven
 unfolding first_of
-returns-then-mixed_driven c = (rw (sym (driven c) ∙ c.if-mixed_driven.true) refl, λ e. absurd (omega arith))
+returns-then-mixed_driven c = (rw (sym (driven _ _ c.part-first.ensures c.mixed_driven.ensures) ∙ c.if-mixed_driven.true) refl, λ e. absurd (omega arith))
 
 pub returns-then-bad_noise : goal.returns-then-bad_noise
 unfolding first_of
-returns-then-bad_noise c = (rw (sym (driven c) ∙ c.if-mixed_driven.false, sym c.bad_noise.ensures.0 ∙ c.if-bad_noise.true) refl, λ e. absurd (omega arith))
+returns-then-bad_noise c = (rw (sym (driven _ _ c.part-first.ensures c.mixed_driven.ensures) ∙ c.if-mixed_driven.false, sym c.bad_noise.ensures.0 ∙ c.if-bad_noise.true) refl, λ e. absurd (omega arith))
 
 pub returns : goal.returns
 unfolding first_of
-returns c = (rw (sym (driven c) ∙ c.if-mixed_driven.false, sym c.bad_noise.ensures.0 ∙ c.if-bad_noise.false) refl, λ e. c.bad_noise.ensures.1)
+returns c = (rw (sym (driven _ _ c.part-first.ensures c.mixed_driven.ensures) ∙ c.if-mixed_driven.false, sym c.bad_noise.ensures.0 ∙ c.if-bad_noise.false) refl, λ e. c.bad_noise.ensures.1)

@@ -1,3 +1,4 @@
+-- The root is handed back, and F is that by the root.
 use mathlib.Core.Path.{refl}
 use Rattle.star.proofs.Laws as laws
 use Rattle.star.proofs.StarRoot.project.Goals as goal

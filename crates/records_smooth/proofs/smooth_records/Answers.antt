@@ -1,0 +1,6 @@
+-- The flat call's promise, how many records there are to tell, and what `fill` leaves are the call's promise.
+use Rattle.records.proofs.Told.{listed_smooth_so}
+use Rattle.records_smooth.proofs.smooth_records.Goals as goal
+
+pub returns : goal.returns
+returns c = listed_smooth_so _ _ _ _ _ _ _ _ _ _ _ _ _ _ _ _ _ _ _ _ _ _ _ _ c.flat_smooth-o.ensures c.to_tell-k.ensures c.fill.ensures
