@@ -1,3 +1,4 @@
+-- A pattern above the infinities is a NaN.
 use mathlib.Core.Path.{sym, ◌∙◌, subst}
 use mathlib.Core.Bool.{Bool, not}
 use lib.Dec.{T}

@@ -1,3 +1,4 @@
+-- Every NaN has the one pattern.
 use mathlib.Core.Path.{sym, ap, subst, ◌∙◌}
 use mathlib.Core.Bool.{Bool, not}
 use lib.Dec.{T}

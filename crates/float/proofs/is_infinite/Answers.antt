@@ -1,3 +1,4 @@
+-- By the tests against the infinities.
 use Prim.Native.Nat.{◌*◌, ◌^◌}
 use lib.Dec.{lit≤}
 use Rattle.float.proofs.Tests.{inf_yes, inf_else}

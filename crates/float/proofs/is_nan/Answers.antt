@@ -1,3 +1,4 @@
+-- A NaN alone differs from itself.
 use Rattle.float.proofs.Tests.{nan_test}
 use Rattle.float.proofs.is_nan.Goals as goal
 

@@ -1,3 +1,4 @@
+-- By the test.
 use mathlib.Core.Path.{sym, ap}
 use mathlib.Core.Bool.{Bool, cond}
 use Rattle.definition.specs.Num.{max0, 0ᶠ}

@@ -23,13 +23,13 @@ pub covs-cov_off-requires : goal.covs-cov_off-requires
 unfolding cov_parts
 covs-cov_off-requires c =
     let a = c.args in
-    ran.cov_looks c.requires _ _ _ _ (ran.few_diffuse (model_of a.p a.m a.r a.n a.z.now a.zs.now a.repeats a.h.now a.t.now a.ts.now a.rr.now a.q.now a.p_star.now a.flags.now) (offsets_of a.c.now a.d.now a.a1.now) a.y.now a.rqr.now a.state.now _ a.state.now a.live a.done a _ a.n a.n a.n a.n a a a.pred_mean.now a.pred_mean.now a.filt_mean.now a.filt_mean.now a.v.now a.v.now _ _ _ _ _ _ _ _ _ _ _ _ _ _ _ _ c.requires c.cov_pass-ended.ensures) c.cov_pass-ended.auto.pred_cov c.cov_pass-ended.auto.pred_inf c.cov_pass-ended.auto.filt_cov
+    ran.cov_looks c.requires _ _ _ _ (ran.few_diffuse (model_of a.p a.m a.r a.n a.z.now a.zs.now a.repeats a.h.now a.t.now a.ts.now a.rr.now a.q.now a.p_star.now a.flags.now) (offsets_of a.c.now a.d.now a.a1.now) a.y.now a.rqr.now a.state.now _ a.state.now a.live a.done a.before _ a.n a.n a.n a.n a.before a.before a.pred_mean.now a.pred_mean.now a.filt_mean.now a.filt_mean.now a.v.now a.v.now _ _ _ _ _ _ _ _ _ _ _ _ _ _ _ _ c.requires c.cov_pass-ended.ensures) c.cov_pass-ended.auto.pred_cov c.cov_pass-ended.auto.pred_inf c.cov_pass-ended.auto.filt_cov
 
 pub counted-requires : goal.counted-requires
 unfolding cov_parts
 counted-requires c =
     let a = c.args in
-    ran.few_counts (model_of a.p a.m a.r a.n a.z.now a.zs.now a.repeats a.h.now a.t.now a.ts.now a.rr.now a.q.now a.p_star.now a.flags.now) (offsets_of a.c.now a.d.now a.a1.now) a.y.now a.rqr.now a.state.now _ a.state.now a.live a.done a _ _ _ a.n a.n a a a.pred_mean.now a.pred_mean.now a.filt_mean.now a.filt_mean.now a.v.now a.v.now _ _ _ _ _ _ _ _ _ _ _ _ _ _ _ _ c.requires c.cov_pass-ended.ensures c.heard-heard.ensures c.news-news.ensures (ran.records c.requires c.cov_pass-ended.auto.kinds)
+    ran.few_counts (model_of a.p a.m a.r a.n a.z.now a.zs.now a.repeats a.h.now a.t.now a.ts.now a.rr.now a.q.now a.p_star.now a.flags.now) (offsets_of a.c.now a.d.now a.a1.now) a.y.now a.rqr.now a.state.now _ a.state.now a.live a.done a.before _ _ _ a.n a.n a.before a.before a.pred_mean.now a.pred_mean.now a.filt_mean.now a.filt_mean.now a.v.now a.v.now _ _ _ _ _ _ _ _ _ _ _ _ _ _ _ _ c.requires c.cov_pass-ended.ensures c.heard-heard.ensures c.news-news.ensures (ran.records c.requires c.cov_pass-ended.auto.kinds)
 
 pub mean_pass-answer-requires : goal.mean_pass-answer-requires
 unfolding cov_parts mean_parts
@@ -39,43 +39,7 @@ pub means-mean_off-requires : goal.means-mean_off-requires
 unfolding mean_parts
 means-mean_off-requires c = ran.mean_looks_lem c.requires _ _ c.mean_pass-answer.auto.pred_mean c.mean_pass-answer.auto.filt_mean
 
-pub shape_of-pred_mean : goal.shape_of-pred_mean
-shape_of-pred_mean c = c.mean_pass-answer.auto.pred_mean
-
-pub shape_of-pred_cov : goal.shape_of-pred_cov
-shape_of-pred_cov c = c.cov_pass-ended.auto.pred_cov
-
-pub shape_of-pred_inf : goal.shape_of-pred_inf
-shape_of-pred_inf c = c.cov_pass-ended.auto.pred_inf
-
-pub shape_of-filt_mean : goal.shape_of-filt_mean
-shape_of-filt_mean c = c.mean_pass-answer.auto.filt_mean
-
-pub shape_of-filt_cov : goal.shape_of-filt_cov
-shape_of-filt_cov c = c.cov_pass-ended.auto.filt_cov
-
-pub shape_of-kinds : goal.shape_of-kinds
-shape_of-kinds c = c.cov_pass-ended.auto.kinds
-
-pub shape_of-v : goal.shape_of-v
-shape_of-v c = c.mean_pass-answer.auto.v
-
-pub shape_of-f_star : goal.shape_of-f_star
-shape_of-f_star c = c.cov_pass-ended.auto.f_star
-
-pub shape_of-f_inf : goal.shape_of-f_inf
-shape_of-f_inf c = c.cov_pass-ended.auto.f_inf
-
-pub shape_of-m_star : goal.shape_of-m_star
-shape_of-m_star c = c.cov_pass-ended.auto.m_star
-
-pub shape_of-m_inf : goal.shape_of-m_inf
-shape_of-m_inf c = c.cov_pass-ended.auto.m_inf
-
-pub shape_of-state : goal.shape_of-state
-shape_of-state c = c.mean_pass-answer.auto.state ∙ c.cov_pass-ended.auto.state
-
 pub returns : goal.returns
 returns c =
     let a = c.args in
-    ran.ran (model_of a.p a.m a.r a.n a.z.now a.zs.now a.repeats a.h.now a.t.now a.ts.now a.rr.now a.q.now a.p_star.now a.flags.now) (offsets_of a.c.now a.d.now a.a1.now) a.y.now a.rqr.now a.state.now _ _ a.live a.done a _ _ _ _ _ _ _ _ _ _ _ _ _ _ _ _ _ _ _ _ _ _ _ _ _ _ _ _ _ _ c.requires c.cov_pass-ended.ensures c.heard-heard.ensures c.news-news.ensures c.covs-cov_off.ensures c.counted.ensures c.mean_pass-answer.ensures c.means-mean_off.ensures c.reported.ensures
+    ran.ran (model_of a.p a.m a.r a.n a.z.now a.zs.now a.repeats a.h.now a.t.now a.ts.now a.rr.now a.q.now a.p_star.now a.flags.now) (offsets_of a.c.now a.d.now a.a1.now) a.y.now a.rqr.now a.state.now _ _ a.live a.done a.before _ _ _ _ _ _ _ _ _ _ _ _ _ _ _ _ _ _ _ _ _ _ _ _ _ _ _ _ _ _ c.requires c.cov_pass-ended.ensures c.heard-heard.ensures c.news-news.ensures c.covs-cov_off.ensures c.counted.ensures c.mean_pass-answer.ensures c.means-mean_off.ensures c.reported.ensures

@@ -1,3 +1,4 @@
+-- The buffer keeps its length.
 use Rattle.std.proofs.Common.{◌≡◌, ◌-◌, ◌≤◌, length}
 use Rattle.leaf_tests.proofs.main.Given as goal
 

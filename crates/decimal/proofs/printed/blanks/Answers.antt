@@ -1,8 +1,9 @@
+-- A turn writes one blank before those that stand.
 use mathlib.Core.Path.{refl, ap, ◌∙◌}
 use mathlib.Core.List.{List, ◌++◌}
-use Prim.Native.Nat.{ℕ, ◌+◌, ◌-◌}
+use Prim.Native.Nat.{ℕ, ◌-◌}
 use native.Mathlib.Omega.{arith}
-use lib.ListN.{length, replicate, length-set}
+use lib.ListN.{replicate, length-set}
 use Rattle.decimal.proofs.Printing.{blank_on, byte_on, at_last_blank}
 use Rattle.decimal.proofs.printed.blanks.Goals as goal
 

@@ -1,7 +1,7 @@
 -- From the last blank to the first.
 use mathlib.Core.Path.{◌≡◌}
 use mathlib.Core.List.{◌++◌}
-use Prim.Native.Nat.{◌+◌, ◌-◌, ◌≤◌}
+use Prim.Native.Nat.{◌+◌, ◌≤◌}
 use lib.ListN.{length, take, drop, replicate}
 use Rattle.decimal.proofs.printed.blanks.Given as goal
 

@@ -1,5 +1,6 @@
+-- A turn counts one digit, and the last is the first place.
 use mathlib.Core.Path.{◌∙◌}
-use Prim.Native.Nat.{◌-◌, ◌≤◌}
+use Prim.Native.Nat.{◌-◌}
 use native.Mathlib.Nat.{lt_of_lt_of_le, add-zero}
 use native.Mathlib.Omega.{arith}
 use lib.Dec.{lit≤}

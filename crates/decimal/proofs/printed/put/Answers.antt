@@ -1,9 +1,6 @@
 -- By the tests: it fits, or nothing is written.
-use mathlib.Core.Path.{◌≡◌}
-use Prim.Native.Nat.{◌+◌}
 use native.Mathlib.Omega.{arith}
 use lib.ListN.{length}
-use Rattle.decimal.specs.Printed.{text_of}
 use Rattle.decimal.proofs.Printing.{past_end, too_wide, not_put, needed, put_by}
 use Rattle.decimal.proofs.printed.put.Goals as goal
 

@@ -1,7 +1,8 @@
+-- A turn writes one digit before those that stand.
 use mathlib.Core.Path.{refl, ap, ◌∙◌}
 use Prim.Native.Nat.{◌-◌, ◌/◌}
 use native.Mathlib.Omega.{arith}
-use lib.ListN.{length, length-set}
+use lib.ListN.{length-set}
 use Rattle.decimal.specs.Printed.{digits_onto}
 use Rattle.decimal.proofs.Printing.{digit_on, byte_on, at_last}
 use Rattle.decimal.proofs.printed.spell.Goals as goal

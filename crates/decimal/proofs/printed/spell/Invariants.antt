@@ -1,6 +1,6 @@
 -- From the last digit to the first: the digits to come go before what stands.
 use mathlib.Core.Path.{◌≡◌}
-use Prim.Native.Nat.{◌+◌, ◌-◌, ◌≤◌}
+use Prim.Native.Nat.{◌+◌, ◌≤◌}
 use lib.ListN.{length, take, drop}
 use Rattle.decimal.specs.Printed.{digits_onto}
 use Rattle.decimal.proofs.printed.spell.Given as goal

@@ -1,6 +1,6 @@
+-- A turn looks at one byte.
 use mathlib.Core.Path.{refl, sym, ap, ◌∙◌}
 use mathlib.Core.Bool.{true, false}
-use Prim.Native.Nat.{◌-◌}
 use native.Mathlib.Omega.{arith}
 use Rattle.decimal.specs.Reading.{all_digits}
 use Rattle.decimal.proofs.Numbers.{digits_step, at_end}

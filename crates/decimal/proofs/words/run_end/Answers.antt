@@ -1,5 +1,5 @@
+-- A byte that goes on the run, or one that ends it.
 use mathlib.Core.Path.{◌≡◌, refl, sym, ap, ◌∙◌}
-use Prim.Native.Nat.{◌-◌}
 use native.Mathlib.Omega.{arith}
 use lib.ListN.{drop}
 use Rattle.decimal.specs.Words.{run_of}

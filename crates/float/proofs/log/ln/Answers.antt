@@ -1,3 +1,4 @@
+-- By what the tests say of x; above zero by its digits and its place.
 use mathlib.Core.Path.{◌∙◌}
 use Prim.Native.Nat.{◌*◌, ◌^◌}
 use native.Mathlib.Omega.{arith}

@@ -1,3 +1,4 @@
+-- The constant, computed from the definition.
 use mathlib.Core.Path.{◌≡◌, refl}
 use lib.Ieee.{binary64, of_bits, add, sub, mul, div, lt, round, of_int}
 use Rattle.definition.specs.Root.{smallests_in}

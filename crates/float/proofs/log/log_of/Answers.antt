@@ -1,3 +1,4 @@
+-- The exponent is a whole number that a double holds, and the rest is the definition.
 use lib.Dec.{lit≤}
 use lib.Ieee.{of_bits}
 use Rattle.definition.specs.Log.{log_of}

@@ -1,3 +1,4 @@
+-- A turn adds the next coefficient, which the table holds.
 use mathlib.Core.Path.{◌≡◌, sym, ap, ◌∙◌}
 use Prim.Native.Nat.{suc, ◌-◌}
 use native.Mathlib.Omega.{arith}

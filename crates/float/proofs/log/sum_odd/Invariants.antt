@@ -1,5 +1,6 @@
+-- After i turns the series has i terms.
 use mathlib.Core.Path.{◌≡◌}
-use Prim.Native.Nat.{◌≤◌, ◌-◌}
+use Prim.Native.Nat.{◌≤◌}
 use Rattle.definition.specs.Log.{series}
 use Rattle.float.proofs.log.sum_odd.Given as goal
 

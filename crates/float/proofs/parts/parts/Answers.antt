@@ -1,10 +1,7 @@
 -- The digits and the place of a value, by its bit pattern.
 use mathlib.Core.Path.{sym, subst}
-use Prim.Native.Nat.{◌-◌, ◌≤◌}
 use native.Mathlib.Omega.{arith}
 use lib.Dec.{T}
-use lib.Count.{leading_le}
-use lib.Ieee.{binary64, to_bits}
 use Rattle.float.proofs.Fields.{read, by, parted_low, parted_high, no_nan}
 use Rattle.float.proofs.parts.parts.Goals as goal
 

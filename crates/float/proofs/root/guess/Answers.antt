@@ -1,3 +1,4 @@
+-- No pattern in it is a NaN's; the rest is left to the tests in the code.
 use Prim.Native.Nat.{◌-◌, ◌/◌}
 use native.Mathlib.Omega.{arith}
 use Rattle.float.proofs.Units.{no_nan_bits}

@@ -1,5 +1,6 @@
+-- A turn takes a digit, 1 where what is left allows it and else 0.
 use mathlib.Core.Path.{◌≡◌, subst}
-use Prim.Native.Nat.{ℕ, ◌-◌, ◌*◌, ◌^◌, ◌≤◌, ◌<◌}
+use Prim.Native.Nat.{ℕ}
 use native.Mathlib.Omega.{arith}
 use Rattle.float.proofs.Digits.{Step, start, stay, take, bound, done, moved}
 use Rattle.float.proofs.root.long_root.Goals as goal
@@ -32,12 +33,11 @@ loop-i-preserved c =
     let w = c.loop-i.w in
     let q = c.loop-i.q in
     let r = c.loop-i.r in
-    let i = c.loop-i.i in
-    (
+    let i = c.loop-i.i in (
       omega arith,
       elim c.if-t-r.branch [
-      | then-t-r b ↦ moved b.q-is b.r-is (take m q r w i c.loop-i.invariant.1 b.if-t-r.true)
-      | else-t-r b ↦ moved b.q-is b.r-is (stay m q r w i c.loop-i.invariant.1 b.if-t-r.false)
+        | then-t-r b ↦ moved b.q-is b.r-is (take m q r w i c.loop-i.invariant.1 b.if-t-r.true)
+        | else-t-r b ↦ moved b.q-is b.r-is (stay m q r w i c.loop-i.invariant.1 b.if-t-r.false)
       ],
     )
 

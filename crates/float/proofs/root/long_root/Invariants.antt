@@ -1,4 +1,5 @@
-use Prim.Native.Nat.{◌-◌, ◌≤◌}
+-- A binary digit a turn.
+use Prim.Native.Nat.{◌≤◌}
 use Rattle.float.proofs.Digits.{Step}
 use Rattle.float.proofs.root.long_root.Given as goal
 

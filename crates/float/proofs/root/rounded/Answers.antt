@@ -1,3 +1,4 @@
+-- By the exact test beside the guess, or by the long way.
 use Prim.Native.Nat.{◌-◌, ◌*◌, ◌<◌}
 use native.Mathlib.Nat.{pos_of_ne-zero}
 use native.Mathlib.Omega.{arith}

@@ -1,3 +1,4 @@
+-- By what the tests say of x; above zero by its digits and its place.
 use Prim.Native.Nat.{◌*◌, ◌^◌}
 use native.Mathlib.Omega.{arith}
 use lib.Dec.{lit≤}

@@ -1,3 +1,4 @@
+-- By the halves of g.
 use native.Mathlib.Omega.{arith}
 use Rattle.float.proofs.Roots.{small, square_is}
 use Rattle.float.proofs.root.square.Goals as goal

@@ -1,3 +1,4 @@
+-- At most 8 rows of 8 cells.
 use Rattle.dense.proofs.Laws.{area}
 use Rattle.std.proofs.Common.{arith}
 use Rattle.leaf_tests.proofs.matrices.cells.Goals as goal

@@ -1,3 +1,4 @@
+-- The array keeps its length.
 use Rattle.std.proofs.Common.{◌≡◌, ◌-◌, ◌≤◌, length}
 use Rattle.leaf_tests.proofs.words.doubles64.Given as goal
 
