@@ -1,3 +1,4 @@
+-- F* against its reference, by the two tests.
 use Rattle.acceptance.specs.Views.{dust_of}
 use Rattle.acceptance.proofs.Laws as laws
 use Rattle.acceptance.proofs.against.Goals as goal

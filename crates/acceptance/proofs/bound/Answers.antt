@@ -1,6 +1,6 @@
+-- One term more is the sum of one state more.
 use native.Mathlib.Omega.{arith}
 use mathlib.Core.Path.{◌≡◌}
-use Prim.Native.Nat.{◌-◌}
 use Rattle.definition.specs.Num.{◌⊗◌}
 use Rattle.dense.specs.Views.{vec}
 use Rattle.definition.specs.Cov.{bound, bound_term}

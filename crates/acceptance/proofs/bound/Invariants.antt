@@ -1,5 +1,6 @@
+-- The sum has the terms of the first j states.
 use mathlib.Core.Path.{◌≡◌}
-use Prim.Native.Nat.{◌≤◌, ◌-◌}
+use Prim.Native.Nat.{◌≤◌}
 use Rattle.definition.specs.Num.{sum_to}
 use Rattle.dense.specs.Views.{vec}
 use Rattle.definition.specs.Cov.{bound_term}

@@ -1,3 +1,4 @@
+-- What is found, by the dust test's verdict.
 use Rattle.acceptance.proofs.Laws as laws
 use Rattle.acceptance.proofs.by_dust.Goals as goal
 

@@ -1,3 +1,4 @@
+-- What is found, by the dust test's verdict and F by the star root.
 use Rattle.acceptance.proofs.Laws as laws
 use Rattle.acceptance.proofs.by_root.Goals as goal
 

@@ -1,3 +1,4 @@
+-- Diffuse where its test says so, or else by usual acceptance.
 use Rattle.acceptance.proofs.Laws as laws
 use Rattle.acceptance.proofs.diffusely.Goals as goal
 

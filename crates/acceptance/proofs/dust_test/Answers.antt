@@ -1,3 +1,4 @@
+-- Clear before an update, then by the bound, then by the reference.
 use Rattle.acceptance.proofs.Laws as laws
 use Rattle.definition.specs.Cov.{dust}
 use Rattle.acceptance.specs.Views.{dust_of}

@@ -1,3 +1,4 @@
+-- The product, or 0.
 use Rattle.definition.specs.Cov.{f_inf_by}
 use Rattle.acceptance.proofs.f_inf.Goals as goal
 

@@ -1,3 +1,4 @@
+-- The product and h, or 0.
 use Rattle.definition.specs.Cov.{f_star_by}
 use Rattle.acceptance.proofs.f_star.Goals as goal
 

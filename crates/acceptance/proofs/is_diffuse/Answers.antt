@@ -1,3 +1,4 @@
+-- The test of the root, where the first test holds.
 use Rattle.acceptance.proofs.Laws as laws
 use Rattle.acceptance.proofs.is_diffuse.Goals as goal
 

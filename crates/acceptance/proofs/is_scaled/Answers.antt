@@ -1,3 +1,4 @@
+-- F* against its scale.
 use Rattle.acceptance.proofs.Laws as laws
 use Rattle.acceptance.proofs.is_scaled.Goals as goal
 

@@ -1,3 +1,4 @@
+-- The dust test, where the scale's test holds.
 use Rattle.acceptance.proofs.Laws as laws
 use Rattle.acceptance.proofs.is_usual.Goals as goal
 

@@ -1,3 +1,4 @@
+-- By whether the period is diffuse.
 use Rattle.acceptance.proofs.Laws as laws
 use Rattle.acceptance.proofs.judge.Goals as goal
 

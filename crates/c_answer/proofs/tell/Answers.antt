@@ -1,3 +1,4 @@
+-- How an outcome is told: a refusal by its number, and an answer in its places.
 use Prim.Native.Nat.{ℕ}
 use mathlib.Core.Path.{◌≡◌, refl, sym, subst}
 use Rattle.promise.specs.declared.Answer.{Answer}

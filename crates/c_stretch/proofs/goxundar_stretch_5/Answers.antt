@@ -1,42 +1,5 @@
+-- The outcome of the call, what it promises, and how it is told.
 use Rattle.c_stretch.proofs.goxundar_stretch_5.Goals as goal
 
-pub shape_of-pred_mean : goal.shape_of-pred_mean
-shape_of-pred_mean c = c.stretch-o.auto.pred_mean
-
-pub shape_of-pred_cov : goal.shape_of-pred_cov
-shape_of-pred_cov c = c.stretch-o.auto.pred_cov
-
-pub shape_of-pred_inf : goal.shape_of-pred_inf
-shape_of-pred_inf c = c.stretch-o.auto.pred_inf
-
-pub shape_of-filt_mean : goal.shape_of-filt_mean
-shape_of-filt_mean c = c.stretch-o.auto.filt_mean
-
-pub shape_of-filt_cov : goal.shape_of-filt_cov
-shape_of-filt_cov c = c.stretch-o.auto.filt_cov
-
-pub shape_of-kinds : goal.shape_of-kinds
-shape_of-kinds c = c.stretch-o.auto.kinds
-
-pub shape_of-v : goal.shape_of-v
-shape_of-v c = c.stretch-o.auto.v
-
-pub shape_of-f_star : goal.shape_of-f_star
-shape_of-f_star c = c.stretch-o.auto.f_star
-
-pub shape_of-f_inf : goal.shape_of-f_inf
-shape_of-f_inf c = c.stretch-o.auto.f_inf
-
-pub shape_of-m_star : goal.shape_of-m_star
-shape_of-m_star c = c.stretch-o.auto.m_star
-
-pub shape_of-m_inf : goal.shape_of-m_inf
-shape_of-m_inf c = c.stretch-o.auto.m_inf
-
-pub shape_of-save : goal.shape_of-save
-shape_of-save c = c.stretch-o.auto.save
-
 pub returns : goal.returns
-returns c =
-    let o = c.stretch-o in
-    record { outcome = o.result; promise = o.ensures; told = c.tell.ensures }
+returns c = let o = c.stretch-o in record { outcome = o.result; promise = o.ensures; told = c.tell.ensures }

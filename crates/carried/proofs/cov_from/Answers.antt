@@ -1,15 +1,11 @@
 -- The start, or the four parts read.
 use mathlib.Core.Path.{refl}
 use native.Mathlib.Omega.{arith}
-use Rattle.laws.specs.Sizes.{square_le}
 use Rattle.carried.proofs.Laws as laws
 use Rattle.carried.proofs.cov_from.Goals as goal
 
 pub returns-then-state-eq0 : goal.returns-then-state-eq0
 returns-then-state-eq0 c = laws.begun _ _ _ _ _ _ c.if-state-eq0.true c.start.ensures
-
-pub overflow_mul-mm : goal.overflow_mul-mm
-overflow_mul-mm c = omega (arith, square_le c.args.m c.requires.0.m8)
 
 pub part-requires : goal.part-requires
 part-requires c = laws.star_in c.requires.0 c.if-state-eq0.false refl

@@ -1,15 +1,11 @@
 -- Nothing, or the four parts written.
 use mathlib.Core.Path.{refl, ◌∙◌}
 use native.Mathlib.Omega.{arith}
-use Rattle.laws.specs.Sizes.{square_le}
 use Rattle.carried.proofs.Laws as laws
 use Rattle.carried.proofs.keep_cov.Goals as goal
 
 pub returns-then-state-eq0 : goal.returns-then-state-eq0
 returns-then-state-eq0 c = laws.kept_none _ _ _ _ _ _ c.if-state-eq0.true
-
-pub overflow_mul-mm : goal.overflow_mul-mm
-overflow_mul-mm c = omega (arith, square_le c.args.m c.requires.m8)
 
 pub put-requires : goal.put-requires
 put-requires c = laws.star_in c.requires c.if-state-eq0.false refl

@@ -1,7 +1,7 @@
+-- Each entry is a standard deviation, so the whole is.
 use native.Mathlib.Omega.{arith}
 use mathlib.Core.Path.{refl}
-use Prim.Native.Nat.{◌-◌}
-use Rattle.definition.specs.Cov.{sd_of, sd_at}
+use Rattle.definition.specs.Cov.{sd_of}
 use Rattle.dense.proofs.Laws as laws
 use Rattle.element.proofs.deviations.Goals as goal
 

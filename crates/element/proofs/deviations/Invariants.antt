@@ -1,5 +1,6 @@
+-- The first j entries are standard deviations.
 use mathlib.Core.Path.{◌≡◌}
-use Prim.Native.Nat.{◌≤◌, ◌-◌}
+use Prim.Native.Nat.{◌≤◌}
 use lib.ListN.{length}
 use Rattle.dense.specs.Views.{mat}
 use Rattle.definition.specs.Cov.{sd_at}

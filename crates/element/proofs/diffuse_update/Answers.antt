@@ -1,3 +1,4 @@
+-- P* less two products, and P∞ less one.
 use Rattle.element.proofs.Laws as laws
 use Rattle.element.proofs.diffuse_update.Goals as goal
 

@@ -1,3 +1,4 @@
+-- One number or one row more in each of the five parts.
 use Rattle.element.proofs.Laws as laws
 use Rattle.element.proofs.enter.Goals as goal
 

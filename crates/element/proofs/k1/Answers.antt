@@ -1,6 +1,6 @@
+-- Each entry is that of K1, so the whole is.
 use native.Mathlib.Omega.{arith}
 use mathlib.Core.Path.{◌≡◌, refl}
-use Prim.Native.Nat.{◌-◌}
 use lib.Ieee.{neg}
 use Rattle.definition.specs.Num.{◌⊘◌, ◌⊗◌, ◌⊕◌}
 use Rattle.dense.specs.Views.{vec}

@@ -1,5 +1,6 @@
+-- The first j entries are those of K1.
 use mathlib.Core.Path.{◌≡◌}
-use Prim.Native.Nat.{◌≤◌, ◌-◌}
+use Prim.Native.Nat.{◌≤◌}
 use lib.ListN.{length}
 use lib.Ieee.{neg}
 use Rattle.definition.specs.Num.{◌⊘◌}

@@ -1,3 +1,4 @@
+-- The record of a skipped element.
 use Rattle.promise.specs.Records.{cause_in}
 use Rattle.element.proofs.Laws as laws
 use Rattle.element.proofs.record_skipped.Goals as goal

@@ -1,3 +1,4 @@
+-- The record of a usual element.
 use Rattle.element.proofs.Laws as laws
 use Rattle.element.proofs.record_usual.Goals as goal
 

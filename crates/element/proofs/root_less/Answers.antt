@@ -1,3 +1,4 @@
+-- B less its part along u.
 use Rattle.element.proofs.Laws as laws
 use Rattle.element.proofs.root_less.Goals as goal
 

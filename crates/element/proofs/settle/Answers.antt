@@ -1,3 +1,4 @@
+-- By what was found: the update and the record.
 use mathlib.Core.Path.{refl}
 use Rattle.element.proofs.Laws as laws
 use Rattle.element.proofs.settle.Goals as goal

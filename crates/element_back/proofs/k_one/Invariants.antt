@@ -1,6 +1,6 @@
 -- The loop writes an entry of K1 a turn.
 use mathlib.Core.Path.{◌≡◌}
-use Prim.Native.Nat.{◌≤◌, ◌-◌}
+use Prim.Native.Nat.{◌≤◌}
 use lib.ListN.{length}
 use Rattle.definition.specs.Smooth.{k_one_at}
 use Rattle.dense.specs.Views.{vec}

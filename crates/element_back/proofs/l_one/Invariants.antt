@@ -1,6 +1,6 @@
 -- The two loops write - k z', row by row.
 use mathlib.Core.Path.{◌≡◌}
-use Prim.Native.Nat.{◌≤◌, ◌*◌, ◌-◌}
+use Prim.Native.Nat.{◌≤◌, ◌*◌}
 use lib.ListN.{length}
 use Rattle.definition.specs.Smooth.{l_one_at}
 use Rattle.dense.specs.Views.{vec}

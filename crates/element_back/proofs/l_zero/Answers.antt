@@ -1,6 +1,6 @@
+-- Each entry is that of I - k z', so the whole is.
 use native.Mathlib.Omega.{arith}
 use mathlib.Core.Path.{refl, ◌∙◌}
-use Prim.Native.Nat.{◌-◌}
 use Rattle.definition.specs.Smooth.{l_zero, l_zero_at}
 use Rattle.dense.proofs.Laws as laws
 use Rattle.element_back.proofs.l_zero.Goals as goal

@@ -1,5 +1,5 @@
 -- The buffer keeps its length.
-use Rattle.std.proofs.Common.{◌≡◌, ◌-◌, ◌≤◌, length}
+use Rattle.std.proofs.Common.{◌≡◌, ◌≤◌, length}
 use Rattle.leaf_tests.proofs.main.Given as goal
 
 abbrev pub invariant-loop-g : goal.invariant-loop-g

@@ -1,3 +1,4 @@
+-- P∞ stays where the period is diffuse, or else is set to zeros.
 use mathlib.Core.Path.{sym, ◌∙◌}
 use Rattle.period.proofs.Whole as laws
 use Rattle.period.proofs.begin.Goals as goal

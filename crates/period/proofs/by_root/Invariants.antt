@@ -1,4 +1,4 @@
-use Prim.Native.Nat.{◌-◌}
+-- The star root has followed those taken of the first i elements.
 use Rattle.dense.specs.Views.{mat}
 use Rattle.star.specs.Views.{Sound}
 use Rattle.laws.specs.Flat.{flat_in}

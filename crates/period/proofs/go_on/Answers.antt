@@ -1,3 +1,4 @@
+-- P* and P∞ by T; in a diffuse period the root and the unresolved matrix too.
 use Rattle.period.proofs.Whole as whole
 use Rattle.period.proofs.go_on.Goals as goal
 

@@ -1,3 +1,4 @@
+-- The test of P∞, where the diffuse state lasted until then.
 use Rattle.period.proofs.Whole as laws
 use Rattle.period.proofs.lasts.Goals as goal
 

@@ -1,3 +1,4 @@
+-- By how the element ended.
 use Rattle.period.specs.Views.{past_of}
 use Rattle.period.proofs.past.Goals as goal
 

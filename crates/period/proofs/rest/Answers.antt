@@ -1,11 +1,6 @@
+-- The second stretch, and the last where it stopped.
 use Rattle.period.proofs.Along as along
 use Rattle.period.proofs.rest.Goals as goal
-
-pub stretch-at-requires : goal.stretch-at-requires
-stretch-at-requires c = (c.requires, record { known = λ e. c.deviations-sd.ensures })
-
-pub by_root-requires : goal.by_root-requires
-by_root-requires c = (record { elements = c.requires.elements; states = c.requires.states; here = c.stretch-at.ensures.high; readings = c.requires.readings }, record { known = λ e. c.deviations-sd.ensures })
 
 pub returns-then-at-p : goal.returns-then-at-p
 returns-then-at-p c = along.second_root _ _ _ _ _ _ c.args.ys.now _ _ _ _ _ _ _ _ _ _ c.stretch-at.ensures c.if-at-p.true c.by_root.ensures

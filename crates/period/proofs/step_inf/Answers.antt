@@ -1,3 +1,4 @@
+-- T P∞ T', then symmetrised.
 use Rattle.period.proofs.Whole as whole
 use Rattle.period.proofs.step_inf.Goals as goal
 

@@ -1,3 +1,4 @@
+-- T P* T', the sum, then symmetrised.
 use Rattle.period.proofs.Whole as whole
 use Rattle.period.proofs.step_star.Goals as goal
 

@@ -1,3 +1,4 @@
+-- By how the element ended.
 use Rattle.period.specs.Views.{stops_of}
 use Rattle.period.proofs.stops.Goals as goal
 

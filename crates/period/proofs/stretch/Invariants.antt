@@ -1,4 +1,4 @@
-use Prim.Native.Nat.{◌-◌}
+-- The elements from the first of the stretch up to i are done.
 use Rattle.dense.specs.Views.{mat}
 use Rattle.laws.specs.Flat.{flat_in}
 use Rattle.element.specs.Views.{carried, fixed_of}

@@ -1,3 +1,4 @@
+-- News is the usual kind or the diffuse one.
 use borrow.Author.Tests.{ne_eqb}
 use Rattle.record.proofs.is_news.Goals as goal
 

@@ -1,3 +1,4 @@
+-- None of a wide or a long call; else n·p, which fits.
 use Rattle.records.proofs.Laws.{all_fits, none_wide, none_long, all_of}
 use Rattle.records.proofs.in_all.Goals as goal
 

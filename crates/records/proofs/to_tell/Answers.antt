@@ -1,3 +1,4 @@
+-- All on refusal 12 and of an answer; else none.
 use Rattle.records.proofs.Laws.{tells_twelve, tells_none, tells_answer}
 use Rattle.records.proofs.to_tell.Goals as goal
 

@@ -1,3 +1,4 @@
+-- Out of range never; else where the list is shorter than n·p, which fits.
 use mathlib.Core.Path.{sym, ◌∙◌}
 use Rattle.laws.specs.Accepted.{in_range}
 use Rattle.records.proofs.Laws.{all_fits, not_few, maybe_few}

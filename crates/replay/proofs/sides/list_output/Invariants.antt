@@ -1,4 +1,5 @@
-use Rattle.std.proofs.Common.{◌-◌, ◌≤◌}
+-- How far the list goes, and where the case's words of each part begin.
+use Rattle.std.proofs.Common.{◌≤◌}
 use Rattle.replay.proofs.sides.list_output.Given as goal
 
 abbrev pub invariant-loop-i : goal.invariant-loop-i

@@ -1,4 +1,5 @@
-use Rattle.std.proofs.Common.{◌-◌, ◌≤◌}
+-- How far the places go, and where the case's words begin.
+use Rattle.std.proofs.Common.{◌≤◌}
 use Rattle.replay.proofs.sides.output.Given as goal
 
 abbrev pub invariant-loop-i : goal.invariant-loop-i

@@ -1,4 +1,5 @@
-use Rattle.std.proofs.Common.{◌≡◌, ◌-◌, ◌≤◌, length}
+-- How far the words go, and that the buffer keeps its length.
+use Rattle.std.proofs.Common.{◌≡◌, ◌≤◌, length}
 use Rattle.replay.proofs.words.bytes.Given as goal
 
 abbrev pub invariant-loop-i : goal.invariant-loop-i

@@ -1,4 +1,5 @@
-use Rattle.std.proofs.Common.{◌+◌, ◌-◌, ◌*◌, ◌≤◌}
+-- Where a part begins: each of those before it has at most 4097 words.
+use Rattle.std.proofs.Common.{◌+◌, ◌*◌, ◌≤◌}
 use Rattle.replay.proofs.words.from.Given as goal
 
 abbrev pub invariant-loop-i : goal.invariant-loop-i
