@@ -7,7 +7,7 @@ use Prim.Native.Nat.{ℕ}
 use mathlib.Core.List.{List, [], ◌∷◌}
 use lib.ListN.{length}
 use seplogic.Ra.Ura.{Ura}
-use seplogic.Ra.TreeShare.{full_share}
+use base.Fraction.{full_share}
 use mir.Syntax.{Lifetime, Ty, ty_array}
 use mir.Val.{Val}
 use base.Logic.{ent, sep, ex}
@@ -20,7 +20,7 @@ use denote.Slice.{slice_val, MutSlice, Room, finally}
 use denote.Array.{Array, shape, each, array_val}
 use denote.ArrayMemory.{Single, Array-apart, Array-whole}
 use denote.Lend.{Held, lends_slice, slice_back}
-use types.SemTy.{Arr, cells}
+use types.SemTy.{Arr}
 use types.Share.{arr_parts}
 use borrow.Rule.Slice.Shared.{parts-cells}
 use Rattle.walks.proofs.Lent.{ref}
@@ -48,7 +48,7 @@ module _ (R : RattleType) (n : ℕ) where
         -- [how many there are; the elements; the cell]
         rewrite ! 2 (λ (ws : List Val). ‵ (cell_at full_share (cell_type ∷ []) ws b o)) e refl $ move ! (2 ∷ []) $ use1 𝓛 (‵ (cell b o (array_val us))) (𝓛.laws.raw_at full_share cell_type b o (array_val us)) $
         feq_i ! (List Val) (array_val us ∷ []) (array_val us ∷ []) refl $ move ! (0 ∷ 2 ∷ []) $ fjoin ! $ move ! (0 ∷ 2 ∷ []) $ fjoin ! $
-        fpack ! (List Val) (λ ws. fsep (shape n xs (array_val us ∷ []) ws) (each R.Denot R.own xs ws)) us $
+        fpack ! (List Val) (λ ws. fsep (shape n xs (array_val us ∷ []) ws) (each R.Denot R.own_val xs ws)) us $
         show ! (λ (v : Val). sep 𝓤 (sem 𝓛 (cell b o v)) (sem 𝓛 ((Array R n).own_val xs (v ∷ [])))) (array_val us) $ move ! (1 ∷ 0 ∷ []) $ done !)))
 
     pub lends_array : Single R.mir → Room R n → (ℓ : Lifetime) (κ : Lft) (xs : List R.Denot) (v : Val) (b o : ℕ) → ent 𝓤 (sep 𝓤 (sem 𝓛 (cell b o v)) (sem 𝓛 ((Array R n).own_val xs (v ∷ []))))

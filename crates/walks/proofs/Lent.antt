@@ -1,17 +1,10 @@
 -- What the walks share: a lent slice under a name, its machine value, a part that is lent on and needed again, and how a local dies.
-use mathlib.Core.Path.{◌≡◌, subst}
-use Prim.Native.Nat.{ℕ, zero}
+use Prim.Native.Nat.{ℕ}
 use mathlib.Core.List.{List, ◌∷◌, []}
 use lib.ListN.{length}
-use seplogic.Ra.Ura.{Ura}
-use seplogic.Ra.TreeShare.{full_share}
-use mir.Syntax.{Ty, named}
+use mir.Syntax.{named}
 use mir.Val.{Val}
-use base.Logic.{ent, sep, via, mono_l, mono_r, assoc'}
-use base.Fml.{Lft, Share, GName, Fml, fat, fdies}
-use prog.Wp.{Heap, Env}
-use ghost.Atoms.{Atoms}
-use types.Kit.{Item, ‵, mean, ⋆, nth, del, pull, Goal, frees, Step, step}
+use base.Fml.{Lft, Share, GName, Fml}
 use denote.RattleType.{RattleType}
 use denote.Ref.{MutBor}
 use denote.Slice.{slice_val, MutSlice, Room}

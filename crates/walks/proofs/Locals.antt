@@ -19,12 +19,12 @@ use mathlib.Core.List.{List, [], ◌∷◌, map}
 use lib.Dec.{T}
 use lib.ListN.{get_or}
 use seplogic.Ra.Ura.{Ura}
-use seplogic.Ra.TreeShare.{full_share}
+use base.Fraction.{full_share}
 use mir.Syntax.{Ty, Width, ty_int, ty_ref, w64, Lifetime, Mutability, Local, local as Made-as, Fn, Body, seq, assign, return, place, field, deref, addr_of, aggregate, Opd as Operand, copy, int_big}
 use mir.Val.{Val, vint, vptr, WT, has_ty, Fits}
 use base.Fml.{fat}
 use base.Logic.{SProp, ent, sep, wand, emp, id⊢, via, comm∗, assoc∗, assoc', mono∗, mono_l, mono_r, emp∗, snd∗, wand_i, all_i, guard_i, guard_e}
-use prog.Wp.{Heap, Env, Calls, Loops, no_local, ty_of, alloc, pass, params, release, WpFn, Wp, at_return}
+use prog.Wp.{Heap, Env, Calls, Loops, no_local, alloc, pass, params, release, WpFn, Wp, at_return}
 use types.Logic.{Logic}
 use types.Kit.{Item, ‵, raw, ◌⊛◌, given, use1, use2, learn, mean, ⋆, nth, del, put, pull, fill, push, pop, Post, at_ret, Goal, prop, runs, Seq, Step, step, ◌$◌, ◌∵◌, !, qed, move, split, join, frame, done}
 use types.Run.{Writes, Walks, Opd, Opds, load, from, stop, hop, fld, addr, assigns, no_more, and_then, returns}

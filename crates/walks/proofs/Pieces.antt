@@ -84,7 +84,7 @@ module _ (κ : Lft) where
 
   abbrev pub had : (n : ℕ) (X : Type 0) → Denots (slices κ n) → Lists n X → Fml → Fml
   had zero X a z F = F
-  had (suc n) X a z F = fsep (finally f64 a.0.name z.0) (had n X a.1 z.1 F)
+  had (suc n) X a z F = fsep (finally f64 a.0.ghost_name z.0) (had n X a.1 z.1 F)
 
 -- `ftrue`, some times, before F: what is said and had of a parameter that was handed on as a copy
 abbrev pub nothings : ℕ → Fml → Fml
@@ -95,7 +95,7 @@ module _ {M : Type 1} {𝓤 : Ura M} (𝓛 : Logic 𝓤) where
   pub owns_split : (Rs Ss : List RattleType) (a : Denots (Rs ++ Ss)) (u : Valss (Rs ++ Ss)) → ent 𝓤 (sem 𝓛 (owns (Rs ++ Ss) a u)) (sep 𝓤 (sem 𝓛 (owns Rs (begin Rs Ss a) (begin_vals Rs Ss u))) (sem 𝓛 (owns Ss (end Rs Ss a) (end_vals Rs Ss u))))
   owns_split [] Ss a u = emp∗ 𝓤 (sem 𝓛 (owns Ss a u))
   owns_split (R ∷ Rs) Ss a u =
-      let P = sem 𝓛 (R.own a.0 u.0) in
+      let P = sem 𝓛 (R.own_val a.0 u.0) in
       let Q = sem 𝓛 (owns Rs (begin Rs Ss a.1) (begin_vals Rs Ss u.1)) in
       let S = sem 𝓛 (owns Ss (end Rs Ss a.1) (end_vals Rs Ss u.1)) in
       via 𝓤 (sep 𝓤 P (sep 𝓤 Q S)) (mono_r 𝓤 P (owns_split Rs Ss a.1 u.1)) (assoc' 𝓤 P Q S)
@@ -103,27 +103,27 @@ module _ {M : Type 1} {𝓤 : Ura M} (𝓛 : Logic 𝓤) where
   pub owns_join : (Rs Ss : List RattleType) (x : Denots Rs) (y : Denots Ss) (u : Valss Rs) (w : Valss Ss) → ent 𝓤 (sep 𝓤 (sem 𝓛 (owns Rs x u)) (sem 𝓛 (owns Ss y w))) (sem 𝓛 (owns (Rs ++ Ss) (then Rs Ss x y) (then_vals Rs Ss u w)))
   owns_join [] Ss x y u w = snd∗ 𝓤 (emp 𝓤) (sem 𝓛 (owns Ss y w))
   owns_join (R ∷ Rs) Ss x y u w =
-      let P = sem 𝓛 (R.own x.0 u.0) in
+      let P = sem 𝓛 (R.own_val x.0 u.0) in
       let Q = sem 𝓛 (owns Rs x.1 u.1) in
       let S = sem 𝓛 (owns Ss y w) in
       via 𝓤 (sep 𝓤 P (sep 𝓤 Q S)) (assoc∗ 𝓤 P Q S) (mono_r 𝓤 P (owns_join Rs Ss x.1 y u.1 w))
 
   pub slices_split : (κ : Lft) (n : ℕ) (R : RattleType) (a : Denots (slices κ n ++ (R ∷ []))) (u : List Val) → ent 𝓤 (sem 𝓛 (owns (slices κ n ++ (R ∷ [])) a (and_vals κ n R a u)))
-      (sep 𝓤 (sem 𝓛 (owns (slices κ n) (begin (slices κ n) (R ∷ []) a) (slices_vals κ n (begin (slices κ n) (R ∷ []) a)))) (sem 𝓛 (R.own (end (slices κ n) (R ∷ []) a).0 u)))
-  slices_split κ zero R a u = comm∗ 𝓤 (sem 𝓛 (R.own a.0 u)) (emp 𝓤)
+      (sep 𝓤 (sem 𝓛 (owns (slices κ n) (begin (slices κ n) (R ∷ []) a) (slices_vals κ n (begin (slices κ n) (R ∷ []) a)))) (sem 𝓛 (R.own_val (end (slices κ n) (R ∷ []) a).0 u)))
+  slices_split κ zero R a u = comm∗ 𝓤 (sem 𝓛 (R.own_val a.0 u)) (emp 𝓤)
   slices_split κ (suc n) R a u =
       let P = sem 𝓛 ((MutSlice (named 1) κ f64).own_val a.0 (mut_slice_vals a.0)) in
       let Q = sem 𝓛 (owns (slices κ n) (begin (slices κ n) (R ∷ []) a.1) (slices_vals κ n (begin (slices κ n) (R ∷ []) a.1))) in
-      let S = sem 𝓛 (R.own (end (slices κ n) (R ∷ []) a.1).0 u) in
+      let S = sem 𝓛 (R.own_val (end (slices κ n) (R ∷ []) a.1).0 u) in
       via 𝓤 (sep 𝓤 P (sep 𝓤 Q S)) (mono_r 𝓤 P (slices_split κ n R a.1 u)) (assoc' 𝓤 P Q S)
 
-  pub slices_join : (κ : Lft) (n : ℕ) (R : RattleType) (x : Denots (slices κ n)) (r : R.Denot) (u : List Val) → ent 𝓤 (sep 𝓤 (sem 𝓛 (owns (slices κ n) x (slices_vals κ n x))) (sem 𝓛 (R.own r u)))
+  pub slices_join : (κ : Lft) (n : ℕ) (R : RattleType) (x : Denots (slices κ n)) (r : R.Denot) (u : List Val) → ent 𝓤 (sep 𝓤 (sem 𝓛 (owns (slices κ n) x (slices_vals κ n x))) (sem 𝓛 (R.own_val r u)))
       (sem 𝓛 (owns (slices κ n ++ (R ∷ [])) (then (slices κ n) (R ∷ []) x (r, tt)) (and_vals κ n R (then (slices κ n) (R ∷ []) x (r, tt)) u)))
-  slices_join κ zero R x r u = comm∗ 𝓤 (emp 𝓤) (sem 𝓛 (R.own r u))
+  slices_join κ zero R x r u = comm∗ 𝓤 (emp 𝓤) (sem 𝓛 (R.own_val r u))
   slices_join κ (suc n) R x r u =
       let P = sem 𝓛 ((MutSlice (named 1) κ f64).own_val x.0 (mut_slice_vals x.0)) in
       let Q = sem 𝓛 (owns (slices κ n) x.1 (slices_vals κ n x.1)) in
-      let S = sem 𝓛 (R.own r u) in
+      let S = sem 𝓛 (R.own_val r u) in
       via 𝓤 (sep 𝓤 P (sep 𝓤 Q S)) (assoc∗ 𝓤 P Q S) (mono_r 𝓤 P (slices_join κ n R x.1 r u))
 
   pub skip_nothings : (n : ℕ) (F : Fml) → ent 𝓤 (sem 𝓛 (nothings n F)) (sem 𝓛 F)
@@ -144,7 +144,7 @@ module _ {M : Type 1} {𝓤 : Ura M} (𝓛 : Logic 𝓤) where
   pub had_then : (κ : Lft) (n : ℕ) (X : Type 0) (a : Denots (slices κ n)) (z : Lists n X) (F : Fml) → ent 𝓤 (sep 𝓤 (sem 𝓛 (had κ n X a z ftrue)) (sem 𝓛 F)) (sem 𝓛 (had κ n X a z F))
   had_then κ zero X a z F = snd∗ 𝓤 (emp 𝓤) (sem 𝓛 F)
   had_then κ (suc n) X a z F =
-      let P = sem 𝓛 (finally f64 a.0.name z.0) in
+      let P = sem 𝓛 (finally f64 a.0.ghost_name z.0) in
       let Q = sem 𝓛 (had κ n X a.1 z.1 ftrue) in
       via 𝓤 (sep 𝓤 P (sep 𝓤 Q (sem 𝓛 F))) (assoc∗ 𝓤 P Q (sem 𝓛 F)) (mono_r 𝓤 P (had_then κ n X a.1 z.1 F))
 

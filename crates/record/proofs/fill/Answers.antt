@@ -1,7 +1,7 @@
 -- A turn writes one record more, and at the end k of them stand.
-use Rattle.std.proofs.Common.{◌≡◌, ℕ, ◌∙◌, ap, sym, add-one, arith}
+use Rattle.std.proofs.Common.{◌≡◌, sym, add-one, arith}
 use Rattle.promise.specs.Records.{record_at, records_of, filled}
-use Rattle.record.proofs.Laying.{none, next, laid}
+use Rattle.record.proofs.Laying.{none, next}
 use Rattle.record.proofs.fill.Goals as goal
 
 pub loop-i-init : goal.loop-i-init
