@@ -22,7 +22,7 @@ def listed():
     for line in Path("crates.txt").read_text().splitlines():
         if m := re.match(r"# ([a-z ]+): ", line):
             group = m[1]
-        elif m := re.match(r"(\w+):", line):
+        elif m := re.match(r"(\w+)(?: staticlib)?:", line):
             out.append(f"{group}: {m[1]}")
     return out
 
