@@ -272,7 +272,7 @@ fn mean_loop<'a>(
         (flat_in kinds.now f_star.now f_inf.now m_star.now m_inf.now)
         × Room p m n (length pred_mean.old) (length filt_mean.old) (length v.old) }
     ensures { Looped p m n (mean_run (frame_from p m z.now zs.now tr.now trs.now)
-        (record { c = vec m c.entry.now; d = d.now }) 0 (mean_in m a.old answer.loglik)
+        (record { c = vec m c.now; d = d.now }) 0 (mean_in m a.old answer.loglik)
         (entries n p m (flat_in kinds.now f_star.now f_inf.now
         m_star.now m_inf.now) y.now))
         answer result a.new pred_mean.old pred_mean.new
@@ -343,7 +343,7 @@ pub fn mean_pass<'a>(
         (flat_in kinds.now f_star.now f_inf.now m_star.now m_inf.now)
         × Rooms p m n (length pred_mean.old) (length filt_mean.old) (length v.old) }
     ensures { Passed p m n (mean_run (frame_from p m z.now zs.now t.now ts.now)
-        (record { c = c.entry.now; d = d.now }) 0
+        (record { c = c.now; d = d.now }) 0
         (record { a = mean_from m state.old a1.now; loglik = answer.loglik })
         (entries n p m (flat_in kinds.now f_star.now f_inf.now
         m_star.now m_inf.now) y.now))

@@ -1,4 +1,4 @@
---
+-- One more, or the same.
 use mathlib.Core.Path.{refl}
 use native.Mathlib.Nat.{add-zero}
 use Rattle.cov.proofs.and_one.Goals as goal

@@ -1,5 +1,6 @@
+-- Each period's blocks lie in their parts; what the period leaves carries the loop one period on.
 use mathlib.Core.Path.{refl}
-use Prim.Native.Nat.{◌-◌, ◌*◌}
+use Prim.Native.Nat.{◌*◌}
 use Rattle.laws.specs.Sizes.{eight, square_le, fits}
 use Rattle.laws.specs.Blocks as blocks
 use Rattle.model.proofs.Steps as steps

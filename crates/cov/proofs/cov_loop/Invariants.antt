@@ -1,5 +1,4 @@
 -- The loop over the periods keeps Going.
-use Prim.Native.Nat.{◌-◌}
 use Rattle.dense.specs.Views.{mat}
 use Rattle.period.specs.Views.{state_of}
 use Rattle.model.specs.Lists.{Stands}

@@ -1,5 +1,4 @@
 -- The inputs loaded, the state it begins at, the loop, place n, and the state kept.
-use mathlib.Core.Path.{◌∙◌}
 use Prim.Native.Nat.{◌*◌}
 use Rattle.laws.specs.Sizes.{square_le, fits, at_most}
 use Rattle.laws.specs.Accepted.{as_long}

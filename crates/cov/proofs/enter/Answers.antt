@@ -1,4 +1,4 @@
---
+-- The test and the entering P∞, and the two predicted matrices saved.
 use Rattle.laws.specs.Sizes.{square_le, at_most}
 use Rattle.cov.proofs.Steps as steps
 use Rattle.cov.proofs.enter.Goals as goal

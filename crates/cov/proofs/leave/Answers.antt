@@ -1,4 +1,4 @@
---
+-- The filtered matrix saved, and the state gone on.
 use Rattle.laws.specs.Sizes.{square_le, at_most}
 use Rattle.cov.proofs.Steps as steps
 use Rattle.cov.proofs.leave.Goals as goal

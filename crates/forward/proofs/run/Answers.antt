@@ -1,5 +1,4 @@
 -- The covariance pass, the counts, what ran off; the mean pass, what ran off.
-use mathlib.Core.Path.{◌∙◌}
 use native.Mathlib.Omega.{arith}
 use Rattle.promise.specs.Lent.{model_of, offsets_of, cov_parts, mean_parts}
 use Rattle.forward.proofs.Ran as ran

@@ -1,5 +1,5 @@
+-- Each element carries the loop one element on; at the end it is the scan.
 use mathlib.Core.Path.{sym, ◌∙◌}
-use Prim.Native.Nat.{◌-◌}
 use native.Mathlib.Omega.{arith}
 use Rattle.mean.proofs.Laws as laws
 use Rattle.mean.proofs.Sizes as sizes

@@ -1,5 +1,4 @@
 -- The loop over the elements runs along the scan.
-use Prim.Native.Nat.{◌-◌}
 use Rattle.mean.specs.View.{mean_in}
 use Rattle.laws.specs.Flat.{flat_in}
 use Rattle.mean.proofs.Laws as laws

@@ -1,5 +1,5 @@
+-- Each period's blocks lie in their parts; what the period leaves carries the loop one period on.
 use mathlib.Core.Path.{refl, ◌∙◌}
-use Prim.Native.Nat.{◌-◌}
 use Rattle.model.proofs.Steps as steps
 use Rattle.laws.specs.Sizes.{eight}
 use Rattle.laws.specs.Blocks as blocks

@@ -1,5 +1,4 @@
 -- The loop over the periods keeps Going.
-use Prim.Native.Nat.{◌-◌}
 use Rattle.definition.specs.Inputs.{frame_from}
 use Rattle.dense.specs.Views.{vec}
 use Rattle.model.specs.Lists.{Stands}

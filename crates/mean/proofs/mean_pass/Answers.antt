@@ -1,5 +1,4 @@
 -- c and the first mean loaded, the loop, place n, and the state kept.
-use mathlib.Core.Path.{◌∙◌}
 use native.Mathlib.Omega.{arith}
 use Rattle.laws.specs.Backward.{block_long}
 use Rattle.laws.specs.Sizes.{eight, at_most}

@@ -1,5 +1,5 @@
+-- One entry more is moved; at the end all are.
 use mathlib.Core.Path.{refl, ◌∙◌}
-use Prim.Native.Nat.{◌-◌}
 use native.Mathlib.Omega.{arith}
 use Rattle.dense.proofs.Laws as rows
 use Rattle.mean.proofs.Laws as laws

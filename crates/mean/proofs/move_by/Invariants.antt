@@ -1,6 +1,6 @@
 -- The loop moves the mean entry by entry: below j it is moved, from j on it is as it was.
 use mathlib.Core.Path.{◌≡◌}
-use Prim.Native.Nat.{◌≤◌, ◌-◌}
+use Prim.Native.Nat.{◌≤◌}
 use Rattle.dense.proofs.Laws as rows
 use Rattle.mean.proofs.Laws as laws
 use Rattle.mean.proofs.move_by.Given as goal

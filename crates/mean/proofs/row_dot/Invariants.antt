@@ -1,6 +1,6 @@
 -- The loop sums z a, ascending from +0.0.
 use mathlib.Core.Path.{◌≡◌}
-use Prim.Native.Nat.{◌≤◌, ◌-◌}
+use Prim.Native.Nat.{◌≤◌}
 use Rattle.definition.specs.Num.{sum_to}
 use Rattle.definition.specs.Dense.{dot_at}
 use Rattle.dense.specs.Views.{vec}

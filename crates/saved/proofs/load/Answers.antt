@@ -11,7 +11,7 @@ pub bad_sizes-requires : goal.bad_sizes-requires
 bad_sizes-requires c = (c.requires.1, c.if-long-end.false ∙ c.places_of-end.ensures.end_is)
 
 pub returns-then-bad_sizes : goal.returns-then-bad_sizes
-returns-then-bad_sizes c = none_loaded (refused.bad_sizes_lem c.args.p c.args.m c.args.r c.args.n c.args.saved.now (sym c.bad_sizes_lem.ensures ∙ c.if-bad_sizes.true))
+returns-then-bad_sizes c = none_loaded (refused.bad_sizes_lem c.args.p c.args.m c.args.r c.args.n c.args.saved.now (sym c.bad_sizes.ensures ∙ c.if-bad_sizes.true))
 
 pub load_state-floats-requires : goal.load_state-floats-requires
 load_state-floats-requires c = (c.requires.1, c.if-long-end.false ∙ c.places_of-end.ensures.end_is, c.requires.2)
@@ -24,7 +24,7 @@ bad_tallies-requires c = (
   c.requires.0,
   c.requires.1,
   c.if-long-end.false ∙ c.places_of-end.ensures.end_is,
-  refused.early c.args.p c.args.m c.args.r c.args.n c.args.saved.now (sym c.bad_sizes_lem.ensures ∙ c.if-bad_sizes.false),
+  refused.early c.args.p c.args.m c.args.r c.args.n c.args.saved.now (sym c.bad_sizes.ensures ∙ c.if-bad_sizes.false),
 )
 
 pub returns : goal.returns
@@ -32,6 +32,6 @@ returns c =
     record {
       refused =
           rw (c.wrong_count.ensures, c.bad_tallies.ensures, c.load_state-floats.ensures.0)
-          (refused.bad_rest c.args.p c.args.m c.args.r c.args.n c.args.saved.now (c.if-long-end.false ∙ c.places_of-end.ensures.end_is) (sym c.bad_sizes_lem.ensures ∙ c.if-bad_sizes.false));
+          (refused.bad_rest c.args.p c.args.m c.args.r c.args.n c.args.saved.now (c.if-long-end.false ∙ c.places_of-end.ensures.end_is) (sym c.bad_sizes.ensures ∙ c.if-bad_sizes.false));
       state = λ _. c.load_state-floats.ensures.1;
     }

@@ -1,8 +1,9 @@
+-- One number more is tested and copied; at the end all are.
 use mathlib.Core.Path.{refl, sym, ap, ◌∙◌}
-use Prim.Native.Nat.{◌<◌, ◌-◌}
+use Prim.Native.Nat.{◌<◌}
 use native.Mathlib.Omega.{arith}
 use lib.ListN.{length, length-set}
-use lib.Seq.{paste, paste-zero}
+use lib.Seq.{paste-zero}
 use lib.Ieee.{nan}
 use Rattle.definition.specs.Saved.{float, other_nan}
 use Rattle.laws.specs.Any as any
@@ -34,9 +35,6 @@ loop-i-preserved c =
       any.of_next other_nan ns w.i 0 w.found _ g w.invariant.2 (c.other_nan-found.ensures ∙ ap other_nan e),
       copy_next a.state.now w.state l a.to w.i _ nan (omega arith) h w.invariant.3 (c.double.ensures ∙ ap float e ∙ sym f),
     )
-
-pub shape_of-state : goal.shape_of-state
-shape_of-state c = c.loop-i.invariant.1
 
 pub returns : goal.returns
 returns c =

@@ -1,6 +1,6 @@
 -- The loop copies the floats of the numbers; `found` is whether the test holds of a number passed.
 use mathlib.Core.Path.{◌≡◌}
-use Prim.Native.Nat.{◌≤◌, ◌-◌}
+use Prim.Native.Nat.{◌≤◌}
 use lib.ListN.{length, take}
 use lib.Seq.{paste}
 use Rattle.definition.specs.Run.{any_of}

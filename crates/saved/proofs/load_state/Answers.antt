@@ -30,9 +30,6 @@ overflow_add-at-5 c = omega (arith, c.places_of-at.ensures.loglik_is, c.places_o
 pub eight-requires : goal.eight-requires
 eight-requires c = omega (arith, c.places_of-at.ensures.loglik_is, c.requires.1)
 
-pub shape_of-state : goal.shape_of-state
-shape_of-state c = c.load_floats-unres.auto.state ∙ c.load_floats-root.auto.state ∙ c.load_floats-p_inf.auto.state ∙ c.load_floats-star.auto.state ∙ c.load_floats-mean.auto.state
-
 pub returns : goal.returns
 returns c =
     let s = c.places_of-at.ensures in

@@ -1,3 +1,4 @@
+-- The count that is read, compared.
 use mathlib.Core.Path.{ap}
 use mathlib.Core.Bool.{not}
 use Prim.Native.Nat.{ℕ}

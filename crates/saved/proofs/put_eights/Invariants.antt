@@ -1,6 +1,6 @@
 -- The loop writes number after number.
 use mathlib.Core.Path.{◌≡◌}
-use Prim.Native.Nat.{◌≤◌, ◌-◌, ◌*◌}
+use Prim.Native.Nat.{◌≤◌, ◌*◌}
 use lib.ListN.{length, take}
 use Rattle.saved.proofs.Put.{Put, written}
 use Rattle.saved.proofs.put_eights.Given as goal

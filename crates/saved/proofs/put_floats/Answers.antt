@@ -1,8 +1,8 @@
+-- One float more is written; at the end all are.
 use mathlib.Core.Path.{refl, ◌∙◌}
-use Prim.Native.Nat.{◌-◌}
 use native.Mathlib.Omega.{arith}
 use mathlib.Core.List.{map}
-use lib.ListN.{length, drop, length-map, length-drop}
+use lib.ListN.{drop, length-map, length-drop}
 use Rattle.definition.specs.Saved.{bits}
 use Rattle.saved.proofs.Put.{numbers_none, numbers_more, float_at, floats_all}
 use Rattle.saved.proofs.put_floats.Goals as goal
@@ -14,10 +14,7 @@ pub loop-i-preserved : goal.loop-i-preserved
 loop-i-preserved c =
     let w = c.loop-i in
     let a = c.args in
-    (omega arith, c.put_eight.auto.out ∙ w.invariant.1, numbers_more a.at w.i (map bits (drop a.from a.x.now)) a.out.now w.out-1 _ _ w.invariant.2 (simp (length-map, length-drop) (omega arith)) (omega arith) (c.pattern.ensures ∙ float_at a.x.now a.from w.i (omega arith)) c.put_eight.ensures)
-
-pub shape_of-out : goal.shape_of-out
-shape_of-out c = c.loop-i.invariant.1
+    (omega arith, c.put_eight.auto.out ∙ w.invariant.1, numbers_more a.at w.i (map bits (drop a.from a.x.now)) a.out.now w.out _ _ w.invariant.2 (simp (length-map, length-drop) (omega arith)) (omega arith) (c.pattern.ensures ∙ float_at a.x.now a.from w.i (omega arith)) c.put_eight.ensures)
 
 pub returns : goal.returns
-returns c = let w = c.loop-i in let a = c.args in floats_all a.at a.from w.i a.k a.x.now a.out.now w.out-1 (omega arith) w.invariant.2
+returns c = let w = c.loop-i in let a = c.args in floats_all a.at a.from w.i a.k a.x.now a.out.now w.out (omega arith) w.invariant.2

@@ -1,10 +1,7 @@
 -- A count, and the numbers after it.
-use mathlib.Core.Path.{refl, ◌∙◌}
+use mathlib.Core.Path.{refl}
 use Rattle.saved.proofs.Put.{counted_put}
 use Rattle.saved.proofs.put_numbers.Goals as goal
-
-pub shape_of-out : goal.shape_of-out
-shape_of-out c = c.put_eights.auto.out ∙ c.put_four.auto.out
 
 pub returns : goal.returns
 returns c = let a = c.args in counted_put a.at _ a.x.now _ _ _ refl c.requires.1 c.put_four.ensures c.put_eights.ensures

@@ -1,5 +1,4 @@
 -- Section after section.
-use mathlib.Core.Path.{◌∙◌}
 use native.Mathlib.Omega.{arith}
 use Rattle.saved.proofs.Saves.{bit_is, saves}
 use Rattle.saved.proofs.save.Goals as goal
@@ -9,9 +8,6 @@ put_single-requires c = omega (arith, c.places_of-at.ensures.loglik_is, c.requir
 
 pub put_numbers-requires-2 : goal.put_numbers-requires-2
 put_numbers-requires-2 c = omega (arith, c.places_of-at.ensures.tallies_is, c.requires.1, c.put_numbers.auto.out, c.put_section.auto.out, c.put_section-2.auto.out, c.put_section-3.auto.out, c.put_section-4.auto.out, c.put_section-5.auto.out, c.put_single.auto.out)
-
-pub shape_of-out : goal.shape_of-out
-shape_of-out c = c.put_numbers-2.auto.out ∙ c.put_single.auto.out ∙ c.put_section-5.auto.out ∙ c.put_section-4.auto.out ∙ c.put_section-3.auto.out ∙ c.put_section-2.auto.out ∙ c.put_section.auto.out ∙ c.put_numbers.auto.out
 
 pub returns : goal.returns
 returns c =

@@ -1,3 +1,4 @@
+-- One more, where the reading is not NaN.
 use mathlib.Core.Path.{refl}
 use native.Mathlib.Nat.{add-zero}
 use Rattle.cov.proofs.Counting.{gap_yes, gap_no}

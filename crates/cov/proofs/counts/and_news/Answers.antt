@@ -1,3 +1,4 @@
+-- One more, where the record is news.
 use mathlib.Core.Path.{refl, sym, ◌∙◌}
 use native.Mathlib.Nat.{add-zero}
 use Rattle.cov.proofs.counts.and_news.Goals as goal

@@ -1,6 +1,7 @@
+-- The loop counts the readings before i that are not NaN.
 use mathlib.Core.Path.{◌≡◌}
 use mathlib.Core.Bool.{not}
-use Prim.Native.Nat.{◌≤◌, ◌-◌}
+use Prim.Native.Nat.{◌≤◌}
 use lib.ListN.{length, take}
 use Rattle.definition.specs.Run.{count}
 use Rattle.cov.proofs.Counting.{gaps}

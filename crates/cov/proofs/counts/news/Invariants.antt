@@ -1,5 +1,6 @@
+-- The loop counts the records before i that are news.
 use mathlib.Core.Path.{◌≡◌}
-use Prim.Native.Nat.{◌≤◌, ◌-◌}
+use Prim.Native.Nat.{◌≤◌}
 use lib.ListN.{take}
 use Rattle.definition.specs.Run.{count}
 use Rattle.laws.specs.Kinds.{news_kind}
