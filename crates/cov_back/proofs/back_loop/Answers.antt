@@ -68,8 +68,5 @@ loop-t-preserved c =
       steps.stepped c.args.m _ c.args.tr.now c.args.trs.now _ c.transition.ensures,
     )
 
-pub shape_of-sm_cov : goal.shape_of-sm_cov
-shape_of-sm_cov c = c.loop-t.invariant.0.out.0
-
 pub returns : goal.returns
 returns c = going.going_all _ _ _ _ _ _ _ _ _ c.loop-t.invariant.0 c.loop-t-test.false c.requires.1

@@ -7,9 +7,6 @@ use Rattle.cov_back.proofs.cov_back.Goals as goal
 pub back_loop-requires : goal.back_loop-requires
 back_loop-requires c = (sizes.periods c.requires.0, c.requires.1)
 
-pub shape_of-sm_cov : goal.shape_of-sm_cov
-shape_of-sm_cov c = c.back_loop.auto.sm_cov
-
 pub returns : goal.returns
 returns c =
     let a = c.args in

@@ -14,9 +14,6 @@ smoothed_at-requires c = c.requires.1
 pub step_all-requires : goal.step_all-requires
 step_all-requires c = c.requires.0.m8
 
-pub shape_of-out : goal.shape_of-out
-shape_of-out c = c.smoothed_at.auto.out
-
 pub returns : goal.returns
 returns c =
     let a = c.args in

@@ -46,9 +46,6 @@ smoothed-requires c =
     let h = c.requires in
     (h.m8, (h.own, (block_long a.t (a.m * a.m) a.pred_cov.now h.pred, block_long a.t (a.m * a.m) a.pred_inf.now h.inf)))
 
-pub shape_of-out : goal.shape_of-out
-shape_of-out c = c.smoothed.auto.out
-
 pub returns : goal.returns
 returns c =
     let a = c.args in

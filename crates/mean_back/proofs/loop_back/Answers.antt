@@ -60,8 +60,5 @@ loop-t-preserved c =
       steps.stepped c.args.m _ c.args.tr.now c.args.trs.now _ c.transition.ensures,
     )
 
-pub shape_of-sm_mean : goal.shape_of-sm_mean
-shape_of-sm_mean c = c.loop-t.invariant.0.out.0
-
 pub returns : goal.returns
 returns c = going.going_all _ _ _ _ _ _ _ _ _ _ _ c.loop-t.invariant.0 c.loop-t-test.false c.requires.room

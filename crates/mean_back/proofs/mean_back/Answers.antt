@@ -6,9 +6,6 @@ use Rattle.mean_back.proofs.mean_back.Goals as goal
 pub loop_back-requires : goal.loop_back-requires
 loop_back-requires c = c.requires
 
-pub shape_of-sm_mean : goal.shape_of-sm_mean
-shape_of-sm_mean c = c.loop_back.auto.sm_mean
-
 pub returns : goal.returns
 returns c =
     let a = c.args in

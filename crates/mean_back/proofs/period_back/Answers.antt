@@ -14,9 +14,6 @@ smooth_at-requires c = (c.requires.0, c.requires.1.0)
 pub step_back-requires : goal.step_back-requires
 step_back-requires c = c.requires.1.0.m8
 
-pub shape_of-out : goal.shape_of-out
-shape_of-out c = c.smooth_at.auto.out
-
 pub returns : goal.returns
 returns c =
     let a = c.args in

@@ -2,9 +2,6 @@
 use Rattle.mean_back.proofs.Laws as laws
 use Rattle.mean_back.proofs.smooth_at.Goals as goal
 
-pub shape_of-out : goal.shape_of-out
-shape_of-out c = c.smooth.auto.out
-
 pub returns : goal.returns
 returns c =
     laws.smooth_at c.args.m c.args.t _ _ c.args.pred_mean.now c.args.pred_cov.now c.args.pred_inf.now _ c.requires.1.means c.requires.1.covs c.requires.1.infs c.smooth.ensures

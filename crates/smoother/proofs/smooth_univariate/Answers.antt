@@ -32,45 +32,6 @@ back-requires c =
     let w' = mean_parts a.pred_mean.now a.filt_mean.now a.v.now in
     looked.ready {w = w} {w' = w'} (judged.past (judged.checked c.refusal-k.ensures.0 c.room-room.ensures c.room_smoothed-both.ensures) c.if-k-gt0.false) _ _ _ _ _ c.run-o.auto.pred_mean c.run-o.auto.pred_cov c.run-o.auto.pred_inf c.run-o.auto.v c.run-o.auto.kinds c.run-o.auto.f_star c.run-o.auto.f_inf c.run-o.auto.m_star c.run-o.auto.m_inf refl refl
 
-pub shape_of-pred_mean-in-Refused : goal.shape_of-pred_mean-in-Refused
-shape_of-pred_mean-in-Refused c = c.run-o.auto.pred_mean
-
-pub shape_of-pred_cov-in-Refused : goal.shape_of-pred_cov-in-Refused
-shape_of-pred_cov-in-Refused c = c.run-o.auto.pred_cov
-
-pub shape_of-pred_inf-in-Refused : goal.shape_of-pred_inf-in-Refused
-shape_of-pred_inf-in-Refused c = c.run-o.auto.pred_inf
-
-pub shape_of-filt_mean-in-Refused : goal.shape_of-filt_mean-in-Refused
-shape_of-filt_mean-in-Refused c = c.run-o.auto.filt_mean
-
-pub shape_of-filt_cov-in-Refused : goal.shape_of-filt_cov-in-Refused
-shape_of-filt_cov-in-Refused c = c.run-o.auto.filt_cov
-
-pub shape_of-kinds-in-Refused : goal.shape_of-kinds-in-Refused
-shape_of-kinds-in-Refused c = c.run-o.auto.kinds
-
-pub shape_of-v-in-Refused : goal.shape_of-v-in-Refused
-shape_of-v-in-Refused c = c.run-o.auto.v
-
-pub shape_of-f_star-in-Refused : goal.shape_of-f_star-in-Refused
-shape_of-f_star-in-Refused c = c.run-o.auto.f_star
-
-pub shape_of-f_inf-in-Refused : goal.shape_of-f_inf-in-Refused
-shape_of-f_inf-in-Refused c = c.run-o.auto.f_inf
-
-pub shape_of-m_star-in-Refused : goal.shape_of-m_star-in-Refused
-shape_of-m_star-in-Refused c = c.run-o.auto.m_star
-
-pub shape_of-m_inf-in-Refused : goal.shape_of-m_inf-in-Refused
-shape_of-m_inf-in-Refused c = c.run-o.auto.m_inf
-
-pub shape_of-sm_mean-in-Refused : goal.shape_of-sm_mean-in-Refused
-shape_of-sm_mean-in-Refused c = c.smoothed.auto.sm_mean
-
-pub shape_of-sm_cov-in-Refused : goal.shape_of-sm_cov-in-Refused
-shape_of-sm_cov-in-Refused c = c.smoothed.auto.sm_cov
-
 pub returns-in-Refused : goal.returns-in-Refused
 unfolding cov_parts mean_parts
 returns-in-Refused c =
@@ -82,45 +43,6 @@ returns-in-Refused c =
     let b = cov_parts c.run-o.new.pred_cov c.run-o.new.pred_inf c.run-o.new.filt_cov c.run-o.new.kinds c.run-o.new.f_star c.run-o.new.f_inf c.run-o.new.m_star c.run-o.new.m_inf in
     let b' = mean_parts c.run-o.new.pred_mean c.run-o.new.filt_mean c.run-o.new.v in
     judged.silenced {x = x} {o = o} {y = a.y.now} {w = w} {w' = w'} {sm = a.sm_mean.now} {sc = a.sm_cov.now} {k = c.refusal-k.result} (judged.checked c.refusal-k.ensures.0 c.room-room.ensures c.room_smoothed-both.ensures) c.if-k-gt0.false {r = c.run-o.result} {b = b} {b' = b'} c.run-o.ensures {sm' = c.smoothed.new.sm_mean} {sc' = c.smoothed.new.sm_cov} c.in-Refused.is c.smoothed.ensures
-
-pub shape_of-pred_mean-in-Answered : goal.shape_of-pred_mean-in-Answered
-shape_of-pred_mean-in-Answered c = c.run-o.auto.pred_mean
-
-pub shape_of-pred_cov-in-Answered : goal.shape_of-pred_cov-in-Answered
-shape_of-pred_cov-in-Answered c = c.run-o.auto.pred_cov
-
-pub shape_of-pred_inf-in-Answered : goal.shape_of-pred_inf-in-Answered
-shape_of-pred_inf-in-Answered c = c.run-o.auto.pred_inf
-
-pub shape_of-filt_mean-in-Answered : goal.shape_of-filt_mean-in-Answered
-shape_of-filt_mean-in-Answered c = c.run-o.auto.filt_mean
-
-pub shape_of-filt_cov-in-Answered : goal.shape_of-filt_cov-in-Answered
-shape_of-filt_cov-in-Answered c = c.run-o.auto.filt_cov
-
-pub shape_of-kinds-in-Answered : goal.shape_of-kinds-in-Answered
-shape_of-kinds-in-Answered c = c.run-o.auto.kinds
-
-pub shape_of-v-in-Answered : goal.shape_of-v-in-Answered
-shape_of-v-in-Answered c = c.run-o.auto.v
-
-pub shape_of-f_star-in-Answered : goal.shape_of-f_star-in-Answered
-shape_of-f_star-in-Answered c = c.run-o.auto.f_star
-
-pub shape_of-f_inf-in-Answered : goal.shape_of-f_inf-in-Answered
-shape_of-f_inf-in-Answered c = c.run-o.auto.f_inf
-
-pub shape_of-m_star-in-Answered : goal.shape_of-m_star-in-Answered
-shape_of-m_star-in-Answered c = c.run-o.auto.m_star
-
-pub shape_of-m_inf-in-Answered : goal.shape_of-m_inf-in-Answered
-shape_of-m_inf-in-Answered c = c.run-o.auto.m_inf
-
-pub shape_of-sm_mean-in-Answered : goal.shape_of-sm_mean-in-Answered
-shape_of-sm_mean-in-Answered c = c.back.auto.sm_mean
-
-pub shape_of-sm_cov-in-Answered : goal.shape_of-sm_cov-in-Answered
-shape_of-sm_cov-in-Answered c = c.back.auto.sm_cov
 
 pub returns-in-Answered : goal.returns-in-Answered
 unfolding cov_parts mean_parts

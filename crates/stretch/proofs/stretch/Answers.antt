@@ -59,39 +59,6 @@ keep-requires c =
     let w' = mean_parts a.pred_mean.now a.filt_mean.now a.v.now in
     called.may_keep x o a.y.now a.begins a.saved.now a.last w w' a.save.now c.if-k-gt0.false c.refusal-k.ensures.number _ c.enter-stands.result c.enter-stands.ensures (c.enter-stands.auto.state ∙ c.refusal-k.auto.state) (c.run-e.auto.state ∙ c.enter-stands.auto.state ∙ c.refusal-k.auto.state)
 
-pub shape_of-pred_mean : goal.shape_of-pred_mean
-shape_of-pred_mean c = c.run-e.auto.pred_mean
-
-pub shape_of-pred_cov : goal.shape_of-pred_cov
-shape_of-pred_cov c = c.run-e.auto.pred_cov
-
-pub shape_of-pred_inf : goal.shape_of-pred_inf
-shape_of-pred_inf c = c.run-e.auto.pred_inf
-
-pub shape_of-filt_mean : goal.shape_of-filt_mean
-shape_of-filt_mean c = c.run-e.auto.filt_mean
-
-pub shape_of-filt_cov : goal.shape_of-filt_cov
-shape_of-filt_cov c = c.run-e.auto.filt_cov
-
-pub shape_of-kinds : goal.shape_of-kinds
-shape_of-kinds c = c.run-e.auto.kinds
-
-pub shape_of-v : goal.shape_of-v
-shape_of-v c = c.run-e.auto.v
-
-pub shape_of-f_star : goal.shape_of-f_star
-shape_of-f_star c = c.run-e.auto.f_star
-
-pub shape_of-f_inf : goal.shape_of-f_inf
-shape_of-f_inf c = c.run-e.auto.f_inf
-
-pub shape_of-m_star : goal.shape_of-m_star
-shape_of-m_star c = c.run-e.auto.m_star
-
-pub shape_of-m_inf : goal.shape_of-m_inf
-shape_of-m_inf c = c.run-e.auto.m_inf
-
 pub returns : goal.returns
 unfolding cov_parts mean_parts
 returns c =

@@ -17,15 +17,9 @@ returns-else-saved-eq0 c = (rw (c.if-begins.true, ne_eqb _ _ c.if-saved-eq0.fals
 pub load-requires : goal.load-requires
 load-requires c = (c.requires.0.p8, c.requires.0.m8, c.requires.1)
 
-pub shape_of-state-then-load : goal.shape_of-state-then-load
-shape_of-state-then-load c = c.load.auto.state
-
 pub returns-then-load : goal.returns-then-load
 unfolding first_of
 returns-then-load c = (rw (c.if-begins.false, sym c.load.ensures.refused ∙ c.if-load.true) refl, λ e b. absurd (omega arith))
-
-pub shape_of-state-else-load : goal.shape_of-state-else-load
-shape_of-state-else-load c = c.load.auto.state
 
 pub returns-else-load : goal.returns-else-load
 unfolding first_of
