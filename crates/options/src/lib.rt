@@ -1,6 +1,13 @@
 // The arguments of the panel's two programs: which there are, and the files that they name.
 #![tactic(auto)]
 
+ghost use Rattle.std.specs.Prelude.{◌≤◌, length, IfSome};
+
+use std::env::{Env, FillError};
+use std::fs;
+use std::fs::Files;
+use std::io::{Error, ErrorKind, Read};
+
 // `svg`, `save`, `from` and `file` are places among the arguments; 0: none.
 #[derive(Clone, Copy)]
 pub struct Options {
@@ -149,54 +156,157 @@ fn fitting(o: Options) -> Options {
     o
 }
 
-fn with_argument(o: Options, i: usize) -> Options {
-    let mut space = io::buffer();
-    let k = os::arg(i, &mut space);
-    take(o, i, &space[..k])
+// Puts argument i at the start of the space. Answers its length; nothing where there is no such argument. One that is longer than the space reads as
+// an empty one.
+pub fn argument<E: Env>(env: &E, i: usize, space: &mut [u8]) -> Option<usize>
+    ensures { IfSome result (λ k. k ≤ length space.new) }
+{
+    match env.arg(i, space) {
+        Ok(k) => Some(k),
+        Err(FillError::TooLong) => Some(0),
+        Err(FillError::NotPresent) => None,
+    }
 }
 
-pub fn given() -> Options {
+fn with_argument<E: Env>(env: &E, o: Options, i: usize) -> Option<Options> {
+    let mut space = io::buffer();
+    let k = argument(env, i, &mut space)?;
+    Some(take(o, i, &space[..k]))
+}
+
+pub fn given<E: Env>(env: &E) -> Options {
     let mut o = none();
-    let n = os::arg_count();
-    for i in 0..n {
-        o = with_argument(o, i);
+    for i in 0..usize::MAX {
+        match with_argument(env, o, i) {
+            Some(more) => {
+                o = more;
+            }
+            None => {
+                break;
+            }
+        }
     }
     fitting(o)
 }
 
-// The sheet, open for reading. Below 0: it can't be had, and that is told.
-fn open_named(name: &[u8]) -> i32 {
+// ---- files by name
+
+const NAME_TOO_LONG: i32 = 36;
+
+// To std a file's name is text.
+fn as_text(name: &[u8]) -> std::io::Result<&str> {
+    if name.len() > 4095 {
+        return Err(Error::from_raw_os_error(NAME_TOO_LONG));
+    }
+    match str::from_utf8(name) {
+        Ok(text) => Ok(text),
+        Err(_) => Err(Error::from(ErrorKind::InvalidFilename)),
+    }
+}
+
+pub fn open_read<R: Files>(files: &R, name: &[u8]) -> std::io::Result<R::File> {
+    fs::open(files, as_text(name)?)
+}
+
+// A file that is there is emptied.
+pub fn open_overwrite<R: Files>(files: &R, name: &[u8]) -> std::io::Result<R::File> {
+    fs::create(files, as_text(name)?)
+}
+
+pub fn unlink<R: Files>(files: &R, name: &[u8]) -> std::io::Result<()> {
+    fs::remove_file(files, as_text(name)?)
+}
+
+pub fn rename<R: Files>(files: &R, from: &[u8], to: &[u8]) -> std::io::Result<()> {
+    let from = as_text(from)?;
+    let to = as_text(to)?;
+    fs::rename(files, from, to)
+}
+
+// 0 at the end, and where the read fails.
+fn read_some<F: Read>(file: &mut F, space: &mut [u8]) -> usize
+    ensures { result ≤ length space.new }
+{
+    match file.read(space) {
+        Ok(n) => n,
+        Err(_) => 0,
+    }
+}
+
+// Reads until the space is full, the file ends or a read fails. Answers how many bytes stand at the start of the space.
+pub fn read_full<F: Read>(file: &mut F, space: &mut [u8]) -> usize
+    ensures { result ≤ length space.new }
+{
+    let mut done = 0;
+    while done < space.len() {
+        let n = read_some(file, &mut space[done..]);
+        if n == 0 {
+            break;
+        }
+        done += n;
+    }
+    done
+}
+
+// ---- the sheet, and the picture
+
+// What a sheet is read from: standard input, or a file.
+#[derive(Drop)]
+pub enum Source<F> {
+    Input,
+    Named(F),
+}
+
+// The sheet, open for reading. None: it can't be had, and that is told.
+fn open_named<R: Files>(files: &R, name: &[u8]) -> Option<Source<R::File>> {
     if is_dash(name) {
-        return 0;
+        return Some(Source::Input);
     }
-    let fd = os::open_read(name);
-    if fd < 0 {
-        told::unopened(b"the sheet", name);
+    match open_read(files, name) {
+        Ok(file) => Some(Source::Named(file)),
+        Err(e) => {
+            told::unopened(b"the sheet", name, e);
+            None
+        }
     }
-    fd
 }
 
 // The same of the argument that names it; standard input where none does.
-pub fn open(file: usize) -> i32 {
+pub fn open<R: Env + Files>(rt: &R, file: usize) -> Option<Source<R::File>> {
     if file == 0 {
-        return 0;
+        return Some(Source::Input);
     }
     let mut space = io::buffer();
-    let k = os::arg(file, &mut space);
-    open_named(&space[..k])
+    let k = argument(rt, file, &mut space).unwrap_or(0);
+    open_named(rt, &space[..k])
 }
 
-fn create_named(name: &[u8]) -> i32 {
-    let fd = os::open_overwrite(name);
-    if fd < 0 {
-        told::unopened(b"the picture's file", name);
+// All of it, as far as the space goes, as read_full says.
+pub fn read_sheet<F: Read + Drop>(source: Source<F>, space: &mut [u8]) -> usize
+    ensures { result ≤ length space.new }
+{
+    match source {
+        Source::Input => io::read_full(0, space),
+        Source::Named(file) => {
+            let mut file = file;
+            read_full(&mut file, space)
+        }
     }
-    fd
 }
 
-// The picture's file, open for writing. Below 0: it can't be had, and that is told.
-pub fn create(file: usize) -> i32 {
+fn create_named<R: Files>(files: &R, name: &[u8]) -> Option<R::File> {
+    match open_overwrite(files, name) {
+        Ok(file) => Some(file),
+        Err(e) => {
+            told::unopened(b"the picture's file", name, e);
+            None
+        }
+    }
+}
+
+// The picture's file, open for writing. None: it can't be had, and that is told.
+pub fn create<R: Env + Files>(rt: &R, file: usize) -> Option<R::File> {
     let mut space = io::buffer();
-    let k = os::arg(file, &mut space);
-    create_named(&space[..k])
+    let k = argument(rt, file, &mut space).unwrap_or(0);
+    create_named(rt, &space[..k])
 }

@@ -4,6 +4,9 @@
 
 ghost use Rattle.std.specs.Prelude.{◌≤◌};
 
+use std::env::Env;
+use std::fs::Files;
+
 // A sheet that fills the buffer may go on past it.
 const LONGEST: usize = 262144;
 
@@ -11,8 +14,39 @@ fn longest() -> [u8; 262144] {
     [0; 262144]
 }
 
+// The picture, where one is asked for. False: its file can't be had, and that is told.
+fn picture<R: Env + Files>(
+    rt: &R,
+    svg: usize,
+    n: usize,
+    period: u64,
+    y: &[f64],
+    kinds: &[u8],
+    rows: &[f64],
+) -> bool
+    requires { n ≤ 4096 }
+{
+    if svg == 0 {
+        return true;
+    }
+    match options::create(rt, svg) {
+        Some(file) => {
+            let mut file = file;
+            picture::draw(&mut file, n, period, y, kinds, rows);
+            true
+        }
+        None => false,
+    }
+}
+
 // The estimates of a sheet that is well: the table, and the picture where one is asked for.
-fn show(s: sheet::answers::Settings, n: usize, y: &[f64], o: options::Options)
+fn show<R: Env + Files>(
+    rt: &R,
+    s: sheet::answers::Settings,
+    n: usize,
+    y: &[f64],
+    o: options::Options,
+)
     requires { n ≤ 4096 }
 {
     let mut rows = rows::rows();
@@ -23,13 +57,8 @@ fn show(s: sheet::answers::Settings, n: usize, y: &[f64], o: options::Options)
     match outcome {
         goxundar::Outcome::Refused(k) => told::refusal(k),
         goxundar::Outcome::Answered(a) => {
-            if o.svg > 0 {
-                let fd = options::create(o.svg);
-                if fd < 0 {
-                    return;
-                }
-                picture::draw(fd, n, period, y, &kinds, &rows);
-                libc::close(fd);
+            if !picture(rt, o.svg, n, period, y, &kinds, &rows) {
+                return;
             }
             table::print(
                 table::Shown {
@@ -57,17 +86,17 @@ fn show(s: sheet::answers::Settings, n: usize, y: &[f64], o: options::Options)
     }
 }
 
-fn read(text: &[u8], o: options::Options) {
+fn read<R: Env + Files>(rt: &R, text: &[u8], o: options::Options) {
     let mut y = rows::readings();
     let found = sheet::read(text, o.table, &mut y);
     match found {
-        sheet::answers::Sheet::Good(s, n) => show(s, n, &y, o),
+        sheet::answers::Sheet::Good(s, n) => show(rt, s, n, &y, o),
         sheet::answers::Sheet::Bad(w) => told::wrong(text, w),
     }
 }
 
-fn main() {
-    let o = options::given();
+fn main(rt: HostRuntime) {
+    let o = options::given(&rt);
     if o.help {
         return told::usage(1);
     }
@@ -75,14 +104,13 @@ fn main() {
     if o.wrong | options::is_stretch(o) {
         return told::usage(2);
     }
-    let fd = options::open(o.file);
-    if fd < 0 {
+    let Some(sheet) = options::open(&rt, o.file) else {
         return;
-    }
+    };
     let mut text = longest();
-    let n = io::read_full(fd, &mut text);
+    let n = options::read_sheet(sheet, &mut text);
     if n >= LONGEST {
         return told::too_long();
     }
-    read(&text[..n], o);
+    read(&rt, &text[..n], o);
 }

@@ -12,7 +12,7 @@ pub const TOP: f64 = 52.0;
 pub const BOTTOM: f64 = 342.0;
 
 // What the curves span: offsets from lo to hi, microseconds, and times from 0 to last, seconds.
-#[derive(Drop)]
+#[derive(Clone, Copy)]
 pub struct Frame {
     pub lo: f64,
     pub hi: f64,

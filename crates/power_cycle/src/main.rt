@@ -6,6 +6,9 @@ mod saved;
 
 ghost use Rattle.std.specs.Prelude.{◌≤◌};
 
+use std::env::Env;
+use std::fs::Files;
+
 // A sheet that fills the buffer may go on past it.
 const LONGEST: usize = 262144;
 
@@ -14,7 +17,15 @@ fn longest() -> [u8; 262144] {
 }
 
 // The run is saved before anything is printed: where that fails, nothing is.
-fn go_on(s: sheet::answers::Settings, n: usize, y: &[f64], from: usize, save: usize, before: &[u8])
+fn go_on<R: Env + Files>(
+    rt: &R,
+    s: sheet::answers::Settings,
+    n: usize,
+    y: &[f64],
+    from: usize,
+    save: usize,
+    before: &[u8],
+)
     requires { n ≤ 4096 }
 {
     let mut rows = rows::rows();
@@ -37,7 +48,7 @@ fn go_on(s: sheet::answers::Settings, n: usize, y: &[f64], from: usize, save: us
         goxundar::Outcome::Refused(k) => told::refusal(k),
         goxundar::Outcome::Answered(a) => {
             if save > 0 {
-                if !saved::write(save, &after) {
+                if !saved::write(rt, save, &after) {
                     return;
                 }
             }
@@ -69,47 +80,50 @@ fn go_on(s: sheet::answers::Settings, n: usize, y: &[f64], from: usize, save: us
 
 // `from` and `save` are places among the program's arguments; 0: none. The saved run is read whole before anything is written, so that it may be
 // saved under its own name.
-fn show(s: sheet::answers::Settings, n: usize, y: &[f64], from: usize, save: usize)
+fn show<R: Env + Files>(
+    rt: &R,
+    s: sheet::answers::Settings,
+    n: usize,
+    y: &[f64],
+    from: usize,
+    save: usize,
+)
     requires { n ≤ 4096 }
 {
     if from == 0 {
-        return go_on(s, n, y, from, save, &[]);
-    }
-    let fd = saved::open(from);
-    if fd < 0 {
-        return;
+        return go_on(rt, s, n, y, from, save, &[]);
     }
     let mut bytes = saved::room();
-    let k = io::read_full(fd, &mut bytes);
-    libc::close(fd);
-    go_on(s, n, y, from, save, &bytes[..k]);
+    let Some(k) = saved::read(rt, from, &mut bytes) else {
+        return;
+    };
+    go_on(rt, s, n, y, from, save, &bytes[..k]);
 }
 
-fn read(text: &[u8], o: options::Options) {
+fn read<R: Env + Files>(rt: &R, text: &[u8], o: options::Options) {
     let mut y = rows::readings();
     let found = sheet::read(text, o.table, &mut y);
     match found {
-        sheet::answers::Sheet::Good(s, n) => show(s, n, &y, o.from, o.save),
+        sheet::answers::Sheet::Good(s, n) => show(rt, s, n, &y, o.from, o.save),
         sheet::answers::Sheet::Bad(w) => told::wrong(text, w),
     }
 }
 
-fn main() {
-    let o = options::given();
+fn main(rt: HostRuntime) {
+    let o = options::given(&rt);
     if o.help {
         return told::usage(1);
     }
     if o.wrong {
         return told::usage(2);
     }
-    let fd = options::open(o.file);
-    if fd < 0 {
+    let Some(sheet) = options::open(&rt, o.file) else {
         return;
-    }
+    };
     let mut text = longest();
-    let n = io::read_full(fd, &mut text);
+    let n = options::read_sheet(sheet, &mut text);
     if n >= LONGEST {
         return told::too_long();
     }
-    read(&text[..n], o);
+    read(&rt, &text[..n], o);
 }

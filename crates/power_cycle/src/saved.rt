@@ -1,7 +1,13 @@
 // The file of a saved run: it is read, and it is replaced whole, so that whenever the power goes it is the old one or the new one.
 
-fn tell(name: &[u8]) {
-    told::unopened(b"the saved run", name);
+ghost use Rattle.std.specs.Prelude.{◌≤◌, length, IfSome};
+
+use std::env::Env;
+use std::fs::{Files, OpenFile};
+use std::io::{Error, Write};
+
+fn tell(name: &[u8], e: Error) {
+    told::unopened(b"the saved run", name, e);
 }
 
 // One byte more than a saved run has, so that a file that is too long is not taken for one.
@@ -9,19 +15,29 @@ pub fn room() -> [u8; 433] {
     [0; 433]
 }
 
-fn open_named(name: &[u8]) -> i32 {
-    let fd = os::open_read(name);
-    if fd < 0 {
-        tell(name);
+fn open_named<R: Files>(files: &R, name: &[u8]) -> Option<R::File> {
+    match options::open_read(files, name) {
+        Ok(file) => Some(file),
+        Err(e) => {
+            tell(name, e);
+            None
+        }
     }
-    fd
 }
 
-// Open for reading. Below 0: it can't be had, and that is told.
-pub fn open(file: usize) -> i32 {
+// Open for reading. None: it can't be had, and that is told.
+fn open<R: Env + Files>(rt: &R, file: usize) -> Option<R::File> {
     let mut space = io::buffer();
-    let k = os::arg(file, &mut space);
-    open_named(&space[..k])
+    let k = options::argument(rt, file, &mut space).unwrap_or(0);
+    open_named(rt, &space[..k])
+}
+
+// The file's bytes, as many as there is room for. Answers how many; nothing where it can't be had, and that is told.
+pub fn read<R: Env + Files>(rt: &R, file: usize, bytes: &mut [u8]) -> Option<usize>
+    ensures { IfSome result (λ k. k ≤ length bytes.new) }
+{
+    let mut from = open(rt, file)?;
+    Some(options::read_full(&mut from, bytes))
 }
 
 fn put_byte(space: &mut [u8], i: usize, x: u8) {
@@ -46,54 +62,64 @@ fn lengthened(space: &mut [u8], k: usize) -> isize {
     (k + 4) as isize
 }
 
-// Whether the file has taken all, and its device too.
-fn put(fd: i32, bytes: &[u8]) -> bool {
-    if !io::write_all(fd, bytes) {
-        return false;
+// The file has taken all, and its device too.
+fn put<F: Write + OpenFile>(file: &mut F, bytes: &[u8]) -> std::io::Result<()> {
+    file.write_all(bytes)?;
+    file.sync_all()
+}
+
+// The bytes into the new file, which is closed. Where it fails that is told, and nothing stays.
+fn fill<R: Files>(files: &R, file: R::File, name: &[u8], bytes: &[u8]) -> bool {
+    let mut file = file;
+    let done = put(&mut file, bytes);
+    drop(file);
+    match done {
+        Ok(()) => true,
+        Err(e) => {
+            tell(name, e);
+            let _ = options::unlink(files, name);
+            false
+        }
     }
-    libc::fsync(fd) == 0
 }
 
 // A file of this name, with these bytes. Where it fails that is told, and nothing stays.
-fn make(name: &[u8], bytes: &[u8]) -> bool {
-    let fd = os::open_overwrite(name);
-    if fd < 0 {
-        tell(name);
-        return false;
+fn make<R: Files>(files: &R, name: &[u8], bytes: &[u8]) -> bool {
+    match options::open_overwrite(files, name) {
+        Ok(file) => fill(files, file, name, bytes),
+        Err(e) => {
+            tell(name, e);
+            false
+        }
     }
-    let well = put(fd, bytes);
-    libc::close(fd);
-    if !well {
-        tell(name);
-        os::unlink(name);
-    }
-    well
 }
 
-fn replace(name: &[u8], new: &[u8], bytes: &[u8]) -> bool {
-    if !make(new, bytes) {
+fn replace<R: Files>(files: &R, name: &[u8], new: &[u8], bytes: &[u8]) -> bool {
+    if !make(files, new, bytes) {
         return false;
     }
-    if os::rename(new, name) == 0 {
-        return true;
+    match options::rename(files, new, name) {
+        Ok(()) => true,
+        Err(e) => {
+            tell(name, e);
+            let _ = options::unlink(files, new);
+            false
+        }
     }
-    tell(name);
-    os::unlink(new);
-    false
 }
 
 // Saves a run to the file that the argument names. The name is fetched once more, since the new file's is made of it in its place.
-fn write_named(file: usize, name: &[u8], bytes: &[u8]) -> bool {
+fn write_named<R: Env + Files>(rt: &R, file: usize, name: &[u8], bytes: &[u8]) -> bool {
     let mut space = io::buffer();
-    let k = os::arg(file, &mut space);
+    let k = options::argument(rt, file, &mut space).unwrap_or(0);
     let to = lengthened(&mut space, k);
     let to = io::count(to, &space);
-    replace(name, &space[..to], bytes)
+    replace(rt, name, &space[..to], bytes)
 }
 
 // The same. False: it can't be saved, and that is told; the file is as it was.
-pub fn write(file: usize, bytes: &[u8]) -> bool {
+pub fn write<R: Env + Files>(rt: &R, file: usize, bytes: &[u8]) -> bool {
     let mut space = io::buffer();
-    let k = os::arg(file, &mut space);
-    write_named(file, &space[..k], bytes)
+    let k = options::argument(rt, file, &mut space).unwrap_or(0);
+    write_named(rt, file, &space[..k], bytes)
 }

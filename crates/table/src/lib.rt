@@ -7,7 +7,7 @@ ghost use Rattle.std.specs.Prelude.{◌≡◌, ◌+◌, ◌≤◌, ◌<◌};
 ghost use Rattle.table.specs.Outcomes.{outcome_in};
 
 // Which columns there are. `table`: no reading is shown, and no mean.
-#[derive(Drop)]
+#[derive(Clone, Copy)]
 pub struct Shown {
     pub period: u64,
     pub inputs: u64,

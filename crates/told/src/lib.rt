@@ -5,6 +5,7 @@
 ghost use Rattle.std.specs.Prelude.{◌≡◌, ◌≤◌, length};
 
 use sheet::answers::{Wanted, Wrong};
+use std::io::Write;
 
 const ERRORS: i32 = 2;
 
@@ -22,14 +23,41 @@ With no SHEET, or with -, it is read from standard input. docs/PANEL.md says wha
     );
 }
 
-// A file that has just failed to open, or to take what is written to it: which one it is, its name, and why. What is written in between leaves the
-// reason as it is.
-pub fn unopened(what: &[u8], name: &[u8]) {
+// Whether std's number of the reason follows, as in " (os error 2)", or nothing more.
+fn is_end(rest: &[u8]) -> bool {
+    rest.starts_with(b" (os error ") | rest.starts_with(b"\0")
+}
+
+// Where the reason's words end.
+fn words_end(text: &[u8]) -> usize
+    ensures { result ≤ length text.now }
+{
+    for i in 0..text.len() {
+        if is_end(&text[i..]) {
+            return i;
+        }
+    }
+    text.len()
+}
+
+// The reason, in the system's words alone.
+fn reason(e: std::io::Error) {
+    let mut space = [0u8; 320];
+    let mut rest: &mut [u8] = &mut space;
+    let _ = write!(rest, "{e}");
+    let k = words_end(&space);
+    io::write_all(ERRORS, &space[..k]);
+}
+
+// A file that has failed to open, or to take what is written to it: which one it is, its name, and why.
+pub fn unopened(what: &[u8], name: &[u8], e: std::io::Error) {
     io::write_all(ERRORS, b"panel: ");
     io::write_all(ERRORS, what);
     io::write_all(ERRORS, b" '");
     io::write_all(ERRORS, name);
-    os::fail(b"'");
+    io::write_all(ERRORS, b"': ");
+    reason(e);
+    io::write_all(ERRORS, b"\n");
 }
 
 pub fn too_long() {
