@@ -8,7 +8,7 @@ use Rattle.definition.specs.Run.{any_of, scan, chunks, pairs}
 use Rattle.definition.specs.Cov.{Cov, CovPeriod, period, cov_run}
 use Rattle.definition.specs.Mean.{mean_run}
 use Rattle.definition.specs.Inputs.{Model, Offsets, Class, is_gap, is_infinity, noise, transition_from, system_of, frame_of, gap_rows}
-use Rattle.definition.specs.Reports.{first_from, cov_is_off, cov_report, told_before}
+use Rattle.definition.specs.Reports.{first_from, told_before}
 use Rattle.definition.specs.Refusals.{not_finite, mixed_driven, first_of, of_lengths, of_reach, of_system, of_start, of_h, of_readings}
 use Rattle.definition.specs.Outcome.{Ending, turned, silent, answered, ending_of, after, no_information}
 use Rattle.definition.specs.Carried.{Past, Carried, cov_from, mean_from, plus, past_on, mean_on, went}
@@ -16,7 +16,7 @@ use Rattle.definition.specs.Stretch.{outside_stretch, bad_from, stretch_tests, s
 
 -- ---- two periods of one element are one period, and one more from there: its index, its design, its transition, its mean
 
-abbrev lone : ℕ → Model → Model
+abbrev pub lone : ℕ → Model → Model
 lone n x =
     record { p = 1; m = x.m; r = x.r; n = n; z_once = x.z_once; z_list = x.z_list; repeats = x.repeats; h = x.h; t_once = x.t_once; t_list = x.t_list; rr = x.rr; q = x.q; flags = x.flags; p_star = x.p_star }
 
@@ -38,19 +38,11 @@ two_means x o s u v = rw add-one
 
 -- ---- its report: what was told before stays, and a period counts from the run's first
 
-two_told : (k t : ℕ) (a b : Bool) → told_before k (first_from t (a ∷ b ∷ [])) ≡ told_before (told_before k (first_from t (a ∷ []))) (first_from (suc t) (b ∷ []))
+pub two_told : (k t : ℕ) (a b : Bool) → told_before k (first_from t (a ∷ b ∷ [])) ≡ told_before (told_before k (first_from t (a ∷ []))) (first_from (suc t) (b ∷ []))
 unfolding told_before first_from
 two_told (suc k) t a b = refl
 two_told zero t true b = refl
 two_told zero t false b = refl
-
-pub two_reports : (x : Model) (s : Past) (k l : Class) → (past_on (lone 2 x) s (k ∷ l ∷ [])).cov_off ≡ (past_on (lone 1 x) (past_on (lone 1 x) s (k ∷ [])) (l ∷ [])).cov_off
-unfolding past_on cov_from cov_run gap_rows system_of noise chunks scan cov_report
-two_reports x s k l =
-    let y = system_of (lone 1 x) in
-    let a = period y s.done s.cov (is_gap k ∷ []) in
-    let then_at : ℕ → ℕ = λ t. told_before (told_before s.cov_off (first_from s.done (cov_is_off a.0 ∷ []))) (first_from t (cov_is_off (period y t a.1 (is_gap l ∷ [])).0 ∷ [])) in
-    two_told s.cov_off s.done (cov_is_off a.0) (cov_is_off (period y (suc s.done) a.1 (is_gap l ∷ [])).0) ∙ ap then_at (sym (add-one s.done))
 
 -- ---- the refusals
 

@@ -1,19 +1,18 @@
 -- The two tracks apart, and a skip that moves nothing: the facts of the definition on which demand 3, request k and the counts rest.
-use Rattle.std.specs.Prelude.{◌≡◌, ℕ, ◌+◌, Bool, false, not, cond, length, T, Float}
+use Rattle.std.specs.Prelude.{◌≡◌, ℕ, Bool, false, length, T, Float}
 use Rattle.std.proofs.Math.Path.{refl, ap}
-use Rattle.std.proofs.Common.{ap₂}
-use mathlib.Core.List.{List, [], ◌∷◌, map}
+use mathlib.Core.List.{List, map}
 use Rattle.std.specs.Float.{nan, inf, fin}
 use Rattle.std.specs.Float.Ieee.{is_nan}
 use Rattle.definition.specs.Num.{0ᶠ, is_finite}
-use Rattle.definition.specs.Run.{any_of, count}
-use Rattle.definition.specs.Cov.{Cause, Inner, CovPeriod, skipped, apply}
+use Rattle.definition.specs.Run.{any_of}
+use Rattle.definition.specs.Cov.{Cause, Inner, skipped, apply}
 use Rattle.definition.specs.Mean.{Mean, v_of, heed, hear}
 use Rattle.definition.specs.Smooth.{Ns, Rs, back_n, back_r}
 use Rattle.definition.specs.Inputs.{Model, Offsets, Class, finite, class_of, is_gap, is_infinity}
 use Rattle.definition.specs.Refusals.{refusal}
 use Rattle.definition.specs.Parts.{is_news}
-use Rattle.definition.specs.Outcome.{CovParts, MeanParts, counts_of, ending, roomy, roomy_smoothed, outcome, outcome_at, smooth_outcome, smooth_outcome_at}
+use Rattle.definition.specs.Outcome.{CovParts, MeanParts, ending, roomy, roomy_smoothed, outcome, outcome_at, smooth_outcome, smooth_outcome_at}
 use Rattle.definition.specs.Stretch.{From, past_in, bad_from, stretch_refusal, roomy_stretch, stretch_ending, stretch_outcome}
 
 -- ---- the covariance half goes by the readings' classes, and finite readings are of one class
@@ -86,12 +85,3 @@ unfolding class_of is_nan
 gap_is_nan nan = refl
 gap_is_nan (inf s) = refl
 gap_is_nan (fin s m e) = refl
-
-heard_list : (y : List Float) → count not (map is_gap (map class_of y)) ≡ count (λ (v : Float). not (is_nan v)) y
-unfolding count
-heard_list [] = refl
-heard_list (v ∷ y) = ap₂ (λ (g : Bool) (k : ℕ). cond (not g) 1 0 + k) (gap_is_nan v) (heard_list y)
-
-pub heard_is : (cs : List CovPeriod) (y : List Float) → (counts_of cs (map class_of y)).heard ≡ count (λ (v : Float). not (is_nan v)) y
-unfolding counts_of
-heard_is cs y = heard_list y

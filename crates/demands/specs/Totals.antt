@@ -16,7 +16,7 @@ use Rattle.definition.specs.Inputs.{Model, Offsets, class_of, system_of, start_o
 use Rattle.definition.specs.Parts.{cause_no}
 use Rattle.definition.specs.Outcome.{CovParts, MeanParts, CovOutcome, Counts, Ending, answered, ending, after, counts_in, kinds_need, kinds_written, cov_of, counts_of, roomy, roomy_smoothed, cov_outcome, outcome, outcome_at, smooth_outcome, smooth_outcome_at}
 use Rattle.definition.specs.Computed.{opened}
-use Rattle.definition.specs.Tracks.{heard_is}
+use Rattle.definition.proofs.Tracks.{heard_is}
 use Rattle.definition.specs.Carried.{begun_past, cov_from}
 use Rattle.laws.specs.Lists.{length-chunks, place_lt}
 use Rattle.laws.specs.All.{AllOf}

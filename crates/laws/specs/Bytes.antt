@@ -1,5 +1,5 @@
 -- Numbers as bytes and back, and sections: what is written is read, and what has the right counts and length is what would be written.
-use Rattle.std.specs.Prelude.{◌≡◌, refl, ℕ, zero, suc, ◌+◌, ◌-◌, ◌*◌, ◌/◌, ◌%◌, ◌^◌, ◌≤◌, ◌<◌, true, false, not, length, get_or, take, drop, eqb}
+use Rattle.std.specs.Prelude.{◌≡◌, refl, ℕ, zero, suc, ◌+◌, ◌*◌, ◌%◌, ◌^◌, ◌≤◌, ◌<◌, true, false, not, length, get_or, take, drop, eqb}
 use Rattle.std.proofs.Common.{sym, ap, ap₂, ◌∙◌, subst, mod-lt, div-add-mod', div-lt_iff_lt-mul, mul-le-mul_right, not-suc-le-zero, le_of_suc-le-suc, arith, length-append, length-take, length-drop, take-append-drop, take_at, drop_at, drop-drop, take-add, eq-eqb, eqb-true}
 use Rattle.std.proofs.Math.Nat.{one-le-pow, pow-succ'}
 use mathlib.Core.List.{List, [], ◌∷◌, ◌++◌, map, append_assoc}

@@ -1,5 +1,5 @@
 -- Laws of Z's and T's two parts: the part of period t is entry t of the list, and the last one past its end; copies of one are that one throughout.
-use Rattle.std.specs.Prelude.{◌≡◌, refl, Bool, true, false, ◌||◌, length, get_or, take, drop, replicate, Float}
+use Rattle.std.specs.Prelude.{◌≡◌, refl, Bool, ◌||◌, length, get_or, take, drop, replicate, Float}
 use Rattle.std.proofs.Common.{sym, ◌∙◌, not-suc-le-zero, le_of_suc-le-suc, mul-div_cancel, mul-pos, arith, take_at, drop_at, drop-drop, eq-eqb, ne_eqb}
 use Rattle.std.proofs.Math.Path.{ap}
 use Prim.Native.Nat.{ℕ, zero, suc, ◌+◌, ◌-◌, ◌*◌, ◌/◌, ◌≤◌, ◌<◌, min}

@@ -9,7 +9,7 @@ use mathlib.Core.List.{List, [], ◌∷◌, ◌++◌, map, append_assoc}
 use Rattle.std.proofs.Math.ListN.{length, length-map}
 use Rattle.std.proofs.Math.Seq.{take_all}
 use Rattle.definition.specs.Num.{tabulate}
-use Rattle.definition.specs.Run.{scan, join, count, pairs, lay}
+use Rattle.definition.specs.Run.{join, count, lay}
 use Rattle.definition.specs.Cov.{System, Cov, Decision, CovPeriod, period, cov_run}
 use Rattle.definition.specs.Mean.{Frame, Shift, Mean, MeanPeriod, mean_period, mean_period_of, mean_ended, mean_run}
 use Rattle.definition.specs.Parts.{predCov, pred_inf, filtCov, predMean, filtMean, cov_block, mean_block}
@@ -17,7 +17,7 @@ use Rattle.definition.specs.Refusals.{not_finite}
 use Rattle.definition.specs.Reports.{first_from, cov_is_off, mean_is_off, cov_report, mean_report}
 use Rattle.definition.specs.Outcome.{cov_written, mean_written}
 use Rattle.laws.specs.All.{AllOf, all_true, scan_keeps, scan_leaves}
-use Rattle.laws.specs.Lists.{Each, length_tab, tab_at, length-join, length-scan}
+use Rattle.laws.specs.Lists.{Each, length_tab, tab_at, length-join}
 use Rattle.laws.specs.Passes.{count-le}
 use Rattle.laws.specs.Long.{mean_long}
 use Rattle.laws.specs.Flat.{block_at}

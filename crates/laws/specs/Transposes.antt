@@ -3,7 +3,7 @@
 -- and zeros of both signs included. Document 02, request l. Assumes nothing.
 use Rattle.std.specs.Prelude.{◌≡◌, ℕ, ◌<◌, Bool, not, cond, List, ltb, Float}
 use Rattle.std.proofs.Math.Path.{refl, sym}
-use Rattle.std.proofs.Common.{ap, ap₂, ◌∙◌, arith, ltb→lt, nltb→le}
+use Rattle.std.proofs.Common.{ap₂, ◌∙◌, arith, ltb→lt, nltb→le}
 use Rattle.std.proofs.Math.Bool.{true, false}
 use Rattle.std.proofs.Math.Dec.{T}
 use Rattle.std.specs.Float.Ieee.{binary64, add, mul, round, size, units, of_bits}
@@ -33,10 +33,6 @@ module _ (r k c : ℕ) (a b : List Float) where
   pub transpose-product : transpose r c (product r k c a b) ≡ product c k r (transpose k c b) (transpose r k a)
   unfolding transpose product
   transpose-product = matrix_cong c r (transpose_at c (product r k c a b)) (product_at k r (transpose k c b) (transpose r k a)) entry
-
--- of three factors: what groups from the left is turned into what groups from the right. ((A N) B)' is B' (N' A'), and need not be (B' N') A'
-pub transpose_three : (r k l c : ℕ) (a n b : List Float) → transpose r c (product r l c (product r k l a n) b) ≡ product c l r (transpose l c b) (product l k r (transpose k l n) (transpose r k a))
-transpose_three r k l c a n b = transpose-product r l c (product r k l a n) b ∙ ap (product c l r (transpose l c b)) (transpose-product r k l a n)
 
 -- ---- symmetrising
 

@@ -1,15 +1,13 @@
 -- `pivoted_root`: entries in used rows and columns are never read again (document 02, request b; DECISIONS 19). So they can hold something else: the
 -- code keeps a column in its pivot's row.
 use Prim.Native.Nat.{ℕ, zero, suc, ◌≤◌, ◌<◌}
-use Rattle.std.specs.Prelude.{◌≡◌, Bool, not, ◌&&◌, List, [], ◌∷◌, ◌++◌, eqb, set, Float}
-use Rattle.std.proofs.Math.Path.{refl, sym, ap, subst}
+use Rattle.std.specs.Prelude.{◌≡◌, Bool, not, ◌&&◌, List, [], ◌∷◌, set, Float}
+use Rattle.std.proofs.Math.Path.{refl, sym, ap}
 use Rattle.std.proofs.Common.{◌∙◌, true≢false, arith}
 use Rattle.std.proofs.Math.Bool.{true, false, cond}
-use Rattle.std.proofs.lemmas.Bool.{eqb-false}
 use Rattle.std.proofs.Math.ListN.{get_or}
 use Rattle.definition.specs.Num.{ent, at, 0ᶠ, ◌⊖◌, ◌⊗◌, ◌⊘◌, ◌>ᶠ◌}
-use Rattle.definition.specs.Root.{sqrt_of}
-use Rattle.definition.specs.Star.{Pivot, Growing, better, pivot_to, column_at, column, left_at, left_of, grown, grow, grow_to}
+use Rattle.definition.specs.Star.{Pivot, Growing, better, pivot_to, column_at, column, left_at, left_of}
 use Rattle.laws.specs.Lists.{tab_cong, matrix_at}
 
 -- the same at the places that are free, row and column
@@ -44,12 +42,12 @@ module _ (k : ℕ) (used : List Bool) (a b : List Float) (same : Agree k used a 
       by_test true e = refl
       by_test false e = rw (same j j h h e e)
 
-  unread_pivot : (n : ℕ) → n ≤ k → pivot_to k a used n ≡ pivot_to k b used n
+  pub unread_pivot : (n : ℕ) → n ≤ k → pivot_to k a used n ≡ pivot_to k b used n
   unfolding pivot_to
   unread_pivot zero h = refl
   unread_pivot (suc n) h = unread_better n (pivot_to k a used n) (omega arith) ∙ ap (better k b used n) (unread_pivot n (omega arith))
 
-  unread_column : (j : ℕ) (sd : Float) → j < k → get_or used j false ≡ false → column k a used j sd ≡ column k b used j sd
+  pub unread_column : (j : ℕ) (sd : Float) → j < k → get_or used j false ≡ false → column k a used j sd ≡ column k b used j sd
   unfolding column column_at
   unread_column j sd h e = tab_cong k 0 (column_at k a used j sd) (column_at k b used j sd) (λ i u v. by_test i (omega arith) (get_or used i false) refl)
     where
@@ -57,7 +55,7 @@ module _ (k : ℕ) (used : List Bool) (a b : List Float) (same : Agree k used a 
       by_test i w true q = refl
       by_test i w false q = rw (same i j w h q e)
 
-  unread_left : (col : List Float) → Agree k used (left_of k a col) (left_of k b col)
+  pub unread_left : (col : List Float) → Agree k used (left_of k a col) (left_of k b col)
   unfolding left_of left_at
   unread_left col i j p q u v = matrix_at k k i j (left_at k a col) p q ∙ ap (λ (x : Float). x ⊖ at col i ⊗ at col j) (same i j p q u v) ∙ sym (matrix_at k k i j (left_at k b col) p q)
 
@@ -83,48 +81,3 @@ still_free (x ∷ used) zero zero e = absurd (true≢false e)
 still_free (x ∷ used) zero (suc i) e = e
 still_free (x ∷ used) (suc j) zero e = e
 still_free (x ∷ used) (suc j) (suc i) e = still_free used j i e
-
-module _ (k : ℕ) (used : List Bool) (rank : ℕ) (cols a b : List Float) (same : Agree k used a b) where
-  abbrev With : List Float → Growing
-  With left = record { left = left; used = used; rank = rank; cols = cols }
-
-  unread_same : Alike k (grow k (With a)) (grow k (With b))
-  unfolding grow grown
-  unread_same =
-      subst (λ (c : Pivot). Alike k (grow k (With a)) (cond (eqb c.place k) (With b) (grown k (With b) c.place (column k b used c.place (sqrt_of c.best)))))
-      (unread_pivot k used a b same k (omega arith))
-      (by_test (eqb pivot.place k) refl)
-    where
-      pivot : Pivot
-      pivot = pivot_to k a used k
-
-      by_test : (t : Bool) → eqb pivot.place k ≡ t
-          → Alike k (cond t (With a) (grown k (With a) pivot.place (column k a used pivot.place (sqrt_of pivot.best))))
-          (cond t (With b) (grown k (With b) pivot.place (column k b used pivot.place (sqrt_of pivot.best))))
-      by_test true e = record { used = refl; rank = refl; cols = refl; left = same }
-      by_test false e =
-          let f = pivot_free k a used k (omega arith) (eqb-false pivot.place k e) in
-          let q = unread_column k used a b same pivot.place (sqrt_of pivot.best) f.0 f.1 in
-          record {
-            used = refl;
-            rank = refl;
-            cols = ap (λ (x : List Float). cols ++ x) q;
-            left = λ i j hi hj u v.
-                unread_left k used a b same (column k a used pivot.place (sqrt_of pivot.best)) i j hi hj (still_free used pivot.place i u) (still_free used pivot.place j v)
-                ∙ ap (λ (x : List Float). ent k (left_of k b x) i j) q;
-          }
-
--- Entries in used rows and columns are never read again: two matrices that agree elsewhere go on to the same pivots and columns.
-pub unread : (k : ℕ) (g h : Growing) → Alike k g h → Alike k (grow k g) (grow k h)
-unread k g h w =
-    subst (λ (x : Growing). Alike k (grow k g) (grow k x)) (ap₃ w.used w.rank w.cols)
-    (unread_same k g.used g.rank g.cols g.left h.left w.left)
-  where
-    ap₃ : {u u' : List Bool} {r r' : ℕ} {c c' : List Float} → u ≡ u' → r ≡ r' → c ≡ c'
-        → ◌≡◌ {A = Growing} (record { left = h.left; used = u; rank = r; cols = c }) (record { left = h.left; used = u'; rank = r'; cols = c' })
-    ap₃ e1 e2 e3 = rw (e1, e2, e3)
-
-pub unread_to : (k : ℕ) (g h : Growing) → Alike k g h → (n : ℕ) → Alike k (grow_to k g n) (grow_to k h n)
-unfolding grow_to
-unread_to k g h w zero = w
-unread_to k g h w (suc n) = unread k (grow_to k g n) (grow_to k h n) (unread_to k g h w n)

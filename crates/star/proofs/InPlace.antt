@@ -18,7 +18,8 @@ use Rattle.definition.specs.Root.{sqrt_of}
 use Rattle.definition.specs.Star.{Pivot, Growing, pivot_to, column, left_at, left_of, grown, grow, grow_to, seed, pivoted_root}
 use Rattle.laws.specs.Lists.{length_tab, matrix_at, vector_at, matrix_cong}
 use Rattle.laws.specs.Passes.{block_in}
-use Rattle.laws.specs.Unread.{Alike, alike_refl, alike_trans, unread, pivot_free, still_free}
+use Rattle.laws.specs.Unread.{Alike, alike_refl, alike_trans, pivot_free, still_free}
+use Rattle.laws.proofs.Unread.{unread}
 use Rattle.dense.specs.Views.{vec, mat, rect}
 use Rattle.dense.proofs.Laws.{lt_or_le, rect_by, rect_at, row-at, row_before, row_after, length-row}
 use Rattle.dense.proofs.Laws as dense

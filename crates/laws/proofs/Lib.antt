@@ -1,0 +1,2 @@
+pub mod Transposes
+pub mod Unread
