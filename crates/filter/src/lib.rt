@@ -7,6 +7,9 @@ ghost use Rattle.promise.specs.Lent.{model_of, offsets_of, cov_parts, mean_parts
 ghost use Rattle.promise.specs.Calls.{Filtered};
 ghost use Rattle.filter.specs.Ends.{nothing, Run};
 
+// The call under its caller's name, for crates/goxundar: there no name may be that of a crate below, so it is given here.
+pub use crate::filter_univariate as filter;
+
 // The run of a call that is past its checks, from the start: an answer, or refusal 12. The smoother's call makes it too. `rqr` is R Q R',
 // which the checks have worked out.
 pub fn run<'a>(

@@ -4,7 +4,7 @@
 
 // The filter's call, the smoother's and a stretch's, as crates/filter, crates/smoother and crates/stretch have them: refused with its number, or
 // answered. And the first two with a list of records lent too, as crates/records and crates/records_smooth have them.
-pub use filter::filter_univariate as filter;
+pub use filter::filter;
 pub use promise::{Answer, Cause, Kind, Outcome, Record};
 pub use records::filter_records;
 pub use records_smooth::smooth_records;

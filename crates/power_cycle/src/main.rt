@@ -2,7 +2,7 @@
 // of its own: with the smoother's call beside a stretch's, the check of one would take more than 3 GB. tools/panel chooses between the two.
 #![tactic(auto)]
 
-mod saved;
+mod saved_run;
 
 ghost use Rattle.std.specs.Prelude.{◌≤◌};
 
@@ -48,7 +48,7 @@ fn go_on<R: Env + Files>(
         goxundar::Outcome::Refused(k) => told::refusal(k),
         goxundar::Outcome::Answered(a) => {
             if save > 0 {
-                if !saved::write(rt, save, &after) {
+                if !saved_run::write(rt, save, &after) {
                     return;
                 }
             }
@@ -93,8 +93,8 @@ fn show<R: Env + Files>(
     if from == 0 {
         return go_on(rt, s, n, y, from, save, &[]);
     }
-    let mut bytes = saved::room();
-    let Some(k) = saved::read(rt, from, &mut bytes) else {
+    let mut bytes = saved_run::room();
+    let Some(k) = saved_run::read(rt, from, &mut bytes) else {
         return;
     };
     go_on(rt, s, n, y, from, save, &bytes[..k]);
