@@ -10,14 +10,17 @@ use Rattle.definition.specs.Tracks.{by_classes}
 use Rattle.laws.specs.Entries.{copies}
 use Rattle.demands.specs.Conditions.{Room, table, First}
 use Rattle.demands.specs.Refusals as refusals
+use Rattle.demands.proofs.Refusals as tables
 use Rattle.demands.specs.Totals.{totals}
 use Rattle.demands.specs.Reports as report
 use Rattle.demands.specs.Values as demand
-use Rattle.demands.specs.Offsets as offset
+use Rattle.demands.proofs.Values as quiet
+use Rattle.demands.proofs.Offsets as offset
 use Rattle.demands.specs.Marked.{marking}
 use Rattle.demands.specs.Marked as mark
+use Rattle.demands.proofs.Marked as reached
 use Rattle.demands.specs.Copies.{with_t}
-use Rattle.demands.specs.Copies as copied
+use Rattle.demands.proofs.Copies as copied
 use Rattle.promise.specs.declared.Outcome.{Outcome}
 use Rattle.promise.specs.Calls.{Promise}
 use Rattle.calls.specs.Seen as seen
@@ -28,7 +31,7 @@ Called x o y w w' r b b' = Promise (outcome x o y w w') r b b'
 module _ (x : Model) (o : Offsets) (y : List Float) (w : CovParts) (w' : MeanParts) {r : Outcome} {b : CovParts} {b' : MeanParts} (call : Called x o y w w' r b b') where
   -- demand 1: the first condition of the table that applies, 0 where none does; all but 12 write nothing
   pub refuses : (k : ℕ) → (seen.refusal_of r ≡ k) ↔ First k (table x o y (Room x w w'))
-  refuses k = subst (λ (n : ℕ). (n ≡ k) ↔ First k (table x o y (Room x w w'))) (sym (seen.refusal_is call)) (refusals.refuses x o y w w' k)
+  refuses k = subst (λ (n : ℕ). (n ≡ k) ↔ First k (table x o y (Room x w w'))) (sym (seen.refusal_is call)) (tables.refuses x o y w w' k)
 
   pub keeps : (k : ℕ) → 0 < k → (k ≡ 12 → ⊥) → seen.refusal_of r ≡ k → seen.SameParts b w b' w'
   keeps k l n e =
@@ -44,7 +47,7 @@ module _ (x : Model) (o : Offsets) (y : List Float) (w : CovParts) (w' : MeanPar
   never marked e = mark.never x marked o y w w' (sym (seen.refusal_is call) ∙ e)
 
   pub void : (a : Bool) → mark.Reaches x x.n → {s : Outcome} {c : CovParts} {c' : MeanParts} → Called (marking a x) o y w w' s c c' → seen.Same r s b c b' c'
-  void a reaches other = seen.same call other (sym (mark.void x a o y w w' reaches))
+  void a reaches other = seen.same call other (sym (reached.void x a o y w w' reaches))
 
   -- demand 2: no room. What the call came back with and left is one thing
   pub determined : {s : Outcome} {c : CovParts} {c' : MeanParts} → Called x o y w w' s c c' → seen.Same r s b c b' c'
@@ -70,10 +73,10 @@ module _ (x : Model) (o : Offsets) (y : List Float) (w : CovParts) (w' : MeanPar
   -- and the cause in its record
   module _ (k : ℕ) (h : seen.NoNews y r b k) where
     pub number : (v : Float) → T (is_finite v) → {s : Outcome} {c : CovParts} {c' : MeanParts} → Called x o (set y k v) w w' s c c' → seen.Same r s b c b' c'
-    number v f other = seen.same call other (sym ((demand.no_news x o y w w' k (seen.no_news call h)).number v f))
+    number v f other = seen.same call other (sym ((quiet.no_news x o y w w' k (seen.no_news call h)).number v f))
 
     pub gap : {s : Outcome} {c : CovParts} {c' : MeanParts} → Called x o (set y k nan) w w' s c c' → seen.OneLess r s × seen.SameButCause k b c b' c'
-    gap other = let u = demand.no_news x o y w w' k (seen.no_news call h) in seen.one_less call other h u.gap_cov u.gap_mean
+    gap other = let u = quiet.no_news x o y w w' k (seen.no_news call h) in seen.one_less call other h u.gap_cov u.gap_mean
 
 -- request g: T given once, and as a list of copies of it: n of them, or more. Both calls come back with the same, and leave the same
 module _ (x : Model) (t : List Float) (whole : length t ≡ x.m * x.m) (o : Offsets) (y : List Float) (w : CovParts) (w' : MeanParts) {r s : Outcome} {b c : CovParts} {b' c' : MeanParts}

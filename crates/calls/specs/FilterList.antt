@@ -10,6 +10,7 @@ use Rattle.definition.specs.Outcome.{CovParts, MeanParts, Ending, kinds_need, ro
 use Rattle.demands.specs.Conditions.{Room, table, First}
 use Rattle.demands.specs.Refusals.{Blanked}
 use Rattle.demands.specs.Values as demand
+use Rattle.demands.proofs.Values as quiet
 use Rattle.promise.specs.declared.Outcome.{Outcome}
 use Rattle.promise.specs.Calls.{Promise}
 use Rattle.filter.specs.Ends.{End}
@@ -82,6 +83,6 @@ module _ (x : Model) (o : Offsets) (y : List Float) (w : CovParts) (w' : MeanPar
         either_way x old
         (λ t.
         let z = filter.gap x o y w w' (enough call t) k h (enough other t) in
-        let place = (demand.no_news x o y w w' k (seen.no_news (enough call t) h)).place in
+        let place = (quiet.no_news x o y w w' k (seen.no_news (enough call t) h)).place in
         (z.0, z.1, list_gap call.promise _ old call.told other.promise other.told (sym z.0.refusals) k z.1 (seen.answers call.promise h) place (leb-true _ _ t) (seen.judged h)))
         (λ t. absurd (short_deaf (short call t) h))

@@ -16,7 +16,7 @@ use Rattle.definition.specs.Parts.{fStar, fInf, innovations}
 use Rattle.definition.specs.Outcome.{CovParts, MeanParts, CovOutcome, MeanOutcome, Counts, Ending, turned, ending, ending_of, number_of, after, counts_in, report_in, kinds_need, roomy, cov_outcome, mean_outcome, outcome, outcome_at}
 use Rattle.laws.specs.Lists.{length_tab, tab_cong, tab_set, lay-set}
 use Rattle.demands.specs.Conditions.{Lengths, Room, table, First}
-use Rattle.demands.specs.Refusals as refusals
+use Rattle.demands.proofs.Refusals as tables
 use Rattle.demands.specs.Refusals.{Blanked}
 use Rattle.promise.specs.declared.Answer.{Answer}
 use Rattle.promise.specs.declared.Outcome.{Outcome}
@@ -162,7 +162,7 @@ module _ (x : Model) (o : Offsets) (y : List Float) (w : CovParts) (w' : MeanPar
   short_first : (S : Type 0) → (S → ⊥) → (k : ℕ) → (too_short x ≡ k) ↔ First k (table x o y S)
   short_first S lacks k =
       refuses_as x o y (λ r. absurd (bare_none r)) (λ s. absurd (lacks s)) k
-      (subst (λ (n : ℕ). (n ≡ k) ↔ First k (table x o y (Room x bare w'))) bare-refused (refusals.refuses x o y bare w' k))
+      (subst (λ (n : ℕ). (n ≡ k) ↔ First k (table x o y (Room x bare w'))) bare-refused (tables.refuses x o y bare w' k))
 
 pub refuses_list : (x : Model) (o : Offsets) (y : List Float) (w : CovParts) (w' : MeanParts) {b : CovParts} {b' : MeanParts} {r : Outcome} {Flat : Type 0} (old : List Record) (k : ℕ)
     → (leb (kinds_need x) (length old) ≡ true → (seen.refusal_of r ≡ k) ↔ First k (table x o y Flat)) → (leb (kinds_need x) (length old) ≡ false → Short x w b w' b' r)

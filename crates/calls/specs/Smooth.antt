@@ -10,15 +10,18 @@ use Rattle.definition.specs.Tracks.{smooth_by_classes}
 use Rattle.laws.specs.Entries.{copies}
 use Rattle.demands.specs.Conditions.{RoomSmooth, table, First}
 use Rattle.demands.specs.Refusals as refusals
+use Rattle.demands.proofs.Refusals as tables
 use Rattle.demands.specs.Refusals.{Blanked}
 use Rattle.demands.specs.Totals.{totals_smooth}
 use Rattle.demands.specs.Reports as report
 use Rattle.demands.specs.Values as demand
-use Rattle.demands.specs.Offsets as offset
+use Rattle.demands.proofs.Values as quiet
+use Rattle.demands.proofs.Offsets as offset
 use Rattle.demands.specs.Marked.{marking}
 use Rattle.demands.specs.Marked as mark
+use Rattle.demands.proofs.Marked as reached
 use Rattle.demands.specs.Copies.{with_t}
-use Rattle.demands.specs.Copies as copied
+use Rattle.demands.proofs.Copies as copied
 use Rattle.promise.specs.declared.Outcome.{Outcome}
 use Rattle.promise.specs.Calls.{PromiseSmooth}
 use Rattle.calls.specs.Seen as seen
@@ -53,7 +56,7 @@ blind p q e = (
 module _ (x : Model) (o : Offsets) (y : List Float) (w : CovParts) (w' : MeanParts) (sm sc : List Float) {r : Outcome} {b : CovParts} {b' : MeanParts} {sm' sc' : List Float} (call : Called x o y w w' sm sc r b b' sm' sc') where
   -- demand 1
   pub refuses : (k : ℕ) → (seen.refusal_of r ≡ k) ↔ First k (table x o y (RoomSmooth x w w' sm sc))
-  refuses k = subst (λ (n : ℕ). (n ≡ k) ↔ First k (table x o y (RoomSmooth x w w' sm sc))) (sym (seen.refusal_is call.filter)) (refusals.refuses_smooth x o y w w' sm sc k)
+  refuses k = subst (λ (n : ℕ). (n ≡ k) ↔ First k (table x o y (RoomSmooth x w w' sm sc))) (sym (seen.refusal_is call.filter)) (tables.refuses_smooth x o y w w' sm sc k)
 
   pub keeps : (k : ℕ) → 0 < k → (k ≡ 12 → ⊥) → seen.refusal_of r ≡ k → seen.SameParts b w b' w' × (sm' ≡ sm) × (sc' ≡ sc)
   keeps k l n e =
@@ -70,7 +73,7 @@ module _ (x : Model) (o : Offsets) (y : List Float) (w : CovParts) (w' : MeanPar
   never marked e = mark.never_smooth x marked o y w w' sm sc (sym (seen.refusal_is call.filter) ∙ e)
 
   pub void : (a : Bool) → mark.Reaches x x.n → {s : Outcome} {c : CovParts} {c' : MeanParts} {sm'' sc'' : List Float} → Called (marking a x) o y w w' sm sc s c c' sm'' sc'' → Same r s b c b' c' sm' sm'' sc' sc''
-  void a reaches other = same call other (sym (mark.void_smooth x a o y w w' sm sc reaches))
+  void a reaches other = same call other (sym (reached.void_smooth x a o y w w' sm sc reaches))
 
   -- demand 2: no room
   pub determined : {s : Outcome} {c : CovParts} {c' : MeanParts} {sm'' sc'' : List Float} → Called x o y w w' sm sc s c c' sm'' sc'' → Same r s b c b' c' sm' sm'' sc' sc''
@@ -94,11 +97,11 @@ module _ (x : Model) (o : Offsets) (y : List Float) (w : CovParts) (w' : MeanPar
   -- and no news changes none of the thirteen parts; a gap there, the cause in its record
   module _ (k : ℕ) (h : seen.NoNews y r b k) where
     pub number : (v : Float) → T (is_finite v) → {s : Outcome} {c : CovParts} {c' : MeanParts} {sm'' sc'' : List Float} → Called x o (set y k v) w w' sm sc s c c' sm'' sc'' → Same r s b c b' c' sm' sm'' sc' sc''
-    number v f other = same call other (sym ((demand.no_news_smooth x o y w w' sm sc k (seen.no_news call.filter h)).number v f))
+    number v f other = same call other (sym ((quiet.no_news_smooth x o y w w' sm sc k (seen.no_news call.filter h)).number v f))
 
     pub gap : {s : Outcome} {c : CovParts} {c' : MeanParts} {sm'' sc'' : List Float} → Called x o (set y k nan) w w' sm sc s c c' sm'' sc'' → seen.OneLess r s × seen.SameButCause k b c b' c' × (sm' ≡ sm'') × (sc' ≡ sc'')
     gap other =
-        let u = demand.no_news_smooth x o y w w' sm sc k (seen.no_news call.filter h) in
+        let u = quiet.no_news_smooth x o y w w' sm sc k (seen.no_news call.filter h) in
         let l = seen.one_less call.filter other.filter h u.gap_cov (ap (λ (z : SmoothedMean). z.filter) u.gap_mean) in
         (l.0, l.1, call.mean ∙ ap (λ (z : SmoothedMean). z.smoothed) (sym u.gap_mean) ∙ sym other.mean, call.cov ∙ sym u.gap_smoothed ∙ sym other.cov)
 

@@ -10,6 +10,7 @@ use Rattle.definition.specs.Outcome.{CovParts, MeanParts, SmoothedCov, SmoothedM
 use Rattle.demands.specs.Conditions.{RoomSmooth, table, First}
 use Rattle.demands.specs.Refusals.{Blanked}
 use Rattle.demands.specs.Values as demand
+use Rattle.demands.proofs.Values as quiet
 use Rattle.promise.specs.declared.Outcome.{Outcome}
 use Rattle.promise.specs.Calls.{PromiseSmooth}
 use Rattle.promise.specs.declared.Record.{Record}
@@ -103,7 +104,7 @@ module _ (x : Model) (o : Offsets) (y : List Float) (w : CovParts) (w' : MeanPar
         either_way x old
         (λ t.
         let z = smooth.gap x o y w w' sm sc (enough call t) k h (enough other t) in
-        let place = (demand.no_news_smooth x o y w w' sm sc k (seen.no_news (enough call t).filter h)).place in
+        let place = (quiet.no_news_smooth x o y w w' sm sc k (seen.no_news (enough call t).filter h)).place in
         let p = call.promise.filter in
         (z.0, z.1, z.2, z.3, list_gap p _ old call.told other.promise.filter other.told (sym z.0.refusals) k z.1 (seen.answers p h) place (leb-true _ _ t) (seen.judged h)))
         (λ t. absurd (short_deaf (short call t) h))

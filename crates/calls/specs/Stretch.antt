@@ -31,15 +31,18 @@ use Rattle.demands.specs.Cuts.{Piece, all_long, all_readings}
 use Rattle.demands.specs.Cuts as many
 use Rattle.demands.specs.StretchConditions.{RoomToo, stretch_table}
 use Rattle.demands.specs.StretchRefusals as refusals
+use Rattle.demands.proofs.StretchRefusals as tables
 use Rattle.demands.specs.StretchValues.{Akin, from}
 use Rattle.demands.specs.StretchValues as blind
 use Rattle.demands.specs.StretchUnheard.{SavedLess}
 use Rattle.demands.specs.StretchUnheard as unheard
-use Rattle.demands.specs.Offsets as offset
+use Rattle.demands.proofs.StretchUnheard as quiet
+use Rattle.demands.proofs.Offsets as offset
 use Rattle.demands.specs.Marked.{marking}
 use Rattle.demands.specs.Marked as mark
+use Rattle.demands.proofs.Marked as reached
 use Rattle.demands.specs.Copies.{with_t}
-use Rattle.demands.specs.Copies as copied
+use Rattle.demands.proofs.Copies as copied
 use Rattle.promise.specs.declared.Outcome.{Outcome}
 use Rattle.promise.specs.Calls.{PromiseStretch}
 use Rattle.calls.specs.Seen as seen
@@ -78,7 +81,7 @@ module _ (x : Model) (o : Offsets) (w : From) (last : Bool) (y : List Float) (v 
   -- demand 1: the first condition of document 02's table that applies, 0 where none does
   pub refuses : (k : ℕ) → (seen.refusal_of r ≡ k) ↔ First k (stretch_table x o w last y (RoomToo x last v v' save))
   refuses k =
-      subst (λ (n : ℕ). (n ≡ k) ↔ First k (stretch_table x o w last y (RoomToo x last v v' save))) (sym (seen.refusal_is call.filter)) (refusals.refuses x o w last y v v' save k)
+      subst (λ (n : ℕ). (n ≡ k) ↔ First k (stretch_table x o w last y (RoomToo x last v v' save))) (sym (seen.refusal_is call.filter)) (tables.refuses x o w last y v v' save k)
 
   -- all but 12 write nothing
   pub keeps : (k : ℕ) → 0 < k → (k ≡ 12 → ⊥) → seen.refusal_of r ≡ k → seen.SameParts b v b' v' × (save' ≡ save)
@@ -102,7 +105,7 @@ module _ (x : Model) (o : Offsets) (w : From) (last : Bool) (y : List Float) (v 
   never marked e = mark.never_stretch x marked o y v v' w last save (number_is 14 e)
 
   pub void : (a : Bool) → mark.Reaches x ((past_in x w).done + x.n) → {s : Outcome} {c : CovParts} {c' : MeanParts} {save'' : List ℕ} → Called (marking a x) o w last y v v' save s c c' save'' → Same r s b c b' c' save' save''
-  void a reaches other = same call other (sym (mark.void_stretch x a o y v v' w last save reaches))
+  void a reaches other = same call other (sym (reached.void_stretch x a o y v v' w last save reaches))
 
   -- demand 2: no room
   pub determined : {s : Outcome} {c : CovParts} {c' : MeanParts} {save'' : List ℕ} → Called x o w last y v v' save s c c' save'' → Same r s b c b' c' save' save''
@@ -155,17 +158,17 @@ module _ (x : Model) (o : Offsets) (w : From) (last : Bool) (y : List Float) (v 
         }
 
     pub number : (f : Float) → T (is_finite f) → {s : Outcome} {c : CovParts} {c' : MeanParts} {save'' : List ℕ} → Called x o w last (set y k f) v v' save s c c' save'' → Same r s b c b' c' save' save''
-    number f t other = same call other (sym ((unheard.no_news x o w last y v v' save k unmoved).number f t))
+    number f t other = same call other (sym ((quiet.no_news x o w last y v v' save k unmoved).number f t))
 
     -- a gap there leaves all but the count heard and the cause in its record
     module _ {s : Outcome} {c : CovParts} {c' : MeanParts} {save'' : List ℕ} (other : Called x o w last (set y k nan) v v' save s c c' save'') where
       pub gap : seen.OneLess r s × seen.SameButCause k b c b' c'
-      gap = let u = unheard.no_news x o w last y v v' save k unmoved in seen.one_less_of call.filter other.filter (number_is 0 h.answers) u.gap_cov u.gap_mean
+      gap = let u = quiet.no_news x o w last y v v' save k unmoved in seen.one_less_of call.filter other.filter (number_is 0 h.answers) u.gap_cov u.gap_mean
 
       -- in what is saved too
       pub gap_saved : last ≡ false → Ready x o w → SavedLess x.m (take (saved_need x.m) save') (take (saved_need x.m) save'')
       gap_saved z ready =
-          let known = unheard.gap_saved x o w last y v v' save k unmoved z ready in
+          let known = quiet.gap_saved x o w last y v v' save k unmoved z ready in
           subst (λ (l : List ℕ). SavedLess x.m (take (saved_need x.m) l) (take (saved_need x.m) save'')) (sym call.save)
           (subst (λ (l : List ℕ). SavedLess x.m (take (saved_need x.m) (stretch_outcome x o w last y v v' save).save) (take (saved_need x.m) l)) (sym other.save) known)
 

@@ -1,7 +1,7 @@
 -- Any number of cuts, by `cut_call`: a run in any number of stretches, each from the bytes that the one before saved, against one call over all its
 -- readings. Each stretch before the last answers; the final number, answer and saved bytes are that call's; where it answers, each of its parts is the
 -- stretches' blocks, one after another.
-use Rattle.std.specs.Prelude.{◌≡◌, refl, ◌⊎◌, ℕ, ◌+◌, ◌*◌, false, ◌&&◌, length, take, replicate, leb, Float}
+use Rattle.std.specs.Prelude.{◌≡◌, ◌⊎◌, ℕ, ◌+◌, ◌*◌, false, ◌&&◌, length, take, replicate, leb, Float}
 use Rattle.std.proofs.Math.Path.{sym, ap}
 use Rattle.std.proofs.Common.{◌∙◌, inl, inr, ⊎_elim, le_of_eq, take_at, le-leb}
 use Rattle.std.proofs.Math.Bool.{Bool, true}

@@ -1,21 +1,21 @@
 -- Document 02, request d: a call may ask, by a marker, that the last design of a list be used again where it runs out. A marked call goes by the table
 -- without 14, which is document 01's, with T's reach right after 2 (`as_before`): so it is never refused 14 (`never`). Where the list reaches the run's
 -- last period, and where the design is constant, the marker is void: marked or not, the outcome is one, every part of it (`void`). T's list goes by no
--- marker. That 14 writes nothing is `keeps` of Refusals and StretchRefusals.
-use Rattle.std.specs.Prelude.{◌≡◌, ◌↔◌, ℕ, zero, suc, ◌+◌, ◌*◌, ◌/◌, ◌≤◌, Bool, true, false, List, [], ◌∷◌, ◌++◌, map, T, length, Float}
+-- marker. That 14 writes nothing is `keeps` of Refusals and StretchRefusals. `as_before` and `void` are in proofs/Marked.antt.
+use Rattle.std.specs.Prelude.{◌≡◌, ℕ, zero, suc, ◌+◌, ◌*◌, ◌/◌, ◌≤◌, Bool, true, false, List, [], ◌∷◌, ◌++◌, map, T, length, Float}
 use Rattle.std.proofs.Math.Path.{refl}
 use Rattle.std.proofs.Common.{sym, ◌∙◌, ⊎_elim, arith}
 use Rattle.std.specs.Float.Ieee.Bits.{is_true}
 use Rattle.definition.specs.Run.{any_of}
-use Rattle.definition.specs.Inputs.{Model, Offsets, Class, class_of, is_infinity, noise, system_of, frame_of, start_of}
-use Rattle.definition.specs.Refusals.{inputs_fit, bad_length, outrun, list_short, first_of, of_sizes, of_lengths, of_entries, tests, refusal}
-use Rattle.definition.specs.Outcome.{CovParts, MeanParts, ending_of, number_of, ending, no_information, kinds_need, cov_need, mean_need, smoothed_cov_need, smoothed_mean_need, roomy, roomy_smoothed, cov_of, mean_of, cov_outcome, mean_outcome, outcome, outcome_at, smoothed_cov, smoothed_mean, smooth_outcome, smooth_outcome_at}
-use Rattle.definition.specs.Carried.{Past, Carried, begun_past, cov_from, mean_from, past_on, mean_on, mean_off_on, went}
-use Rattle.definition.specs.Stretch.{From, past_in, mean_in, mean_told_in, outside_stretch, bad_from, stretch_tests, stretch_refusal, roomy_stretch, stretch_ending, cov_stretch, mean_stretch, save_stretch, stretch_outcome}
-use Rattle.laws.specs.Says.{◌or◌, Says}
+use Rattle.definition.specs.Inputs.{Model, Offsets, Class, class_of, is_infinity, noise, system_of, frame_of}
+use Rattle.definition.specs.Refusals.{outrun, list_short, first_of, of_sizes, of_lengths, of_entries, tests, refusal}
+use Rattle.definition.specs.Outcome.{CovParts, MeanParts, ending_of, number_of, ending, roomy, roomy_smoothed, cov_outcome, outcome, outcome_at, smooth_outcome, smooth_outcome_at}
+use Rattle.definition.specs.Carried.{Past, Carried, cov_from, mean_from, mean_on}
+use Rattle.definition.specs.Stretch.{From, past_in, outside_stretch, bad_from, stretch_tests, stretch_refusal, roomy_stretch, stretch_ending, cov_stretch, stretch_outcome}
+use Rattle.laws.specs.Says.{◌or◌}
 use Rattle.laws.specs.Numbered.{no_number}
-use Rattle.demands.specs.Conditions.{ran, Room, RoomSmooth, OfSizes, OfLengths, OfSteps, OfEntries, OfRun, First}
-use Rattle.demands.specs.Refusals.{not_short, ◌then◌, reads_sizes, reads_lengths, reads_steps, reads_entries, reads_run, first_is, says_room, says_room_smooth}
+use Rattle.demands.specs.Conditions.{Room, OfSizes, OfLengths, OfSteps, OfEntries, OfRun}
+use Rattle.demands.specs.Refusals.{not_short}
 
 -- ---- a marked call
 
@@ -31,10 +31,10 @@ told_early (suc r) q e = e
 
 module _ (x : Model) (marked : T x.repeats) (o : Offsets) (y : List Float) where
   -- the tests but 14: of the filter's call and the smoother's, and of a stretch
-  abbrev of_steps : ℕ → List (ℕ × Bool)
+  abbrev pub of_steps : ℕ → List (ℕ × Bool)
   of_steps periods = (2, outrun (x.m * x.m) (length x.t_list) periods) ∷ []
 
-  abbrev before : Bool → List (ℕ × Bool)
+  abbrev pub before : Bool → List (ℕ × Bool)
   before room = of_sizes x ++ of_lengths x o (length (map class_of y)) room ++ of_steps x.n ++ of_entries x o (any_of is_infinity (map class_of y))
 
   abbrev before_in : Bool → Bool → ℕ → List (ℕ × Bool)
@@ -42,7 +42,7 @@ module _ (x : Model) (marked : T x.repeats) (o : Offsets) (y : List Float) where
       ((1, outside_stretch x.p x.m x.r x.n) ∷ []) ++ of_lengths x o (length (map class_of y)) room ++ of_entries x o (any_of is_infinity (map class_of y)) ++ ((15, bad) ∷ [])
       ++ of_steps (done + x.n)
 
-  passes : (room : Bool) → refusal x o (length (map class_of y)) (any_of is_infinity (map class_of y)) room ≡ first_of (before room)
+  pub passes : (room : Bool) → refusal x o (length (map class_of y)) (any_of is_infinity (map class_of y)) room ≡ first_of (before room)
   unfolding refusal tests list_short first_of
   passes room = rw (is_true x.repeats marked) refl
 
@@ -50,28 +50,14 @@ module _ (x : Model) (marked : T x.repeats) (o : Offsets) (y : List Float) where
   unfolding stretch_refusal stretch_tests list_short first_of
   passes_in room bad done = rw (is_true x.repeats marked) refl
 
-  by_table : (room : Bool) (Room : Type 0) → Says room Room → (k : ℕ) → (number_of (ending x o (map class_of y) room) ≡ k) ↔ First k (without_fourteen x o y Room)
-  unfolding ending
-  by_table room Room s k =
-      let reads = reads_sizes x then reads_lengths x o y room Room s then reads_steps x x.n then reads_entries x o y then reads_run x y in
-      rw (passes room) (first_is (before room) (no_information (ran x y)) (without_fourteen x o y Room) tt reads k)
-
   never_at : (room : Bool) → number_of (ending x o (map class_of y) room) ≡ 14 → ⊥
   unfolding ending
   never_at room e = no_number 14 (before room) tt tt (sym (passes room) ∙ told_early _ _ e)
 
   module _ (b : CovParts) (b' : MeanParts) where
-    pub as_before : (k : ℕ) → ((outcome x o y b b').0.refused ≡ k) ↔ First k (without_fourteen x o y (Room x b b'))
-    unfolding outcome outcome_at cov_outcome
-    as_before = by_table (roomy x b b') (Room x b b') (says_room x b b')
-
     pub never : (outcome x o y b b').0.refused ≡ 14 → ⊥
     unfolding outcome outcome_at cov_outcome
     never = never_at (roomy x b b')
-
-    pub as_before_smooth : (sm sc : List Float) (k : ℕ) → ((smooth_outcome x o y b b' sm sc).0.filter.refused ≡ k) ↔ First k (without_fourteen x o y (RoomSmooth x b b' sm sc))
-    unfolding smooth_outcome smooth_outcome_at cov_outcome
-    as_before_smooth sm sc = by_table (roomy_smoothed x b b' sm sc) (RoomSmooth x b b' sm sc) (says_room_smooth x b b' sm sc)
 
     pub never_smooth : (sm sc : List Float) → (smooth_outcome x o y b b' sm sc).0.filter.refused ≡ 14 → ⊥
     unfolding smooth_outcome smooth_outcome_at cov_outcome
@@ -91,22 +77,8 @@ marking b x = record { p = x.p; m = x.m; r = x.r; n = x.n; z_once = x.z_once; z_
 abbrev pub Reaches : Model → ℕ → Type 0
 Reaches x periods = (length x.z_list ≡ 0) or (periods ≤ length x.z_list / (x.p * x.m))
 
-long_enough : (x : Model) (periods : ℕ) → Reaches x periods → (a : Bool) → list_short a (x.p * x.m) (length x.z_list) periods ≡ false
+pub long_enough : (x : Model) (periods : ℕ) → Reaches x periods → (a : Bool) → list_short a (x.p * x.m) (length x.z_list) periods ≡ false
 long_enough x periods h a = not_short (marking a x) periods (λ s. ⊎_elim s.1.0 (λ l. omega (arith, s.1.1)) h)
-
-module _ (x : Model) (a : Bool) (o : Offsets) (y : List Float) (b : CovParts) (b' : MeanParts) where
-  pub void : Reaches x x.n → outcome (marking a x) o y b b' ≡ outcome x o y b b'
-  unfolding outcome outcome_at ending refusal tests first_of bad_length inputs_fit cov_outcome mean_outcome cov_of mean_of system_of frame_of start_of noise roomy kinds_need cov_need mean_need
-  void h = rw (long_enough x x.n h a, long_enough x x.n h x.repeats) refl
-
-  pub void_smooth : (sm sc : List Float) → Reaches x x.n → smooth_outcome (marking a x) o y b b' sm sc ≡ smooth_outcome x o y b b' sm sc
-  unfolding smooth_outcome smooth_outcome_at ending refusal tests first_of bad_length inputs_fit cov_outcome mean_outcome smoothed_cov smoothed_mean cov_of mean_of system_of frame_of start_of noise roomy_smoothed roomy kinds_need cov_need mean_need smoothed_cov_need smoothed_mean_need
-  void_smooth sm sc h = rw (long_enough x x.n h a, long_enough x x.n h x.repeats) refl
-
-  -- over the periods done and the stretch's
-  pub void_stretch : (w : From) (last : Bool) (save : List ℕ) → Reaches x ((past_in x w).done + x.n) → stretch_outcome (marking a x) o w last y b b' save ≡ stretch_outcome x o w last y b b' save
-  unfolding stretch_outcome stretch_ending stretch_refusal stretch_tests first_of bad_length inputs_fit cov_stretch mean_stretch save_stretch past_in mean_in mean_told_in bad_from begun_past cov_from mean_from past_on mean_on mean_off_on went system_of frame_of start_of noise roomy_stretch roomy kinds_need cov_need mean_need
-  void_stretch w last save h = rw (long_enough x ((past_in x w).done + x.n) h a, long_enough x ((past_in x w).done + x.n) h x.repeats) refl
 
 -- ---- the run does not read the marker
 

@@ -1,5 +1,5 @@
--- The table of refusals, for the filter's call and the smoother's: a call refuses with the number of the first condition that applies, and answers
--- where none does; 12 blanks what is needed of every lent part, and leaves the rest; every other one leaves each as it was.
+-- The table of refusals, for the filter's call and the smoother's: each test says its condition. Refusal 12 blanks what is needed of every lent part,
+-- and leaves the rest (`blanked`); every other one leaves each as it was (`keeps`). Which one it is, `refuses` says, in proofs/Refusals.antt.
 use Rattle.std.specs.Prelude.{◌≡◌, refl, ◌↔◌, ℕ, zero, suc, ◌*◌, ◌/◌, ◌<◌, Bool, true, false, cond, ◌||◌, List, [], ◌∷◌, ◌++◌, map, T, ltb, eqb, length, get_or, drop, replicate, Float}
 use Rattle.std.proofs.Common.{sym, ◌∙◌, inl, inr, ⊎_elim, arith}
 use Rattle.std.proofs.Math.Path.{ap}
@@ -10,14 +10,14 @@ use Rattle.std.specs.Float.Ieee.Bits.{is_false}
 use Rattle.definition.specs.Num.{0ᶠ, is_zero, is_finite, is_infinite, at, ent}
 use Rattle.definition.specs.Run.{any_of}
 use Rattle.definition.specs.Inputs.{Model, Offsets, class_of, is_infinity, is_flagged, noise}
-use Rattle.definition.specs.Refusals.{outside, bad_length, outrun, list_short, bad_system, bad_start, negative_at, negative, not_psd, off_at, off_row, off_diagonal, shape_at, shape_row, shape_of, start_shape, driven_at, driven_row, mixed_driven, not_finite, first_of, of_sizes, of_lengths, of_reach, of_system, of_start, of_h, of_readings, of_step, of_entries, tests, refusal}
+use Rattle.definition.specs.Refusals.{outside, bad_length, outrun, list_short, bad_system, bad_start, negative_at, negative, not_psd, off_at, off_row, off_diagonal, shape_at, shape_row, shape_of, start_shape, driven_at, driven_row, mixed_driven, not_finite, first_of, of_sizes, of_lengths, of_reach, of_system, of_start, of_h, of_readings, of_step}
 use Rattle.definition.specs.Parts.{CovPart, MeanPart}
 use Rattle.definition.specs.Outcome.{CovParts, MeanParts, CovOutcome, MeanOutcome, SmoothedCov, SmoothedMean, Ending, turned, silent, ending_of, number_of, ending, after, kinds_need, cov_need, mean_need, smoothed_cov_need, smoothed_mean_need, roomy, roomy_smoothed, no_information, cov_outcome, mean_outcome, outcome, outcome_at, smoothed_cov, smoothed_mean, smooth_outcome, smooth_outcome_at}
 use Rattle.laws.specs.Any.{infinite_classes}
 use Rattle.laws.specs.Accepted.{Chosen, InputsFit, positive, says_inputs, says_roomy}
 use Rattle.laws.specs.Numbered.{numbered, or_else, joined, not_twelve}
 use Rattle.laws.specs.Says.{Says, says_itself, says_as, says_of, says_not, says_and, says_or, says_eq, says_le, says_lt, says_below, says_within}
-use Rattle.demands.specs.Conditions.{NotFinite, Negative, Some, OutOf, Dimension, EitherPart, Lengths, Outrun, ListShort, NonFiniteSystem, NonFiniteStart, NotPsd, OffDiagonal, Flagged, Misshapen, StartShape, InfiniteReading, first_step, MixedDriven, ran, NoInformation, Room, RoomSmooth, OfSizes, OfLengths, OfSteps, OfReach, OfSystem, OfStart, OfH, OfReadings, OfStep, OfRun, OfEntries, table, First}
+use Rattle.demands.specs.Conditions.{NotFinite, Negative, Some, OutOf, Dimension, EitherPart, Lengths, Outrun, ListShort, NonFiniteSystem, NonFiniteStart, NotPsd, OffDiagonal, Flagged, Misshapen, StartShape, InfiniteReading, first_step, MixedDriven, ran, NoInformation, Room, RoomSmooth, OfSizes, OfLengths, OfSteps, OfReach, OfSystem, OfStart, OfH, OfReadings, OfStep, OfRun, First}
 
 -- ---- each test of the definition says its condition
 
@@ -244,9 +244,6 @@ reads_step x = record { rows = ((refl, says_driven x), ((refl, says_finite (nois
 pub reads_run : (x : Model) (y : List Float) → Reads ((12, no_information (ran x y)) ∷ []) (OfRun x y)
 reads_run x y = record { rows = ((refl, says_silent x y), tt) }
 
-pub reads_entries : (x : Model) (o : Offsets) (y : List Float) → Reads (of_entries x o (any_of is_infinity (map class_of y))) (OfEntries x o y)
-reads_entries x o y = reads_system x then reads_start x o then reads_h x then reads_readings y then reads_step x
-
 -- the ending's number: that of the early refusal, else 12 where the run has no information
 number_of_lem : (early : ℕ) (q : Bool) → number_of (ending_of early q) ≡ or_else early (first_of ((12, q) ∷ []))
 unfolding first_of ending_of number_of
@@ -264,18 +261,6 @@ module _ (before : List (ℕ × Bool)) (q : Bool) (es : List (ℕ × Type 0)) (h
     λ e. first_to (before ++ ((12, q) ∷ [])) es reads.rows k (sym number_is ∙ e),
     λ h. number_is ∙ first_from_lem (before ++ ((12, q) ∷ [])) es reads.rows k h,
   )
-
-module _ (x : Model) (o : Offsets) (y : List Float) (room : Bool) (Room : Type 0) (s : Says room Room) where
-  abbrev before : List (ℕ × Bool)
-  before = tests x o (length (map class_of y)) (any_of is_infinity (map class_of y)) room
-
-  reads : Reads (before ++ ((12, no_information (ran x y)) ∷ [])) (table x o y Room)
-  unfolding tests
-  reads = reads_sizes x then reads_lengths x o y room Room s then reads_reach x x.n then reads_entries x o y then reads_run x y
-
-  filter_is : (k : ℕ) → (number_of (ending x o (map class_of y) room) ≡ k) ↔ First k (table x o y Room)
-  unfolding ending refusal tests
-  filter_is = first_is before (no_information (ran x y)) (table x o y Room) tt reads
 
 pub says_room : (x : Model) (b : CovParts) (b' : MeanParts) → Says (roomy x b b') (Room x b b')
 says_room x b b' =
@@ -323,10 +308,6 @@ pub record Blank (x : Model) (b : CovParts) (b' : MeanParts) (r : CovOutcome × 
   pub means : (q : MeanPart) → Blanked (mean_need x q) 0ᶠ (b' q) (r.1.parts q)
 
 module _ (x : Model) (o : Offsets) (y : List Float) (b : CovParts) (b' : MeanParts) where
-  pub refuses : (k : ℕ) → ((outcome x o y b b').0.refused ≡ k) ↔ First k (table x o y (Room x b b'))
-  unfolding outcome outcome_at cov_outcome
-  refuses = filter_is x o y (roomy x b b') (Room x b b') (says_room x b b')
-
   -- all but 12 write nothing
   pub keeps : (k : ℕ) → 0 < k → (k ≡ 12 → ⊥) → (outcome x o y b b').0.refused ≡ k → ((outcome x o y b b').0.parts ≡ b) × ((outcome x o y b b').1.parts ≡ b')
   unfolding outcome outcome_at cov_outcome mean_outcome ending after
@@ -352,10 +333,6 @@ module _ (x : Model) (o : Offsets) (y : List Float) (b : CovParts) (b' : MeanPar
 module _ (x : Model) (o : Offsets) (y : List Float) (b : CovParts) (b' : MeanParts) (sm sc : List Float) where
   abbrev ended : SmoothedCov × SmoothedMean
   ended = smooth_outcome x o y b b' sm sc
-
-  pub refuses_smooth : (k : ℕ) → (ended.0.filter.refused ≡ k) ↔ First k (table x o y (RoomSmooth x b b' sm sc))
-  unfolding smooth_outcome smooth_outcome_at cov_outcome
-  refuses_smooth = filter_is x o y (roomy_smoothed x b b' sm sc) (RoomSmooth x b b' sm sc) (says_room_smooth x b b' sm sc)
 
   pub keeps_smooth : (k : ℕ) → 0 < k → (k ≡ 12 → ⊥) → ended.0.filter.refused ≡ k
       → (ended.0.filter.parts ≡ b) × (ended.1.filter.parts ≡ b') × (ended.0.smoothed ≡ sc) × (ended.1.smoothed ≡ sm)

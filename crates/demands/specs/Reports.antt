@@ -7,15 +7,15 @@ use Rattle.std.proofs.Common.{sym}
 use Rattle.std.proofs.Math.Bool.{true, false}
 use Rattle.std.proofs.Math.ListN.{length}
 use Rattle.definition.specs.Num.{tabulate}
-use Rattle.definition.specs.Run.{any_of, chunks, pairs, lay}
+use Rattle.definition.specs.Run.{chunks, pairs, lay}
 use Rattle.definition.specs.Cov.{Cov, CovPeriod}
 use Rattle.definition.specs.Mean.{Mean, MeanPeriod}
-use Rattle.definition.specs.Inputs.{Model, Offsets, Class, class_of, is_infinity, system_of, system_from, frame_of, frame_from, gap_rows, start_of, start_from, start_inf}
-use Rattle.definition.specs.Parts.{CovPart, predCov, pred_inf, filtCov, MeanPart, predMean, filtMean}
+use Rattle.definition.specs.Inputs.{Model, Offsets, class_of, system_of, system_from, frame_of, frame_from, gap_rows, start_of, start_from, start_inf}
+use Rattle.definition.specs.Parts.{predCov, pred_inf, filtCov, predMean, filtMean}
 use Rattle.definition.specs.Reports.{first_from, cov_report, mean_report, told_before}
-use Rattle.definition.specs.Outcome.{CovParts, MeanParts, CovOutcome, MeanOutcome, Ending, turned, silent, answered, ending_of, number_of, ending, after, report_in, decisions_of, cov_written, mean_written, cov_of, mean_of, cov_outcome, mean_outcome, roomy, roomy_smoothed, outcome, outcome_at, smooth_outcome, smooth_outcome_at}
-use Rattle.definition.specs.Carried.{Past, Carried, begun_past, begun_mean, cov_from, mean_from, past_on, mean_on, mean_off_on}
-use Rattle.definition.specs.Stretch.{From, past_in, mean_in, mean_told_in, carried_in, bad_from, stretch_refusal, roomy_stretch, stretch_ending, cov_stretch, mean_stretch, stretch_outcome}
+use Rattle.definition.specs.Outcome.{CovParts, MeanParts, CovOutcome, MeanOutcome, Ending, turned, silent, answered, number_of, ending, after, report_in, decisions_of, cov_written, mean_written, cov_of, mean_of, cov_outcome, mean_outcome, roomy, roomy_smoothed, outcome, outcome_at, smooth_outcome, smooth_outcome_at}
+use Rattle.definition.specs.Carried.{Carried, begun_past, begun_mean, cov_from, mean_from, past_on, mean_on, mean_off_on}
+use Rattle.definition.specs.Stretch.{From, past_in, mean_in, mean_told_in, carried_in, stretch_ending, cov_stretch, mean_stretch, stretch_outcome}
 use Rattle.laws.specs.Lists.{length_tab}
 use Rattle.laws.specs.Accepted.{InputsFit, inputs_fit_lem, accepted, lengths_pass}
 use Rattle.laws.specs.Shapes.{Sized, run_length}

@@ -1,11 +1,11 @@
 -- Small stretches, and what the oracle (the Rust, gone on with from saved bytes) answers, writes and saves: the definition gives the same, bit for bit,
 -- tails included. Made by `oracle stretches 1 | tools/stretches`; don't edit. 167 stretches: cut runs, each cause of a skip, each refusal, bytes
--- altered in each way, lists as far as they reach. By computation.
+-- altered in each way, lists as far as they reach. By computation, so many to a theorem; `agrees` in proofs/ has them all.
 use Rattle.std.specs.Prelude.{List, [], ◌∷◌, T}
 use Rattle.definition.specs.Computed.{hold}
 use Rattle.demands.specs.StretchCall.{Stretched, agreed, opened}
 
-abbrev stretches1 : List Stretched
+abbrev pub stretches1 : List Stretched
 stretches1 =
     -- refusal 1, bad bytes
     record {
@@ -3209,11 +3209,11 @@ stretches1 =
     }
     ∷ []
 
-agrees1 : T (hold (agreed stretches1))
+pub agrees1 : T (hold (agreed stretches1))
 unfolding opened
 agrees1 = tt
 
-abbrev stretches2 : List Stretched
+abbrev pub stretches2 : List Stretched
 stretches2 =
     -- an infinite P*
     record {
@@ -6417,11 +6417,11 @@ stretches2 =
     }
     ∷ []
 
-agrees2 : T (hold (agreed stretches2))
+pub agrees2 : T (hold (agreed stretches2))
 unfolding opened
 agrees2 = tt
 
-abbrev stretches3 : List Stretched
+abbrev pub stretches3 : List Stretched
 stretches3 =
     -- a longer list of T
     record {
@@ -6705,9 +6705,6 @@ stretches3 =
     }
     ∷ []
 
-agrees3 : T (hold (agreed stretches3))
+pub agrees3 : T (hold (agreed stretches3))
 unfolding opened
 agrees3 = tt
-
-pub agrees : T (hold (agreed stretches1)) × T (hold (agreed stretches2)) × T (hold (agreed stretches3))
-agrees = (agrees1, agrees2, agrees3)
