@@ -153,9 +153,9 @@ fn back_usual(
     m: usize,
 )
     requires { m ≤ 8 }
-    ensures { (n2 : List Float) → record { n0 = mat m n0.exit.now; n1 = mat m n1.new; n2 = n2 }
+    ensures { (n2 : List Float) → record { n0 = mat m n0.new; n1 = mat m n1.new; n2 = n2 }
         ≡ back_n m live (vec m z.now)
-        (record { n0 = mat m n0.entry.now; n1 = mat m n1.old; n2 = n2 })
+        (record { n0 = mat m n0.old; n1 = mat m n1.old; n2 = n2 })
         (usual f (vec m m_star.now)) }
 {
     let l = l_usual(z, f, m_star, m);
@@ -186,7 +186,7 @@ fn diffuse_n1(
     requires { m ≤ 8 }
     ensures { (n2 : List Float) → mat m result ≡ diffuse_n1 m (vec m z.now) f1
         (mat m l0.now) (mat m l1.now)
-        (record { n0 = mat m n0.entry.now; n1 = mat m n1.now; n2 = n2 }) }
+        (record { n0 = mat m n0.now; n1 = mat m n1.now; n2 = n2 }) }
 {
     let mut s = dense::outer_scaled(z, z, f1, m);
     add_quad(&mut s, l0, n1, l0, m);
