@@ -39,8 +39,8 @@ def fault(path):
     for line in lines:
         if line.startswith("file: "):
             file = line[6:]
-            if not re.match(r"(src|specs)/", file) or not (crate / file).is_file():
-                return f"'{file}' is no file of src/ or specs/ of its crate"
+            if not re.match(r"(src|specs|proofs)/", file) or not (crate / file).is_file():
+                return f"'{file}' is no file of src/, specs/ or proofs/ of its crate"
         elif line.startswith("old: "):
             old = line[5:]
         elif line.startswith("new:"):
