@@ -6,7 +6,7 @@ use Rattle.sheet.specs.declared.parts.Tokens.{Tokens}
 use Rattle.sheet.specs.declared.parts.Fault.{Fault}
 use Rattle.sheet.specs.Lines.{is_end, run_to, onto, lines_of}
 use Rattle.sheet.specs.Effects.{fresh, settled, reading_of, line_readings, Laid}
-use Rattle.sheet.specs.Faults.{right, fault_of}
+use Rattle.sheet.specs.Faults.{fault_of}
 use Rattle.sheet.specs.Good.{few_periods, counted_few, counted-length}
 use Rattle.sheet.specs.Sheets.{line_tokens, line_fault, counted, wrong_line, end_of, sheet_from, readings_from, sheet_of, readings_of}
 

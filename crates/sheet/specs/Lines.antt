@@ -1,6 +1,6 @@
 -- The lines of a text, over the list of its bytes. A newline (10) ends a line. A # (35) or a carriage return (13) ends what counts of it.
 use Rattle.std.specs.Prelude.{◌≡◌, ℕ, suc, Bool, true, false, cond, List, [], ◌∷◌, ◌++◌, take, ◌==◌, ◌≢◌, refl}
-use Rattle.std.proofs.Common.{sym, ap, ◌∙◌, arith, eqb-true}
+use Rattle.std.proofs.Common.{arith}
 
 -- whether a byte ends a line (true), or what counts of it (false)
 unfoldable pub is_end : Bool → ℕ → Bool
@@ -34,12 +34,12 @@ unfoldable pub joined : List (List ℕ) → List ℕ
 joined [] = []
 joined (l ∷ ls) = l ++ after_lines ls
 
-joined-onto : (b : ℕ) (ls : List (List ℕ)) → joined (onto b ls) ≡ b ∷ joined ls
+pub joined-onto : (b : ℕ) (ls : List (List ℕ)) → joined (onto b ls) ≡ b ∷ joined ls
 unfolding joined onto after_lines
 joined-onto b [] = refl
 joined-onto b (l ∷ ls) = refl
 
-after_some : (ls : List (List ℕ)) → (ls ≢ []) → after_lines ls ≡ 10 ∷ joined ls
+pub after_some : (ls : List (List ℕ)) → (ls ≢ []) → after_lines ls ≡ 10 ∷ joined ls
 unfolding joined after_lines
 after_some [] h = absurd (h refl)
 after_some (l ∷ ls) h = refl
@@ -49,7 +49,7 @@ unfolding onto
 onto_some b [] e = let z : ◌≡◌ {A = ℕ} 0 1 = cc in omega arith
 onto_some b (l ∷ ls) e = let z : ◌≡◌ {A = ℕ} 0 1 = cc in omega arith
 
-lines_some : (s : List ℕ) → lines_of s ≢ []
+pub lines_some : (s : List ℕ) → lines_of s ≢ []
 unfolding lines_of
 lines_some [] e = let z : ◌≡◌ {A = ℕ} 0 1 = cc in omega arith
 lines_some (b ∷ bs) e = go (is_end true b) e
@@ -57,12 +57,3 @@ lines_some (b ∷ bs) e = go (is_end true b) e
     go : (t : Bool) → cond t ([] ∷ lines_of bs) (onto b (lines_of bs)) ≢ []
     go true e = let z : ◌≡◌ {A = ℕ} 0 1 = cc in omega arith
     go false e = onto_some b (lines_of bs) e
-
-pub split : (s : List ℕ) → joined (lines_of s) ≡ s
-unfolding lines_of joined after_lines is_end
-split [] = refl
-split (b ∷ bs) = go (split bs) (b == 10) refl
-  where
-    go : joined (lines_of bs) ≡ bs → (t : Bool) → (b == 10) ≡ t → joined (cond t ([] ∷ lines_of bs) (onto b (lines_of bs))) ≡ b ∷ bs
-    go i true e = after_some (lines_of bs) (lines_some bs) ∙ ap (λ (l : List ℕ). 10 ∷ l) i ∙ ap (λ (x : ℕ). x ∷ bs) (sym (eqb-true b 10 e))
-    go i false e = joined-onto b (lines_of bs) ∙ ap (λ (l : List ℕ). b ∷ l) i

@@ -1,4 +1,4 @@
-use Rattle.std.proofs.Common.{◌≡◌, ◌-◌, true, false, drop, sym, refl, ap, ◌∙◌, arith, drop_of_length-le}
+use Rattle.std.proofs.Common.{◌≡◌, true, false, drop, sym, refl, ap, ◌∙◌, arith, drop_of_length-le}
 use Rattle.sheet.specs.Lines.{run_to}
 use Rattle.sheet.proofs.Laws.{run_by}
 use Rattle.sheet.proofs.lines.run_end.Goals as goal

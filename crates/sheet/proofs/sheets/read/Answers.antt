@@ -1,4 +1,4 @@
-use Rattle.std.proofs.Common.{◌-◌, ◌<◌, length, sym, ap, ◌∙◌, arith}
+use Rattle.std.proofs.Common.{◌<◌, length, sym, ap, ◌∙◌, arith}
 use Rattle.sheet.specs.declared.parts.Fault.{Fault}
 use Rattle.sheet.specs.Faults.{fault_of}
 use Rattle.sheet.specs.Good.{few_periods}

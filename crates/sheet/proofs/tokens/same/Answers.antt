@@ -1,4 +1,4 @@
-use Rattle.std.proofs.Common.{◌-◌, true, false, sym, refl, ◌∙◌, arith, eq-eqb, ne_eqb}
+use Rattle.std.proofs.Common.{true, false, sym, refl, ◌∙◌, arith, eq-eqb, ne_eqb}
 use Rattle.sheet.proofs.Laws.{equal_by, equal_none, unequal}
 use Rattle.sheet.proofs.tokens.same.Goals as goal
 

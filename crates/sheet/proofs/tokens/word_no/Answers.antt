@@ -1,4 +1,4 @@
-use Rattle.std.proofs.Common.{◌-◌, refl, arith}
+use Rattle.std.proofs.Common.{refl, arith}
 use Rattle.sheet.specs.Tokens.{start_no}
 use Rattle.sheet.proofs.Laws.{start_next, word_at_lem}
 use Rattle.sheet.proofs.tokens.word_no.Goals as goal
