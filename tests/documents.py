@@ -78,13 +78,13 @@ def theorems(text, crates):
         # `demands Values.values`, `no-news`, `Totals.totals`: what follows is of the same file, or of the same crate
         follows = crate and text[end:m.start()] in (", ", " and ")
         end = m.end()
-        if found := re.fullmatch(r"([a-z_]+) ([A-Z][a-z]\w*)(?:\.([\w′-]+))?", m[1]):
+        if found := re.fullmatch(r"([a-z_]+) ([A-Z][a-z]\w*)(?:\.([\w'-]+))?", m[1]):
             crate, file, name = found.groups()
             there = stands(crate, file, name)
-        elif follows and (found := re.fullmatch(r"([A-Z][a-z]\w*)\.([\w′-]+)", m[1])):
+        elif follows and (found := re.fullmatch(r"([A-Z][a-z]\w*)\.([\w'-]+)", m[1])):
             file, name = found.groups()
             there = stands(crate, file, name)
-        elif follows and re.fullmatch(r"[\w′-]+", m[1]):
+        elif follows and re.fullmatch(r"[\w'-]+", m[1]):
             there = stands(crate, file, m[1]) or stands(crate, m[1], None)
         else:
             crate = None
@@ -100,7 +100,7 @@ def main():
             if not line.startswith(("---", "+++", "@@")):
                 wrong.append(f"{document} has not the crates of crates.txt: {line}")
     crates = {line.split(": ")[1] for line in there}
-    sources = sorted(f for f in Path("crates").rglob("*") if f.suffix in (".rt", ".antt", ".tpl"))
+    sources = sorted(f for f in Path("crates").rglob("*") if f.suffix in (".rt", ".antt"))
     for document in DOCUMENTS + sources:
         # blocks of another language name other things
         text = re.sub(r"^```(?:c|rust|text)\n.*?^```\n", "", document.read_text(), flags=re.M | re.S)
