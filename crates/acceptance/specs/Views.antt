@@ -1,16 +1,27 @@
 -- A verdict's values as the definition's, and what each test finds.
-use Rattle.std.specs.Prelude.{ℕ, ◌≡◌, Bool, false, cond, List, Float}
+use Rattle.std.specs.Prelude.{ℕ, ◌≡◌, Bool, true, false, cond, List, [], Float, Option, None, Some, Result, Ok, Err}
+use Rattle.std.specs.Borrow.{Bor}
 use Rattle.definition.specs.Num.{◌>ᶠ◌, ◌⊗◌, cancel_tol}
 use Rattle.definition.specs.Cov as cov
-use Rattle.definition.specs.Cov.{Candidate, Decision, skipped, usual, diffuse, by_dust, usually, diffusely}
+use Rattle.definition.specs.Cov.{Decision, skipped, usual, diffuse, by_dust, usually, diffusely}
+use Rattle.promise.specs.declared.Cause.{Cause}
 use Rattle.promise.specs.Records.{cause_in}
-use Rattle.dense.specs.Views.{vec}
+use Rattle.dense.specs.Views.{vec, mat}
+use Rattle.track.specs.declared.State.{State}
+use Rattle.acceptance.specs.declared.Candidate.{Candidate}
 use Rattle.acceptance.specs.declared.Dust.{Dust}
 use Rattle.acceptance.specs.declared.Dust.TheVariants.{Clear, Below, Suspect}
 use Rattle.acceptance.specs.declared.Finding.{Finding}
 use Rattle.acceptance.specs.declared.Finding.TheVariants as finding
-use Rattle.acceptance.specs.declared.Found.{Found}
-use Rattle.acceptance.specs.declared.Found.TheVariants as found
+
+-- the standard deviations, and whether there are none yet
+abbrev pub sd_in : ℕ → Option (Bor (List Float)) → List Float
+sd_in m None = []
+sd_in m (Some sd) = vec m sd.now
+
+abbrev pub fresh_in : Option (Bor (List Float)) → Bool
+fresh_in None = true
+fresh_in (Some sd) = false
 
 unfoldable pub dust_of : Dust → cov.Dust
 dust_of Clear = cov.clear
@@ -35,53 +46,51 @@ pub record ByDust (live : Bool) (d : Dust) (r : Finding) : Type 0 where
   pub doubts : (x : Float) → r ≡ finding.Doubtful x → (live ≡ false) × (dust_of d ≡ cov.suspect x)
 
 -- an element as the definition judges it
-abbrev pub judged_as : List Float → Float → Bool → List Float → List Float → List Float → Bool → Float → List Float → List Float
-    → List Float → Candidate
-judged_as z h live pre sd unres fresh again star pinf root =
+abbrev pub judged_as : Candidate → Bool → Float → List Float → List Float → List Float → List Float → cov.Candidate
+judged_as e live again star pinf root unres =
     record {
-      z = z;
-      h = h;
+      z = vec e.m e.z.now;
+      h = e.h;
       live = live;
-      pre = pre;
-      sd = sd;
+      pre = mat e.m e.pre.now;
+      sd = sd_in e.m e.sd;
       unres = unres;
-      fresh = fresh;
+      fresh = fresh_in e.sd;
       again = again;
       star = star;
       pinf = pinf;
       root = root;
     }
 
+abbrev pub judged_in : Candidate → State → Float → cov.Candidate
+judged_in e s again = judged_as e s.live again (mat e.m s.star) (mat e.m s.p_inf) (mat e.m s.root) (mat e.m s.unres)
+
 -- by usual acceptance, which asks nothing of P∞
-pub record Usually (m : ℕ) (z : List Float) (h : Float) (live : Bool) (pre sd : List Float) (fresh : Bool)
-    (star : List Float) (f : Float) (r : Finding) : Type 0 where
-  pub finds : (again : Float) (unres pinf root a b : List Float)
-      → decision_by m again f r a b ≡ usually m (judged_as z h live pre sd unres fresh again star pinf root) f (vec m a)
-  pub doubts : (x : Float) → r ≡ finding.Doubtful x → (live ≡ false) × (fresh ≡ false)
+pub record Usually (e : Candidate) (live : Bool) (star : List Float) (f : Float) (r : Finding) : Type 0 where
+  pub finds : (again : Float) (pinf root unres a b : List Float)
+      → decision_by e.m again f r a b ≡ usually e.m (judged_as e live again (mat e.m star) pinf root unres) f (vec e.m a)
+  pub doubts : (x : Float) → r ≡ finding.Doubtful x → (live ≡ false) × (fresh_in e.sd ≡ false)
 
 -- the definition's verdict, F* and M* at hand
-unfoldable pub judged_by : ℕ → Candidate → Float → List Float → Decision
+unfoldable pub judged_by : ℕ → cov.Candidate → Float → List Float → Decision
 judged_by m e f m* = cond e.live (diffusely m e f m*) (usually m e f m*)
 
-pub record Judged (m : ℕ) (z : List Float) (h : Float) (live : Bool) (pre sd : List Float) (fresh : Bool)
-    (unres star pinf root : List Float) (f : Float) (b : List Float) (r : Finding) : Type 0 where
-  pub finds : (again : Float) (a : List Float)
-      → decision_by m again f r a b ≡ judged_by m (judged_as z h live pre sd unres fresh again star pinf root) f (vec m a)
-  pub doubts : (x : Float) → r ≡ finding.Doubtful x → (live ≡ false) × (fresh ≡ false)
+pub record Judged (e : Candidate) (s : State) (f : Float) (b : List Float) (r : Finding) : Type 0 where
+  pub finds : (again : Float) (a : List Float) → decision_by e.m again f r a b ≡ judged_by e.m (judged_in e s again) f (vec e.m a)
+  pub doubts : (x : Float) → r ≡ finding.Doubtful x → (s.live ≡ false) × (fresh_in e.sd ≡ false)
 
--- ---- after an update of a period that is not diffuse, F by the star root at hand
+-- ---- in a period that is not diffuse, F by the star root at hand
 
 -- what is found as a decision, F* and M* at hand
-unfoldable pub decision_on : Float → List Float → Found → Decision
-decision_on f m* (found.Nothing c) = skipped (cause_in c)
-decision_on f m* found.Usual = usual f m*
+unfoldable pub decision_on : Float → List Float → Result (Unit {0}) Cause → Decision
+decision_on f m* (Ok _) = usual f m*
+decision_on f m* (Err c) = skipped (cause_in c)
 
 -- by the dust test
-pub record DustBy (again : Float) (d : Dust) (r : Found) : Type 0 where
+pub record DustBy (again : Float) (d : Dust) (r : Result (Unit {0}) Cause) : Type 0 where
   pub finds : (f : Float) (m* : List Float) → decision_on f m* r ≡ by_dust false again f m* (dust_of d)
 
 -- by usual acceptance
-pub record UsualBy (m : ℕ) (z : List Float) (h : Float) (pre sd : List Float) (again : Float) (star : List Float)
-    (f : Float) (r : Found) : Type 0 where
-  pub finds : (unres pinf root m* : List Float)
-      → decision_on f m* r ≡ usually m (judged_as z h false pre sd unres false again star pinf root) f m*
+pub record UsualBy (e : Candidate) (again : Float) (star : List Float) (f : Float) (r : Result (Unit {0}) Cause) : Type 0 where
+  pub finds : (pinf root unres m* : List Float)
+      → decision_on f m* r ≡ usually e.m (judged_as e false again (mat e.m star) pinf root unres) f m*

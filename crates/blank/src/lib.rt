@@ -1,7 +1,7 @@
 // Refusal 12: the needed stretch of each lent part is blanked.
 #![tactic(auto)]
 
-ghost use Rattle.std.specs.Prelude.{◌≡◌, ◌≤◌, length, replicate};
+ghost use Rattle.std.specs.Prelude.{◌≡◌, ◌≤◌, length};
 ghost use Rattle.definition.specs.Num.{zeros};
 ghost use Rattle.definition.specs.Run.{lay};
 ghost use Rattle.blank.specs.Stretches.{MeanRoom, CovRoom, RecordRoom, SmoothedRoom, MeanBlank, CovBlank, RecordBlank, SmoothedBlank};
@@ -11,18 +11,7 @@ fn clear(out: &mut [f64], k: usize)
     requires { k ≤ length out.old }
     ensures { out.new ≡ lay (zeros k) out.old }
 {
-    for i in 0..k {
-        out[i] = 0.0;
-    }
-}
-
-fn clear_bytes(out: &mut [u8], k: usize)
-    requires { k ≤ length out.old }
-    ensures { out.new ≡ lay (replicate k 0) out.old }
-{
-    for i in 0..k {
-        out[i] = 0;
-    }
+    out[..k].fill(0.0);
 }
 
 fn means(pred_mean: &mut [f64], filt_mean: &mut [f64], v: &mut [f64], p: usize, m: usize, n: usize)
@@ -69,7 +58,7 @@ fn records(
 {
     let np = n * p;
     let npm = n * (p * m);
-    clear_bytes(kinds, np);
+    kinds[..np].fill(0);
     clear(f_star, np);
     clear(f_inf, np);
     clear(m_star, npm);

@@ -4,9 +4,11 @@
 
 ghost use Rattle.promise.specs.Exported.{places, Told};
 
+use promise::{Answer, Refusal};
+
 // The outcome as a number, and the answer in its places.
 pub fn tell(
-    o: promise::Outcome,
+    o: Result<Answer, Refusal>,
     loglik: &mut f64,
     d_diffuse: &mut usize,
     heard: &mut usize,
@@ -21,8 +23,8 @@ pub fn tell(
         cov_off.new mean_off.new) }
 {
     match o {
-        promise::Outcome::Refused(k) => k as u32,
-        promise::Outcome::Answered(a) => {
+        Err(e) => u32::from(u8::from(e)),
+        Ok(a) => {
             *loglik = a.loglik;
             *d_diffuse = a.d_diffuse;
             *heard = a.heard;

@@ -5,6 +5,8 @@
 ghost use Rattle.promise.specs.Lent.{given, lent};
 ghost use Rattle.promise.specs.Exported.{is_yes, places, FilteredC};
 
+use promise::{Model, Offsets};
+
 #[unsafe(no_mangle)]
 pub extern "C" fn goxundar_filter_5<'a>(
     p: usize,
@@ -63,36 +65,26 @@ pub extern "C" fn goxundar_filter_5<'a>(
         (places loglik.new d_diffuse.new heard.new news.new
         cov_off.new mean_off.new) }
 {
-    let o = filter::filter_univariate(
+    let x = Model {
         p,
         m,
         r,
         n,
         z,
         zs,
-        repeats != 0,
+        repeats: repeats != 0,
         h,
         t,
         ts,
         rr,
         q,
-        c,
-        d,
-        a1,
         p_star,
         flags,
-        y,
-        pred_mean,
-        pred_cov,
-        pred_inf,
-        filt_mean,
-        filt_cov,
-        kinds,
-        v,
-        f_star,
-        f_inf,
-        m_star,
-        m_inf,
+    };
+    let o = Offsets { c, d, a1 };
+    let outcome = filter::filter_univariate(
+        &x, &o, y, pred_mean, pred_cov, pred_inf, filt_mean, filt_cov, kinds, v, f_star, f_inf,
+        m_star, m_inf,
     );
-    c_answer::tell(o, loglik, d_diffuse, heard, news, cov_off, mean_off)
+    c_answer::tell(outcome, loglik, d_diffuse, heard, news, cov_off, mean_off)
 }

@@ -5,6 +5,8 @@
 ghost use Rattle.promise.specs.Lent.{given, lent_smooth};
 ghost use Rattle.promise.specs.Exported.{is_yes, places, SmoothedC};
 
+use promise::{Model, Offsets};
+
 // The filter's call with two outputs more.
 #[unsafe(no_mangle)]
 pub extern "C" fn goxundar_smooth_5<'a>(
@@ -68,38 +70,26 @@ pub extern "C" fn goxundar_smooth_5<'a>(
         (places loglik.new d_diffuse.new heard.new news.new
         cov_off.new mean_off.new) }
 {
-    let o = smoother::smooth_univariate(
+    let x = Model {
         p,
         m,
         r,
         n,
         z,
         zs,
-        repeats != 0,
+        repeats: repeats != 0,
         h,
         t,
         ts,
         rr,
         q,
-        c,
-        d,
-        a1,
         p_star,
         flags,
-        y,
-        pred_mean,
-        pred_cov,
-        pred_inf,
-        filt_mean,
-        filt_cov,
-        kinds,
-        v,
-        f_star,
-        f_inf,
-        m_star,
-        m_inf,
-        sm_mean,
-        sm_cov,
+    };
+    let o = Offsets { c, d, a1 };
+    let outcome = smoother::smooth_univariate(
+        &x, &o, y, pred_mean, pred_cov, pred_inf, filt_mean, filt_cov, kinds, v, f_star, f_inf,
+        m_star, m_inf, sm_mean, sm_cov,
     );
-    c_answer::tell(o, loglik, d_diffuse, heard, news, cov_off, mean_off)
+    c_answer::tell(outcome, loglik, d_diffuse, heard, news, cov_off, mean_off)
 }

@@ -6,6 +6,8 @@
 ghost use Rattle.promise.specs.Lent.{given, lent, given_stretch, lent_stretch};
 ghost use Rattle.promise.specs.Exported.{is_yes, places, StretchedC};
 
+use promise::{Model, Offsets};
+
 #[unsafe(no_mangle)]
 pub extern "C" fn goxundar_stretch_5<'a>(
     p: usize,
@@ -74,24 +76,26 @@ pub extern "C" fn goxundar_stretch_5<'a>(
         (places loglik.new d_diffuse.new heard.new news.new
         cov_off.new mean_off.new) }
 {
-    let o = stretch::stretch(
+    let x = Model {
         p,
         m,
         r,
         n,
         z,
         zs,
-        repeats != 0,
+        repeats: repeats != 0,
         h,
         t,
         ts,
         rr,
         q,
-        c,
-        d,
-        a1,
         p_star,
         flags,
+    };
+    let o = Offsets { c, d, a1 };
+    let outcome = stretch::stretch(
+        &x,
+        &o,
         y,
         begins != 0,
         saved,
@@ -109,5 +113,5 @@ pub extern "C" fn goxundar_stretch_5<'a>(
         m_inf,
         save,
     );
-    c_answer::tell(o, loglik, d_diffuse, heard, news, cov_off, mean_off)
+    c_answer::tell(outcome, loglik, d_diffuse, heard, news, cov_off, mean_off)
 }

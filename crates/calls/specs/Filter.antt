@@ -21,8 +21,7 @@ use Rattle.demands.specs.Marked as mark
 use Rattle.demands.proofs.Marked as reached
 use Rattle.demands.specs.Copies.{with_t}
 use Rattle.demands.proofs.Copies as copied
-use Rattle.promise.specs.declared.Outcome.{Outcome}
-use Rattle.promise.specs.Calls.{Promise}
+use Rattle.promise.specs.Calls.{Outcome, Promise}
 use Rattle.calls.specs.Seen as seen
 
 abbrev pub Called : Model → Offsets → List Float → CovParts → MeanParts → Outcome → CovParts → MeanParts → Type 0

@@ -11,8 +11,7 @@ use Rattle.demands.specs.Conditions.{Room, table, First}
 use Rattle.demands.specs.Refusals.{Blanked}
 use Rattle.demands.specs.Values as demand
 use Rattle.demands.proofs.Values as quiet
-use Rattle.promise.specs.declared.Outcome.{Outcome}
-use Rattle.promise.specs.Calls.{Promise}
+use Rattle.promise.specs.Calls.{Outcome, Promise}
 use Rattle.filter.specs.Ends.{End}
 use Rattle.promise.specs.declared.Record.{Record}
 use Rattle.promise.specs.Records.{gap_record}

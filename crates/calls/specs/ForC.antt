@@ -1,11 +1,11 @@
 -- The exported calls leave no room: two results that a promise allows coincide, the number, the answer's places and every lent part, tails included.
 -- That every call keeps the promise is the contract of the exported function of c_filter, of c_smooth and of c_stretch.
 use Rattle.std.specs.Prelude.{◌≡◌, ℕ}
-use Rattle.std.proofs.Common.{sym, ap, ◌∙◌}
+use Rattle.std.proofs.Common.{refl, sym, ap, ◌∙◌}
 use Rattle.definition.specs.Outcome.{CovOutcome, MeanOutcome}
 use Rattle.promise.specs.Lent.{Given, Lent, LentSmooth, GivenStretch, LentStretch}
-use Rattle.promise.specs.Calls.{refusal_of, Promise}
-use Rattle.promise.specs.declared.Outcome.{Outcome}
+use Rattle.promise.specs.Calls.{Outcome, refusal_of, Promise}
+use Rattle.promise.specs.Numbers.{one_outcome}
 use Rattle.promise.specs.Exported.{Places, places_of, Told, FilteredC, SmoothedC, StretchedC}
 use Rattle.calls.specs.Seen.{SameParts}
 
@@ -16,7 +16,7 @@ pub record Same (k j : ℕ) (new also : Places) (b c : Lent) : Type 0 where
 
 same_of : {u : CovOutcome × MeanOutcome} {r s : Outcome} {k j : ℕ} {old new also : Places} {b c : Lent} → Promise u r b.cov b.mean → Promise u s c.cov c.mean → Told r k old new → Told s j old also → Same k j new also b c
 same_of {r = r} {s = s} {old = old} h g t v =
-    let e : r ≡ s = h.answer ∙ sym g.answer in
+    let e : r ≡ s = one_outcome r s (h.refusal ∙ sym g.refusal) h.answer g.answer refl in
     record {
       number = t.number ∙ ap refusal_of e ∙ sym v.number;
       places = t.answer ∙ ap (λ (o : Outcome). places_of o old) e ∙ sym v.answer;

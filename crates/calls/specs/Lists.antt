@@ -1,6 +1,6 @@
 -- A list of records beside the flat parts. Where the list has room a call is the call without it; else it is refused 1 or 2, and all stays. The list
 -- itself goes by the outcome and the flat parts, as the promise's `told` says. FilterList and SmoothList have the theorems on the calls.
-use Rattle.std.specs.Prelude.{◌≡◌, ◌↔◌, Bool, true, false, ◌&&◌, cond, length, drop, leb, eqb, Float}
+use Rattle.std.specs.Prelude.{◌≡◌, ◌↔◌, Bool, true, false, ◌&&◌, cond, length, drop, leb, eqb, Float, Ok, Err}
 use Rattle.std.proofs.Math.Path.{refl, sym, ap, ap₂}
 use Rattle.std.proofs.Common.{◌∙◌, subst, inl, inr, ⊎_elim, zero-add, arith, get_or-set_same, get_or-set_other, leb-true, leb-false, ne_eqb}
 use Prim.Native.Nat.{ℕ, zero, suc, min, ◌≤◌, ◌<◌}
@@ -18,9 +18,9 @@ use Rattle.laws.specs.Lists.{length_tab, tab_cong, tab_set, lay-set}
 use Rattle.demands.specs.Conditions.{Lengths, Room, table, First}
 use Rattle.demands.proofs.Refusals as tables
 use Rattle.demands.specs.Refusals.{Blanked}
-use Rattle.promise.specs.declared.Answer.{Answer}
-use Rattle.promise.specs.declared.Outcome.{Outcome}
-use Rattle.promise.specs.Calls.{Promise, answer_by}
+use Rattle.promise.specs.Calls.{Outcome, Promise}
+use Rattle.promise.specs.Numbers.{numbered}
+use Rattle.promise.specs.Refusals.{number}
 use Rattle.filter.specs.Ends.{End}
 use Rattle.promise.specs.declared.Kind.{Kind}
 use Rattle.promise.specs.declared.Kind.TheVariants.{Skipped, Usual, Diffuse}
@@ -194,13 +194,13 @@ abbrev tells_by : ℕ → ℕ → ℕ
 tells_by zero k = k
 tells_by (suc n) k = cond (eqb (suc n) 12) k 0
 
-told_by_lem : (n k : ℕ) (a : Answer) → to_tell (answer_by n a) k ≡ tells_by n k
-unfolding answer_by
-told_by_lem zero k a = refl
-told_by_lem (suc n) k a = refl
+tells_lem : (n k : ℕ) → (n ≡ 0 → ⊥) → cond (eqb n 12) k 0 ≡ tells_by n k
+tells_lem zero k h = absurd (h refl)
+tells_lem (suc n) k h = refl
 
-tells : {u : CovOutcome × MeanOutcome} {r : Outcome} {b : CovParts} {b' : MeanParts} → Promise u r b b' → (k : ℕ) → to_tell r k ≡ tells_by (seen.refusal_of r) k
-tells {u} {r} p k = ap (λ (s : Outcome). to_tell s k) p.answer ∙ told_by_lem u.0.refused k _ ∙ ap (λ (n : ℕ). tells_by n k) (sym (seen.refusal_is p))
+tells : (r : Outcome) (k : ℕ) → to_tell r k ≡ tells_by (seen.refusal_of r) k
+tells (Ok a) k = refl
+tells (Err e) k = tells_lem (number e) k (numbered e)
 
 -- nothing is told on a refusal but 12
 none_told : (n k : ℕ) → 0 < n → (n ≡ 12 → ⊥) → tells_by n k ≡ 0
@@ -273,21 +273,21 @@ module _ {u : CovOutcome × MeanOutcome} {r : Outcome} {b : CovParts} {b' : Mean
   unfolding records_of tab_from
   list_keeps n l h e =
       told
-      ∙ ap (λ (j : ℕ). filled j b.kinds (b' innovations) (b.part fStar) (b.part fInf) old) (tells p k ∙ ap (λ (j : ℕ). tells_by j k) e ∙ none_told n k l h)
+      ∙ ap (λ (j : ℕ). filled j b.kinds (b' innovations) (b.part fStar) (b.part fInf) old) (tells r k ∙ ap (λ (j : ℕ). tells_by j k) e ∙ none_told n k l h)
       ∙ filled_all 0 b.kinds (b' innovations) (b.part fStar) (b.part fInf) old (omega arith)
 
   -- 12: records of gaps, k of them, and the rest as it was
   pub list_blanked : (ks : List ℕ) → Blanked k 0 ks b.kinds → seen.refusal_of r ≡ 12 → k ≤ length old → Blanked k gap_record old new
   list_blanked ks z e l =
       told
-      ∙ ap (λ (j : ℕ). filled j b.kinds (b' innovations) (b.part fStar) (b.part fInf) old) (tells p k ∙ ap (λ (j : ℕ). tells_by j k) e)
+      ∙ ap (λ (j : ℕ). filled j b.kinds (b' innovations) (b.part fStar) (b.part fInf) old) (tells r k ∙ ap (λ (j : ℕ). tells_by j k) e)
       ∙ filled_all k b.kinds (b' innovations) (b.part fStar) (b.part fInf) old l
       ∙ rw (z, records_blank, length-replicate) refl
 
   -- and of two calls
   module _ {v : CovOutcome × MeanOutcome} {s : Outcome} {c : CovParts} {c' : MeanParts} (q : Promise v s c c') {also : List Record} (told-too : also ≡ told_by k s c c' old) (same : seen.refusal_of r ≡ seen.refusal_of s) where
     as_many : to_tell r k ≡ to_tell s k
-    as_many = tells p k ∙ ap (λ (j : ℕ). tells_by j k) same ∙ sym (tells q k)
+    as_many = tells r k ∙ ap (λ (j : ℕ). tells_by j k) same ∙ sym (tells s k)
 
     pub list_same : seen.SameParts b c b' c' → new ≡ also
     list_same h = told ∙ rw (as_many, h.covs.kinds, h.means innovations, h.covs.covs fStar, h.covs.covs fInf) refl ∙ sym told-too
@@ -295,7 +295,7 @@ module _ {u : CovOutcome × MeanOutcome} {r : Outcome} {b : CovParts} {b' : Mean
     -- a gap at place j: the record there is that of a gap
     pub list_gap : (j : ℕ) → seen.SameButCause j b c b' c' → seen.refusal_of r ≡ 0 → j < k → k ≤ length old → j < length b.kinds → also ≡ set new j gap_record
     list_gap j h e j<k l j<b =
-        let tells_all = tells p k ∙ ap (λ (n : ℕ). tells_by n k) e in
+        let tells_all = tells r k ∙ ap (λ (n : ℕ). tells_by n k) e in
         told-too
         ∙ rw (sym as_many, tells_all, h.kinds, sym (h.means innovations), sym (h.covs fStar), sym (h.covs fInf)) refl
         ∙ filled_gap (b' innovations) (b.part fStar) (b.part fInf) j b.kinds k old j<k l j<b

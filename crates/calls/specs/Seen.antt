@@ -1,6 +1,6 @@
 -- What a caller sees of a call, and what a promise of the filter's parts says of two calls. Filter and Smooth have the theorems on the two calls,
 -- FilterList and SmoothList on those with a list of records, Stretch on a stretch's.
-use Rattle.std.specs.Prelude.{◌≡◌, not, List, [], ◌∷◌, length, get_or, set, T, ltb, Float}
+use Rattle.std.specs.Prelude.{◌≡◌, not, List, [], ◌∷◌, length, get_or, set, T, ltb, Float, Ok, Err, IfOk}
 use Rattle.std.proofs.Math.Path.{refl}
 use Rattle.std.proofs.Common.{sym, ap, ap₂, ◌∙◌, subst, arith}
 use Prim.Native.Nat.{ℕ, zero, suc, ◌+◌, ◌<◌}
@@ -25,27 +25,27 @@ use Rattle.demands.specs.Totals as total
 use Rattle.demands.specs.Totals.{periods_of}
 use Rattle.promise.specs.declared.Answer.{Answer}
 pub use Rattle.promise.specs.Calls.{refusal_of}
-use Rattle.promise.specs.Calls.{answer_in, answer_by, Promise}
-use Rattle.promise.specs.declared.Outcome.{Outcome}
-use Rattle.promise.specs.declared.Outcome.TheVariants.{Refused, Answered}
+use Rattle.promise.specs.Calls.{Outcome, answer_in, Promise}
+use Rattle.promise.specs.Numbers.{numbered, one_outcome}
+use Rattle.promise.specs.Refusals.{number}
 
 -- ---- what comes back: the refusal's number, 0 for an answer (`refusal_of`); an answer's counts, log-likelihood and reports
 
 abbrev pub counts_of : Outcome → Counts
-counts_of (Refused k) = record { d_diffuse = 0; heard = 0; news = 0 }
-counts_of (Answered a) = record { d_diffuse = a.d_diffuse; heard = a.heard; news = a.news }
+counts_of (Err e) = record { d_diffuse = 0; heard = 0; news = 0 }
+counts_of (Ok a) = record { d_diffuse = a.d_diffuse; heard = a.heard; news = a.news }
 
 abbrev pub loglik_of : Outcome → Float
-loglik_of (Refused k) = 0ᶠ
-loglik_of (Answered a) = a.loglik
+loglik_of (Err e) = 0ᶠ
+loglik_of (Ok a) = a.loglik
 
 abbrev pub cov_off_of : Outcome → ℕ
-cov_off_of (Refused k) = 0
-cov_off_of (Answered a) = a.cov_off
+cov_off_of (Err e) = 0
+cov_off_of (Ok a) = a.cov_off
 
 abbrev pub mean_off_of : Outcome → ℕ
-mean_off_of (Refused k) = 0
-mean_off_of (Answered a) = a.mean_off
+mean_off_of (Err e) = 0
+mean_off_of (Ok a) = a.mean_off
 
 -- request k: the call got past refusals 1 to 11
 abbrev pub Admitted : Outcome → Type 0
@@ -145,32 +145,31 @@ abbrev pub report_by : ℕ → ℕ → ℕ
 report_by zero t = t
 report_by (suc n) t = 0
 
-refusal_by : (n : ℕ) (a : Answer) → refusal_of (answer_by n a) ≡ n
-unfolding answer_by
-refusal_by zero a = refl
-refusal_by (suc n) a = refl
+-- of a number that is not 0
+above : {A : Type 0} (f : ℕ → A) (z : A) → ((n : ℕ) → z ≡ f (suc n)) → (n : ℕ) → (n ≡ 0 → ⊥) → z ≡ f n
+above f z h zero some = absurd (some refl)
+above f z h (suc n) some = h n
 
 -- of an answer with counts k, reports t and u, and log-likelihood l
 module _ (k : Counts) (t : ℕ) (l : Float) (u : ℕ) where
-  counts_by_lem : (n : ℕ) → counts_of (answer_by n (answer_in k t l u)) ≡ counts_by n k
-  unfolding answer_by
-  counts_by_lem zero = refl
-  counts_by_lem (suc n) = refl
+  abbrev Answers : Outcome → Type 0
+  Answers r = IfOk r (λ a. a ≡ answer_in k t l u)
 
-  loglik_by_lem : (n : ℕ) → loglik_of (answer_by n (answer_in k t l u)) ≡ loglik_by n l
-  unfolding answer_by
-  loglik_by_lem zero = refl
-  loglik_by_lem (suc n) = refl
+  counts_by_lem : (r : Outcome) → Answers r → counts_of r ≡ counts_by (refusal_of r) k
+  counts_by_lem (Ok a) h = ap (λ (b : Answer). counts_of (Ok b)) h
+  counts_by_lem (Err e) h = above (λ (n : ℕ). counts_by n k) _ (λ n. refl) (number e) (numbered e)
 
-  cov_off_by : (n : ℕ) → cov_off_of (answer_by n (answer_in k t l u)) ≡ report_by n t
-  unfolding answer_by
-  cov_off_by zero = refl
-  cov_off_by (suc n) = refl
+  loglik_by_lem : (r : Outcome) → Answers r → loglik_of r ≡ loglik_by (refusal_of r) l
+  loglik_by_lem (Ok a) h = ap (λ (b : Answer). b.loglik) h
+  loglik_by_lem (Err e) h = above (λ (n : ℕ). loglik_by n l) _ (λ n. refl) (number e) (numbered e)
 
-  mean_off_by : (n : ℕ) → mean_off_of (answer_by n (answer_in k t l u)) ≡ report_by n u
-  unfolding answer_by
-  mean_off_by zero = refl
-  mean_off_by (suc n) = refl
+  cov_off_by : (r : Outcome) → Answers r → cov_off_of r ≡ report_by (refusal_of r) t
+  cov_off_by (Ok a) h = ap (λ (b : Answer). b.cov_off) h
+  cov_off_by (Err e) h = above (λ (n : ℕ). report_by n t) _ (λ n. refl) (number e) (numbered e)
+
+  mean_off_by : (r : Outcome) → Answers r → mean_off_of r ≡ report_by (refusal_of r) u
+  mean_off_by (Ok a) h = ap (λ (b : Answer). b.mean_off) h
+  mean_off_by (Err e) h = above (λ (n : ℕ). report_by n u) _ (λ n. refl) (number e) (numbered e)
 
 news_by : (n : ℕ) (k : Counts) → 0 < (counts_by n k).news → (n ≡ 0) × (0 < k.news)
 news_by zero k h = (refl, h)
@@ -178,22 +177,22 @@ news_by (suc n) k h = absurd (omega arith)
 
 module _ {u : CovOutcome × MeanOutcome} {r : Outcome} {b : CovParts} {b' : MeanParts} (p : Promise u r b b') where
   pub refusal_is : refusal_of r ≡ u.0.refused
-  refusal_is = ap refusal_of p.answer ∙ refusal_by u.0.refused _
+  refusal_is = p.refusal
 
   pub admitted : Admitted r → offset.Admitted u.0.refused
   admitted = subst offset.Admitted refusal_is
 
   pub counts_are : counts_of r ≡ counts_by u.0.refused u.0.counts
-  counts_are = ap counts_of p.answer ∙ counts_by_lem _ _ _ _ u.0.refused
+  counts_are = counts_by_lem _ _ _ _ r p.answer ∙ ap (λ (n : ℕ). counts_by n u.0.counts) p.refusal
 
   loglik_is : loglik_of r ≡ loglik_by u.0.refused u.1.loglik
-  loglik_is = ap loglik_of p.answer ∙ loglik_by_lem _ _ _ _ u.0.refused
+  loglik_is = loglik_by_lem _ _ _ _ r p.answer ∙ ap (λ (n : ℕ). loglik_by n u.1.loglik) p.refusal
 
   pub cov_off_is : cov_off_of r ≡ report_by u.0.refused u.0.cov_off
-  cov_off_is = ap cov_off_of p.answer ∙ cov_off_by _ _ _ _ u.0.refused
+  cov_off_is = cov_off_by _ _ _ _ r p.answer ∙ ap (λ (n : ℕ). report_by n u.0.cov_off) p.refusal
 
   pub mean_off_is : mean_off_of r ≡ report_by u.0.refused u.1.mean_off
-  mean_off_is = ap mean_off_of p.answer ∙ mean_off_by _ _ _ _ u.0.refused
+  mean_off_is = mean_off_by _ _ _ _ r p.answer ∙ ap (λ (n : ℕ). report_by n u.1.mean_off) p.refusal
 
   -- the parts are c and c' where the outcome's are
   pub parts_are : {c : CovParts} {c' : MeanParts} → u.0.parts ≡ c → u.1.parts ≡ c' → SameParts b c b' c'
@@ -257,7 +256,9 @@ module _ {u v : CovOutcome × MeanOutcome} {r s : Outcome} {b c : CovParts} {b' 
   pub same : u ≡ v → Same r s b c b' c'
   same e =
       record {
-        results = p.answer ∙ ap (λ (z : CovOutcome × MeanOutcome). answer_by z.0.refused (answer_in z.0.counts z.0.cov_off z.1.loglik z.1.mean_off)) e ∙ sym q.answer;
+        results =
+            one_outcome r s (p.refusal ∙ ap (λ (z : CovOutcome × MeanOutcome). z.0.refused) e ∙ sym q.refusal) p.answer q.answer
+            (ap (λ (z : CovOutcome × MeanOutcome). answer_in z.0.counts z.0.cov_off z.1.loglik z.1.mean_off) e);
         parts =
             record {
               covs =
@@ -272,11 +273,9 @@ module _ {u v : CovOutcome × MeanOutcome} {r s : Outcome} {b c : CovParts} {b' 
   -- of one number, with the same counts, reports and log-likelihood
   pub results_are : u.0.refused ≡ v.0.refused → u.0.counts ≡ v.0.counts → u.0.cov_off ≡ v.0.cov_off → u.1.loglik ≡ v.1.loglik → u.1.mean_off ≡ v.1.mean_off → r ≡ s
   results_are e f h g i =
-      p.answer
-      ∙ ap (λ (n : ℕ). answer_by n (answer_in u.0.counts u.0.cov_off u.1.loglik u.1.mean_off)) e
-      ∙ ap₂ (λ (k : Counts) (t : ℕ). answer_by v.0.refused (answer_in k t u.1.loglik u.1.mean_off)) f h
-      ∙ ap₂ (λ (l : Float) (t : ℕ). answer_by v.0.refused (answer_in v.0.counts v.0.cov_off l t)) g i
-      ∙ sym q.answer
+      one_outcome r s (p.refusal ∙ e ∙ sym q.refusal) p.answer q.answer
+      (ap₂ (λ (k : Counts) (t : ℕ). answer_in k t u.1.loglik u.1.mean_off) f h
+      ∙ ap₂ (λ (l : Float) (t : ℕ). answer_in v.0.counts v.0.cov_off l t) g i)
 
   -- of one covariance half
   pub blind : u.0 ≡ v.0 → Blind r s b c

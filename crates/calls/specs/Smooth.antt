@@ -22,8 +22,7 @@ use Rattle.demands.specs.Marked as mark
 use Rattle.demands.proofs.Marked as reached
 use Rattle.demands.specs.Copies.{with_t}
 use Rattle.demands.proofs.Copies as copied
-use Rattle.promise.specs.declared.Outcome.{Outcome}
-use Rattle.promise.specs.Calls.{PromiseSmooth}
+use Rattle.promise.specs.Calls.{Outcome, PromiseSmooth}
 use Rattle.calls.specs.Seen as seen
 
 abbrev pub Called : Model → Offsets → List Float → CovParts → MeanParts → List Float → List Float → Outcome → CovParts → MeanParts → List Float → List Float → Type 0

@@ -11,8 +11,7 @@ use Rattle.demands.specs.Conditions.{RoomSmooth, table, First}
 use Rattle.demands.specs.Refusals.{Blanked}
 use Rattle.demands.specs.Values as demand
 use Rattle.demands.proofs.Values as quiet
-use Rattle.promise.specs.declared.Outcome.{Outcome}
-use Rattle.promise.specs.Calls.{PromiseSmooth}
+use Rattle.promise.specs.Calls.{Outcome, PromiseSmooth}
 use Rattle.promise.specs.declared.Record.{Record}
 use Rattle.promise.specs.Records.{gap_record}
 use Rattle.promise.specs.WithRecords.{smooth_outcome_with_records, WithRecordsSmooth}

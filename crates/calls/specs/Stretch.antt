@@ -43,8 +43,7 @@ use Rattle.demands.specs.Marked as mark
 use Rattle.demands.proofs.Marked as reached
 use Rattle.demands.specs.Copies.{with_t}
 use Rattle.demands.proofs.Copies as copied
-use Rattle.promise.specs.declared.Outcome.{Outcome}
-use Rattle.promise.specs.Calls.{PromiseStretch}
+use Rattle.promise.specs.Calls.{Outcome, PromiseStretch}
 use Rattle.calls.specs.Seen as seen
 use Rattle.calls.specs.Filter as filter
 

@@ -1,2 +1,3 @@
-// What the three demands of document 00 come to for the calls, in specs/: theorems through the calls' promises. No code.
+// Theorems on the calls themselves, through their promises, in specs/: document 00's three demands, requests d, g and k, the reports, and that a run in
+// stretches is the run. No code.
 #![tactic(auto)]

@@ -16,23 +16,15 @@ use Rattle.laws.specs.Passes.{lay_next}
 use Rattle.dense.specs.Places.{Saved, saved}
 use Rattle.dense.specs.Views.{vec, rect, mat}
 use Rattle.dense.proofs.Laws.{loaded_vec}
-use Rattle.model.specs.Start.{cov_of}
+use Rattle.track.specs.View.{cov_of}
 use Rattle.carried.specs.State.{StateFits, cov_from, cov_laid, mean_from, mean_kept, Written}
 
 -- ---- sizes
 
 module _ {m size size' : ℕ} (f : StateFits m size) (some : size ≡ 0 → ⊥) (same : size' ≡ size) where
-  pub star_in : m * m ≤ 64 × m ≤ 512 × m + m * m ≤ size'
-  star_in = let q = square_le m f.m8 in let w = f.whole some in (q, omega (arith, f.m8), omega arith)
-
-  pub pinf_in : m * m ≤ 64 × m + m * m ≤ 512 × m + m * m + m * m ≤ size'
-  pinf_in = let q = square_le m f.m8 in let w = f.whole some in (q, omega (arith, f.m8), omega arith)
-
-  pub root_in : m * m ≤ 64 × m + m * m + m * m ≤ 512 × m + m * m + m * m + m * m ≤ size'
-  root_in = let q = square_le m f.m8 in let w = f.whole some in (q, omega (arith, f.m8), omega arith)
-
-  pub unres_in : m * m ≤ 64 × m + m * m + m * m + m * m ≤ 512 × m + m * m + m * m + m * m + m * m ≤ size'
-  unres_in = let q = square_le m f.m8 in let w = f.whole some in (q, omega (arith, f.m8), omega arith)
+  -- the four parts of m * m numbers
+  pub four_in : m * m ≤ 64 × m + m * m + m * m + m * m ≤ 512 × m + m * m + m * m + m * m + m * m ≤ size'
+  four_in = let q = square_le m f.m8 in let w = f.whole some in (q, omega (arith, f.m8), omega arith)
 
   pub mean_in_lem : m ≤ size'
   mean_in_lem = let w = f.whole some in omega arith
@@ -93,24 +85,14 @@ unfolding mean_from
 mean_begun m s a1 r l e h = rw (eq-eqb _ _ e) (loaded_vec m r l h)
 
 -- its part is the first m numbers
-first_long : (m : ℕ) (s : List Float) → m ≤ length s → length (mid_of 0 (m - 0) s) ≡ m
-first_long m s h = simp (length-take) (omega arith)
-
-pub first_most : {m : ℕ} (s : List Float) → m ≤ length s → m ≤ 8 → length (mid_of 0 (m - 0) s) ≤ 8
-first_most {m} s h b = omega (arith, first_long m s h)
-
-pub mean_resumed : (m : ℕ) (s a1 r : List Float) → m ≤ length s → (length s ≡ 0 → ⊥) → vec (length (mid_of 0 (m - 0) s)) r ≡ mid_of 0 (m - 0) s → vec m r ≡ mean_from m s a1
+pub mean_resumed : (m : ℕ) (s a1 r : List Float) → m ≤ length s → (length s ≡ 0 → ⊥) → vec (length (take m s)) r ≡ take m s → vec m r ≡ mean_from m s a1
 unfolding mean_from
-mean_resumed m s a1 r h e q =
-    let z : m - 0 ≡ m = omega arith in
-    rw (ne_eqb _ _ e) (loaded_vec m r (first_long m s h) q ∙ ap (λ (i : ℕ). take i s) z)
+mean_resumed m s a1 r h e q = rw (ne_eqb _ _ e) (loaded_vec m r (length-take-le m s h) q)
 
 pub mean_none : (m : ℕ) (s a : List Float) → length s ≡ 0 → s ≡ mean_kept m s a
 unfolding mean_kept
 mean_none m s a e = rw (eq-eqb _ _ e) refl
 
-pub mean_kept_lem : (m : ℕ) (s a ys : List Float) → m ≤ length s → (length s ≡ 0 → ⊥) → Saved (length (mid_of 0 (m - 0) s)) a ys → put_mid 0 (m - 0) s ys ≡ mean_kept m s (vec m a)
+pub mean_kept_lem : (m : ℕ) (s a ys : List Float) → m ≤ length s → (length s ≡ 0 → ⊥) → Saved (length (take m s)) a ys → ys ++ drop m s ≡ mean_kept m s (vec m a)
 unfolding mean_kept vec
-mean_kept_lem m s a ys h e w =
-    let z : m - 0 ≡ m = omega arith in
-    rw (ne_eqb _ _ e, z, saved (first_long m s h) w) refl
+mean_kept_lem m s a ys h e w = rw (ne_eqb _ _ e, saved (length-take-le m s h) w) refl

@@ -1,12 +1,33 @@
 // The state that a run carries from one stretch of periods to the next, lent as one part: the mean, P*, P∞, its root, P∞ with
-// nothing resolved. What lies behind them stays. An empty part: the run begins at the start, and its state is not kept.
+// nothing resolved. What lies behind them stays. An empty part: the run begins at the start, and its state is not kept. No Option of a lent
+// part: both passes take it, one after the other, and each would take it apart.
 #![tactic(auto)]
 
 ghost use Rattle.std.specs.Prelude.{◌≡◌, ◌≤◌, ◌+◌, length, take, drop};
-ghost use Rattle.dense.specs.Views.{vec, mat};
+ghost use Rattle.dense.specs.Views.{vec};
+ghost use Rattle.track.specs.View.{cov_in};
 ghost use Rattle.model.specs.Places.{StartFits};
-ghost use Rattle.model.specs.Start.{cov_of};
-ghost use Rattle.carried.specs.State.{StateFits, cov_from, cov_laid, mean_from, mean_kept, Written};
+ghost use Rattle.carried.specs.State.{StateFits, cov_from, cov_kept, mean_from, mean_kept, Written};
+
+use promise::{Answer, Model};
+use track::State;
+
+// How far a run has come: the periods done, whether the diffuse state lasts, and the answer so far.
+#[derive(Clone, Copy)]
+pub struct Tallies {
+    pub done: usize,
+    pub live: bool,
+    pub answer: Answer,
+}
+
+impl Tallies {
+    // Before the first period. A run that is lent no state takes `live` from the start.
+    pub const NOTHING: Tallies = Tallies {
+        done: 0,
+        live: false,
+        answer: Answer::NOTHING,
+    };
+}
 
 // k numbers of the state, from a place on, into the first places of an array.
 fn part(state: &[f64], from: usize, k: usize, out: &mut [f64; 64])
@@ -14,7 +35,7 @@ fn part(state: &[f64], from: usize, k: usize, out: &mut [f64; 64])
     ensures { vec k out.new ≡ take k (drop from state.now) }
 {
     let to = from + k;
-    dense::fill64(out, &state[from..to]);
+    dense::fill(out, &state[from..to]);
 }
 
 // The first k numbers of an array, into the state from a place on.
@@ -23,58 +44,43 @@ fn put(state: &mut [f64], a: &[f64; 64], from: usize, k: usize)
     ensures { Written from k a.now state.old state.new }
 {
     let to = from + k;
-    dense::save64(&mut state[from..to], a);
+    dense::save(&mut state[from..to], a);
 }
 
-// Where the covariance pass begins. Whether the diffuse state lasts.
-pub fn cov_from(
-    state: &[f64],
-    p_star: &[f64],
-    flags: &[u8],
-    live: bool,
-    m: usize,
-    star: &mut [f64; 64],
-    p_inf: &mut [f64; 64],
-    root: &mut [f64; 64],
-    unres: &mut [f64; 64],
-) -> bool
-    requires { StateFits m (length state.now) × StartFits m (length p_star.now) (length flags.now) }
-    ensures { cov_of m star.new p_inf.new root.new unres.new result
-        ≡ cov_from m state.now live p_star.now flags.now }
+// Where the covariance pass begins.
+#[tactic(auto, using(crate::proofs::Laws::four_in))]
+pub fn cov_from(state: &[f64], x: &Model, live: bool, s: &mut State)
+    requires { StateFits x.now.m (length state.now)
+        × StartFits x.now.m (length x.now.p_star.now) (length x.now.flags.now) }
+    ensures { cov_in x.now.m s.new
+        ≡ cov_from x.now.m state.now live x.now.p_star.now x.now.flags.now }
 {
+    let m = x.m;
     if state.len() == 0 {
-        return model::start(p_star, flags, m, star, p_inf, root, unres);
+        return model::start(x, s);
     }
     let mm = m * m;
-    part(state, m, mm, star);
-    part(state, m + mm, mm, p_inf);
-    part(state, m + mm + mm, mm, root);
-    part(state, m + mm + mm + mm, mm, unres);
-    live
+    s.live = live;
+    part(state, m, mm, &mut s.star);
+    part(state, m + mm, mm, &mut s.p_inf);
+    part(state, m + mm + mm, mm, &mut s.root);
+    part(state, m + mm + mm + mm, mm, &mut s.unres);
 }
 
 // What the covariance pass leaves.
-pub fn keep_cov(
-    state: &mut [f64],
-    star: &[f64; 64],
-    p_inf: &[f64; 64],
-    root: &[f64; 64],
-    unres: &[f64; 64],
-    m: usize,
-)
+#[tactic(auto, using(crate::proofs::Laws::four_in))]
+pub fn keep_cov(state: &mut [f64], s: &State, m: usize)
     requires { StateFits m (length state.old) }
-    ensures { state.new ≡ cov_laid m state.old
-        (mat m star.now) (mat m p_inf.now)
-        (mat m root.now) (mat m unres.now) }
+    ensures { state.new ≡ cov_kept m state.old (cov_in m s.now) }
 {
     if state.len() == 0 {
         return;
     }
     let mm = m * m;
-    put(state, star, m, mm);
-    put(state, p_inf, m + mm, mm);
-    put(state, root, m + mm + mm, mm);
-    put(state, unres, m + mm + mm + mm, mm);
+    put(state, &s.star, m, mm);
+    put(state, &s.p_inf, m + mm, mm);
+    put(state, &s.root, m + mm + mm, mm);
+    put(state, &s.unres, m + mm + mm + mm, mm);
 }
 
 // Where the mean pass begins.
@@ -83,10 +89,9 @@ pub fn mean_from(state: &[f64], a1: &[f64], m: usize) -> [f64; 8]
     ensures { vec m result ≡ mean_from m state.now a1.now }
 {
     if state.len() == 0 {
-        return dense::load8(a1);
+        return dense::load(a1);
     }
-    let from = 0;
-    dense::load8(&state[from..m])
+    dense::load(&state[..m])
 }
 
 // What the mean pass leaves.
@@ -97,6 +102,5 @@ pub fn keep_mean(state: &mut [f64], a: &[f64; 8], m: usize)
     if state.len() == 0 {
         return;
     }
-    let from = 0;
-    dense::save8(&mut state[from..m], a);
+    dense::save(&mut state[..m], a);
 }

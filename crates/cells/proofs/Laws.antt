@@ -11,7 +11,8 @@ use lib.Dec.{leb}
 use borrow.Author.Tests.{leb-false, le-leb, lt-leb}
 use borrow.Rule.Slice.PartMut.{put_mid}
 use Rattle.decimal.specs.declared.answers.Units.{Units}
-use Rattle.decimal.specs.declared.answers.Units.TheVariants.{Whole}
+use Rattle.decimal.specs.declared.answers.Units.TheVariants as units
+use Rattle.decimal.specs.declared.answers.Whole.{Whole}
 use Rattle.decimal.specs.Printed.{Onto, text_of, shown, fits_in, put_in, Added}
 use Rattle.decimal.proofs.Printing.{whole, added}
 use Rattle.cells.specs.Cells.{right_of, left_of, fits, written, too_large, said_of, cell_of}
@@ -91,40 +92,37 @@ pub says : (at width d : ℕ) (u v : Units) (w old : List ℕ) (r : Bool) (new :
 unfolding cell_of
 says at width d u v w old r new e f p = subst (λ (l : List ℕ). Wrote (length l) at width (right_of width l) old r new) (f ∙ sym (ap (said_of width d) e)) p
 
-pub turned : (at width d : ℕ) (u v : Units) (old : List ℕ) (r : Bool) (new : List ℕ) → u ≡ v → Says at width d v old r new → Says at width d u old r new
-turned at width d u v old r new e p = subst (λ (x : Units). Says at width d x old r new) (sym e) p
-
 -- ---- the digits fit: so they are said
-pub put_yes : (at width d : ℕ) (minus : Bool) (n : ℕ) (old new : List ℕ) → true ≡ fits_in (length old) at width d minus n → new ≡ put_in at width d minus n old → Says at width d (Whole minus n) old true new
+pub put_yes : (at width d : ℕ) (n : Whole) (old new : List ℕ) → true ≡ fits_in (length old) at width d n.minus n.size → new ≡ put_in at width d n.minus n.size old → Says at width d (units.Whole n) old true new
 unfolding fits_in put_in shown fits written right_of said_of
-put_yes at width d minus n old new e p =
-    let t = text_of d minus n in
-    says at width d (Whole minus n) (Whole minus n) t old true new refl
+put_yes at width d n old new e p =
+    let t = text_of d n.minus n.size in
+    says at width d (units.Whole n) (units.Whole n) t old true new refl
     (sym (ap (λ (b : Bool). cond b t too_large) (le-leb (length t) width (fits_is (length old) at width (length t) (sym e)).1)))
     (e, p)
 
 -- they do not: the list is as it was, and the word is tried
-pub put_no : (at width d : ℕ) (minus : Bool) (n : ℕ) (old mid : List ℕ) (r : Bool) (new : List ℕ) → false ≡ fits_in (length old) at width d minus n → mid ≡ put_in at width d minus n old
-    → Wrote (length too_large) at width (right_of width too_large) mid r new → Says at width d (Whole minus n) old r new
+pub put_no : (at width d : ℕ) (n : Whole) (old mid : List ℕ) (r : Bool) (new : List ℕ) → false ≡ fits_in (length old) at width d n.minus n.size → mid ≡ put_in at width d n.minus n.size old
+    → Wrote (length too_large) at width (right_of width too_large) mid r new → Says at width d (units.Whole n) old r new
 unfolding fits_in put_in fits written said_of cell_of
-put_no at width d minus n old mid r new e p w = go (leb (at + width) (length old)) (leb (length (text_of d minus n)) width) refl refl
+put_no at width d n old mid r new e p w = go (leb (at + width) (length old)) (leb (length (text_of d n.minus n.size)) width) refl refl
   where
     t : List ℕ
-    t = text_of d minus n
+    t = text_of d n.minus n.size
 
     same : mid ≡ old
-    same = p ∙ sym (ap (λ (b : Bool). cond b (take at old ++ (shown width d minus n ++ drop (at + width) old)) old) e)
+    same = p ∙ sym (ap (λ (b : Bool). cond b (take at old ++ (shown width d n.minus n.size ++ drop (at + width) old)) old) e)
 
     w' : Wrote (length too_large) at width (right_of width too_large) old r new
     w' = subst (λ (l : List ℕ). Wrote (length too_large) at width (right_of width too_large) l r new) same w
 
-    go : (a b : Bool) → leb (at + width) (length old) ≡ a → leb (length t) width ≡ b → Says at width d (Whole minus n) old r new
+    go : (a b : Bool) → leb (at + width) (length old) ≡ a → leb (length t) width ≡ b → Says at width d (units.Whole n) old r new
     go true true f g = absurd (true≢false (sym (e ∙ ap (λ (b : Bool). b && leb (length t) width) f ∙ g)))
-    go true false f g = says at width d (Whole minus n) (Whole minus n) too_large old r new refl (sym (ap (λ (b : Bool). cond b t too_large) g)) w'
+    go true false f g = says at width d (units.Whole n) (units.Whole n) too_large old r new refl (sym (ap (λ (b : Bool). cond b t too_large) g)) w'
     go false b f g =
         let h = leb-false (at + width) (length old) f in
         let a = past_end (length too_large) at width (right_of width too_large) old h in
-        let s = past_end (length (said_of width d (Whole minus n))) at width (cell_of width d (Whole minus n)) old h in
+        let s = past_end (length (said_of width d (units.Whole n))) at width (cell_of width d (units.Whole n)) old h in
         (w'.0 ∙ sym a.0 ∙ s.0, w'.1 ∙ sym a.1 ∙ s.1)
 
 -- ---- a field that each word fits into

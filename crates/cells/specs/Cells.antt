@@ -31,7 +31,7 @@ too_large = 116 ∷ 111 ∷ 111 ∷ 32 ∷ 108 ∷ 97 ∷ 114 ∷ 103 ∷ 101 �
 
 -- of units of 10 ^ -d, in a field
 unfoldable pub said_of : (width d : ℕ) → Units → List ℕ
-said_of width d (Whole minus n) = cond (leb (length (text_of d minus n)) width) (text_of d minus n) too_large
+said_of width d (Whole n) = cond (leb (length (text_of d n.minus n.size)) width) (text_of d n.minus n.size) too_large
 said_of width d NotANumber = no_number
 said_of width d (Infinite minus) = sign_of minus ++ infinite
 said_of width d (TooLarge minus) = too_large

@@ -3,6 +3,7 @@ use Rattle.std.specs.Prelude.{◌≡◌, refl, false, [], ◌∷◌, length}
 use Rattle.std.specs.Float.{binary64}
 use Rattle.std.specs.Float.Ieee.{of_bits}
 use Rattle.decimal.specs.declared.answers.Units.TheVariants.{Whole}
+use Rattle.decimal.specs.Reading.{whole}
 use Rattle.decimal.specs.Scaled.{away, sized_of, units_of}
 use Rattle.decimal.specs.Printed.{digits_onto, places_in, places_of, sign_of, fraction_onto, text_of}
 use Rattle.cells.specs.Cells.{right_of, left_of, fits, written, no_number, infinite, too_large, said_of, cell_of}
@@ -28,7 +29,7 @@ pub past_the_end : written 3 1 5 (right_of 5 (97 ∷ 98 ∷ 99 ∷ [])) (7 ∷ 7
 unfolding written fits right_of
 past_the_end = refl
 
-pub no_width : written 9 1 0 (cell_of 0 0 (Whole false 5)) (7 ∷ 7 ∷ []) ≡ 7 ∷ 7 ∷ []
+pub no_width : written 9 1 0 (cell_of 0 0 (Whole (whole false 5))) (7 ∷ 7 ∷ []) ≡ 7 ∷ 7 ∷ []
 unfolding written fits
 no_width = refl
 
@@ -70,10 +71,10 @@ pub thousandths : cell_of 9 3 (units_of 0 (of_bits binary64 0xC0934A0000000000))
 unfolding cell_of right_of said_of units_of sized_of away of_bits text_of sign_of digits_onto places_of places_in fraction_onto
 thousandths = refl
 
-pub count : cell_of 4 0 (Whole false 4096) ≡ 52 ∷ 48 ∷ 57 ∷ 54 ∷ []
+pub count : cell_of 4 0 (Whole (whole false 4096)) ≡ 52 ∷ 48 ∷ 57 ∷ 54 ∷ []
 unfolding cell_of right_of said_of text_of sign_of digits_onto places_of places_in fraction_onto
 count = refl
 
-pub count_too_wide : written (length (said_of 4 0 (Whole false 40960))) 0 4 (cell_of 4 0 (Whole false 40960)) (7 ∷ 7 ∷ 7 ∷ 7 ∷ []) ≡ 7 ∷ 7 ∷ 7 ∷ 7 ∷ []
+pub count_too_wide : written (length (said_of 4 0 (Whole (whole false 40960)))) 0 4 (cell_of 4 0 (Whole (whole false 40960))) (7 ∷ 7 ∷ 7 ∷ 7 ∷ []) ≡ 7 ∷ 7 ∷ 7 ∷ 7 ∷ []
 unfolding written fits said_of too_large text_of sign_of digits_onto places_of places_in fraction_onto
 count_too_wide = refl

@@ -19,10 +19,10 @@ left_width width w h = omega (arith, length-append w (replicate (width - length 
 -- 9 bytes hold each word
 pub said_fits : (width d : ℕ) (u : Units) → 9 ≤ width → length (said_of width d u) ≤ width
 unfolding said_of no_number infinite too_large sign_of
-said_fits width d (Whole minus n) h = go (leb (length (text_of d minus n)) width) refl
+said_fits width d (Whole n) h = go (leb (length (text_of d n.minus n.size)) width) refl
   where
-    go : (b : Bool) → leb (length (text_of d minus n)) width ≡ b → length (cond b (text_of d minus n) too_large) ≤ width
-    go true e = leb-true (length (text_of d minus n)) width e
+    go : (b : Bool) → leb (length (text_of d n.minus n.size)) width ≡ b → length (cond b (text_of d n.minus n.size) too_large) ≤ width
+    go true e = leb-true (length (text_of d n.minus n.size)) width e
     go false e = h
 said_fits width d NotANumber h = h
 said_fits width d (Infinite true) h = h

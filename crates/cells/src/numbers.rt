@@ -2,19 +2,20 @@
 // what does not fit into the field.
 ghost use Rattle.std.specs.Prelude.{◌≡◌, false, ◌≤◌, length};
 ghost use Rattle.decimal.specs.declared.answers.Units.TheVariants as units;
+ghost use Rattle.decimal.specs.Reading.{whole as of_digits};
 ghost use Rattle.decimal.specs.Scaled.{units_of};
 ghost use Rattle.cells.specs.Cells.{fits, written, said_of, cell_of};
 
 use crate::words::word_right;
-use decimal::answers::Units;
+use decimal::answers::{Units, Whole};
 
 // The digits, or that they are too large for the field.
-fn whole(out: &mut [u8], at: usize, width: usize, minus: bool, size: u64, decimals: u8) -> bool
+fn whole(out: &mut [u8], at: usize, width: usize, n: Whole, decimals: u8) -> bool
     requires { decimals ≤ 6 }
-    ensures value { result ≡ fits (length out.old) at width (length (said_of width decimals (units.Whole minus size))) }
-    ensures out_after { out.new ≡ written (length (said_of width decimals (units.Whole minus size))) at width (cell_of width decimals (units.Whole minus size)) out.old }
+    ensures value { result ≡ fits (length out.old) at width (length (said_of width decimals (units.Whole n))) }
+    ensures out_after { out.new ≡ written (length (said_of width decimals (units.Whole n))) at width (cell_of width decimals (units.Whole n)) out.old }
 {
-    if decimal::put(out, at, width, minus, size, decimals) {
+    if decimal::put(out, at, width, n, decimals) {
         return true;
     }
     word_right(out, at, width, b"too large")
@@ -27,14 +28,10 @@ fn said(out: &mut [u8], at: usize, width: usize, u: Units, decimals: u8) -> bool
     ensures out_after { out.new ≡ written (length (said_of width decimals u)) at width (cell_of width decimals u) out.old }
 {
     match u {
-        Units::Whole(minus, size) => whole(out, at, width, minus, size, decimals),
+        Units::Whole(n) => whole(out, at, width, n, decimals),
         Units::NotANumber => word_right(out, at, width, b"no number"),
-        Units::Infinite(minus) => {
-            if minus {
-                return word_right(out, at, width, b"-infinite");
-            }
-            word_right(out, at, width, b"infinite")
-        }
+        Units::Infinite(true) => word_right(out, at, width, b"-infinite"),
+        Units::Infinite(false) => word_right(out, at, width, b"infinite"),
         Units::TooLarge(_) => word_right(out, at, width, b"too large"),
     }
 }
@@ -70,8 +67,17 @@ pub fn thousandths(out: &mut [u8], at: usize, width: usize, x: f64) -> bool
 
 // A whole number. Its field may be narrower than 9: where neither the digits nor `too large` fit, nothing is written and the answer is false.
 pub fn count(out: &mut [u8], at: usize, width: usize, n: u64) -> bool
-    ensures value { result ≡ fits (length out.old) at width (length (said_of width 0 (units.Whole false n))) }
-    ensures out_after { out.new ≡ written (length (said_of width 0 (units.Whole false n))) at width (cell_of width 0 (units.Whole false n)) out.old }
+    ensures value { result ≡ fits (length out.old) at width (length (said_of width 0 (units.Whole (of_digits false n)))) }
+    ensures out_after { out.new ≡ written (length (said_of width 0 (units.Whole (of_digits false n)))) at width (cell_of width 0 (units.Whole (of_digits false n))) out.old }
 {
-    whole(out, at, width, false, n, 0)
+    whole(
+        out,
+        at,
+        width,
+        Whole {
+            minus: false,
+            size: n,
+        },
+        0,
+    )
 }

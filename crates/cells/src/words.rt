@@ -9,10 +9,7 @@ fn word(out: &mut [u8], at: usize, width: usize, pad: usize, text: &[u8]) -> boo
     ensures value { result ≡ fits (length out.old) at width (length text.now) }
     ensures out_after { out.new ≡ written (length text.now) at width (replicate pad 32 ++ (text.now ++ replicate (width - (pad + length text.now)) 32)) out.old }
 {
-    if out.len() < at {
-        return false;
-    }
-    if out.len() - at < width {
+    if out.len() < at || out.len() - at < width {
         return false;
     }
     decimal::blanks(out, at, width);

@@ -1,11 +1,13 @@
 -- T of a sheet: what the next period has of the offset, of the rate and of the radio's error, row by row; and T of each period, where a season changes
 -- it. docs/PANEL.md, "The model" and "Seasons".
-use Rattle.std.specs.Prelude.{◌≡◌, ℕ, ◌+◌, ◌-◌, ◌*◌, ◌/◌, ◌%◌, ◌<◌, min, Bool, false, cond, List, [], ◌∷◌, length, take, drop, pos, ◌==◌, nat_le, refl, Float}
-use Rattle.std.proofs.Common.{sym, ap, ◌∙◌, arith, get_or-take, get_or-drop, ext_get_or, eq-eqb}
+use Rattle.std.specs.Prelude.{◌≡◌, ℕ, ◌+◌, ◌-◌, ◌*◌, ◌/◌, ◌%◌, ◌<◌, min, Bool, false, cond, List, [], ◌∷◌, length, take, drop, pos, ◌==◌, nat_le, Option, Some, None, refl, Float}
+use Rattle.std.specs.Option.{option_map}
+use Rattle.std.proofs.Common.{sym, ap, ◌∙◌, arith, get_or-take, get_or-drop, ext_get_or}
 use Rattle.std.specs.Float.{binary64}
 use Rattle.std.specs.Float.Ieee.{of_int, of_bits, div}
 use Rattle.definition.specs.Num.{◌⊘◌, 0ᶠ, 1ᶠ, at}
 use Rattle.definition.specs.Inputs.{part_from, transition_from}
+use Rattle.sheet.specs.declared.answers.Season.{Season}
 use Rattle.sheet.specs.declared.answers.Settings.{Settings}
 
 abbrev pub double_of : ℕ → Float
@@ -21,12 +23,13 @@ abbrev pub 1000000ᶠ : Float
 abbrev pub step_of : ℕ → Float
 step_of seconds = double_of seconds ⊘ 1000000ᶠ
 
--- how much of the rate is kept, by its thousandths. Not given, 0: all of it
-unfoldable pub kept_of : ℕ → Float
-kept_of thousandths = cond (thousandths == 0) 1ᶠ (double_of thousandths ⊘ 1000ᶠ)
+-- how much of the rate is kept, by its thousandths. Not given: all of it
+abbrev pub kept_of : Option ℕ → Float
+kept_of (Some thousandths) = double_of thousandths ⊘ 1000ᶠ
+kept_of None = 1ᶠ
 
 -- T by so many thousandths
-unfoldable pub keeping_of : Settings → ℕ → List Float
+abbrev pub keeping_of : Settings → Option ℕ → List Float
 keeping_of s thousandths =
     1ᶠ ∷ step_of s.period ∷ 0ᶠ
     ∷ 0ᶠ ∷ kept_of thousandths ∷ 0ᶠ
@@ -36,13 +39,18 @@ keeping_of s thousandths =
 abbrev pub transition_of : Settings → List Float
 transition_of s = keeping_of s s.rate_keeps
 
--- whether the season has begun in period k, which counts from 0; its first period counts from 1, and 0 says that there is none
-unfoldable pub in_season : ℕ → ℕ → Bool
-in_season season k = cond (season == 0) false (nat_le season (k + 1))
+-- whether the season has begun in period k, which counts from 0; its first period counts from 1
+abbrev pub in_season : Option Season → ℕ → Bool
+in_season (Some season) k = nat_le season.first (k + 1)
+in_season None k = false
+
+-- where it has
+abbrev pub own_of : Settings → List Float
+own_of s = keeping_of s (option_map (λ x. x.keeps) s.season)
 
 -- T of period k: it leads from there to the next
 unfoldable pub season_of : Settings → ℕ → List Float
-season_of s k = cond (in_season s.season k) (keeping_of s s.season_keeps) (transition_of s)
+season_of s k = cond (in_season s.season k) (own_of s) (transition_of s)
 
 -- a list for the library, of all periods that a run may have: what the definition takes from it in period k is T of period k
 pub record Seasons (s : Settings) (list : List Float) : Type 0 where
@@ -50,14 +58,14 @@ pub record Seasons (s : Settings) (list : List Float) : Type 0 where
   pub each : (k : ℕ) → k < 4096 → transition_from 3 [] list k ≡ season_of s k
 
 -- ---- 1000 thousandths are the whole rate, to the bit
-pub whole : kept_of 1000 ≡ 1ᶠ
-unfolding kept_of of_int of_bits div
+pub whole : kept_of (Some 1000) ≡ 1ᶠ
+unfolding of_int of_bits div
 whole = refl
 
 -- ---- with no season T is the same in each period
-pub never : (s : Settings) (k : ℕ) → s.season ≡ 0 → season_of s k ≡ transition_of s
-unfolding season_of in_season
-never s k e = simp (eq-eqb _ _ e)
+pub never : (s : Settings) (k : ℕ) → s.season ≡ None → season_of s k ≡ transition_of s
+unfolding season_of
+never s k e = ap (λ (season : Option Season). cond (in_season season k) (own_of s) (transition_of s)) e
 
 -- ---- what the definition takes are nine numbers, so that the list is fixed
 pub part : (list : List Float) → length list ≡ 36864 → (k : ℕ) → k < 4096 → transition_from 3 [] list k ≡ take 9 (drop (9 * k) list)

@@ -5,11 +5,11 @@
 // check before the first would pass for a rate that is known. In thousandths it takes ten years (docs/PANEL.md).
 #![tactic(auto)]
 
-ghost use Rattle.std.specs.Prelude.{◌≡◌, ◌/◌, ◌%◌, ◌<◌, length, if◌then◌else◌};
-ghost use Rattle.definition.specs.Num.{at};
-ghost use Rattle.clock.specs.Transition.{double_of, kept_of, keeping_of, transition_of, in_season, Seasons};
+ghost use Rattle.std.specs.Prelude.{◌≡◌, ◌<◌, length, if◌then◌else◌};
+ghost use Rattle.clock.specs.Transition.{double_of, kept_of, keeping_of, transition_of, own_of, in_season, Seasons};
 
-use sheet::answers::{Settings, Spread, Start};
+use promise::{Model, Offsets};
+use sheet::answers::{Noise, Season, Settings, Spread, Start};
 
 // What a ppb has of the rate's unit.
 const PER_PPB: f64 = 1000.0;
@@ -30,32 +30,39 @@ fn signed(minus: bool, n: u64) -> f64 {
     if minus { -double(n) } else { double(n) }
 }
 
-// A standard deviation is squared, a variance taken as it is; `unit` is how many of the state's units one of the sheet's has.
-fn variance(s: Spread, unit: f64) -> f64 {
-    let size = double(s.size);
-    if s.sd {
-        let d = size * unit;
-        return d * d;
+// A standard deviation is squared, a variance taken as it is; `unit` is how many of the state's units one of the sheet's has. Not given: 0.
+fn variance(s: Option<Spread>, unit: f64) -> f64 {
+    match s {
+        Some(Spread::Sd(n)) => {
+            let d = double(n) * unit;
+            d * d
+        }
+        Some(Spread::Variance(n)) => double(n) * (unit * unit),
+        None => 0.0,
     }
-    size * (unit * unit)
 }
 
 // The start's mean and variance: zeros of a state that is flagged.
-fn mean(s: Start, unit: f64) -> f64 {
-    if s.known {
-        signed(s.minus, s.size) * unit
-    } else {
-        0.0
+fn mean(s: Option<Start>, unit: f64) -> f64 {
+    match s {
+        Some(Start::Known { minus, size, .. }) => signed(minus, size) * unit,
+        _ => 0.0,
     }
 }
 
-fn start_variance(s: Start, unit: f64) -> f64 {
-    let spread = s.spread;
-    if s.known { variance(spread, unit) } else { 0.0 }
+fn start_variance(s: Option<Start>, unit: f64) -> f64 {
+    match s {
+        Some(Start::Known { spread, .. }) => variance(Some(spread), unit),
+        _ => 0.0,
+    }
 }
 
-fn flag(s: Start) -> u8 {
-    if s.known { 0 } else { 1 }
+// A byte, as the library is lent the flags, from C too.
+fn flag(s: Option<Start>) -> u8 {
+    match s {
+        Some(Start::Known { .. }) => 0,
+        _ => 1,
+    }
 }
 
 fn diagonal(a: f64, b: f64, c: f64) -> [f64; 9] {
@@ -71,23 +78,22 @@ pub fn identity() -> [f64; 9] {
 }
 
 pub fn noise(s: Settings) -> [f64; 4] {
-    let first = s.noise;
-    let second = s.noise_2;
+    let (first, second) = match s.noise {
+        Noise::One(a) => (Some(a), None),
+        Noise::Two(a, b) => (Some(a), Some(b)),
+    };
     [variance(first, 1.0), 0.0, 0.0, variance(second, 1.0)]
 }
 
 // How much of the rate stays: all of it where nothing is given, and 1.0 exactly of 1000 thousandths.
-fn kept(thousandths: u64) -> f64
+fn kept(thousandths: Option<u64>) -> f64
     ensures { result ≡ kept_of thousandths }
 {
-    if thousandths == 0 {
-        return 1.0;
-    }
-    double(thousandths) / WHOLE
+    thousandths.map_or(1.0, |n| double(n) / WHOLE)
 }
 
 // The offset grows by the rate; of the rate so much is kept; of the radio's error nothing stays.
-fn keeping(s: Settings, thousandths: u64) -> [f64; 9]
+fn keeping(s: Settings, thousandths: Option<u64>) -> [f64; 9]
     ensures { result ≡ keeping_of s thousandths }
 {
     let step = double(s.period) / SECONDS;
@@ -102,25 +108,26 @@ pub fn transition(s: Settings) -> [f64; 9]
 }
 
 // Whether the season has begun in period k, from 0.
-fn in_season(season: u64, k: usize) -> bool
+fn in_season(season: Option<Season>, k: usize) -> bool
     requires { k < 4096 }
     ensures { result ≡ in_season season k }
 {
-    if season == 0 {
-        return false;
-    }
-    season <= k as u64 + 1
+    season.is_some_and(|season| season.first <= k as u64 + 1)
 }
 
-// Number i of the list, by the T of the periods before the season and the T of its own.
-fn number(season: u64, before: &[f64], own: &[f64], i: usize) -> f64
-    requires { (i < 36864) × (9 ≡ length before.now) × (9 ≡ length own.now) }
-    ensures { result ≡ (if in_season season (i / 9) then at own.now (i % 9) else at before.now (i % 9)) }
+// Where the season has begun.
+fn own(s: Settings) -> [f64; 9]
+    ensures { result ≡ own_of s }
 {
-    if in_season(season, i / 9) {
-        return own[i % 9];
-    }
-    before[i % 9]
+    keeping(s, s.season.map(|season| season.keeps))
+}
+
+// T of period k, from 0, by the T of the periods before the season and the T of its own.
+fn of_period<'a>(season: Option<Season>, before: &'a [f64], own: &'a [f64], k: usize) -> &'a [f64]
+    requires { k < 4096 }
+    ensures { result.now ≡ (if in_season season k then own.now else before.now) }
+{
+    if in_season(season, k) { own } else { before }
 }
 
 // T of each of the 4096 periods that a run may have, one after the other.
@@ -129,66 +136,118 @@ pub fn transitions(s: Settings, list: &mut [f64])
     ensures { Seasons s list.new }
 {
     let before = transition(s);
-    let own = keeping(s, s.season_keeps);
-    for i in 0..36864 {
-        list[i] = number(s.season, &before, &own, i);
+    let own = own(s);
+    // By index: no lemma of std says what a list is after a loop over its `chunks_exact_mut`.
+    for k in 0..4096 {
+        let t = of_period(s.season, &before, &own, k);
+        list[9 * k..9 * k + 9].copy_from_slice(t);
     }
 }
 
 pub fn disturbances(s: Settings) -> [f64; 9] {
-    let offset = s.wander_offset;
-    let rate = s.wander_rate;
-    let radio = s.radio;
     diagonal(
-        variance(offset, 1.0),
-        variance(rate, PER_PPB),
-        variance(radio, 1.0),
+        variance(s.wander_offset, 1.0),
+        variance(s.wander_rate, PER_PPB),
+        variance(s.radio, 1.0),
     )
 }
 
 pub fn start_mean(s: Settings) -> [f64; 3] {
-    let offset = s.offset;
-    let rate = s.rate;
-    [mean(offset, 1.0), mean(rate, PER_PPB), 0.0]
+    [mean(s.offset, 1.0), mean(s.rate, PER_PPB), 0.0]
 }
 
 pub fn start_cov(s: Settings) -> [f64; 9] {
-    let offset = s.offset;
-    let rate = s.rate;
-    let radio = s.radio;
     diagonal(
-        start_variance(offset, 1.0),
-        start_variance(rate, PER_PPB),
-        variance(radio, 1.0),
+        start_variance(s.offset, 1.0),
+        start_variance(s.rate, PER_PPB),
+        variance(s.radio, 1.0),
     )
 }
 
 pub fn flags(s: Settings) -> [u8; 3] {
-    let offset = s.offset;
-    let rate = s.rate;
-    [flag(offset), flag(rate), 0]
+    [flag(s.offset), flag(s.rate), 0]
 }
 
 // The first k places, or all.
 pub fn first<'a>(s: &'a [f64], k: usize) -> &'a [f64] {
-    if k > s.len() {
-        return s;
-    }
-    let none = 0;
-    &s[none..k]
+    &s[..k.min(s.len())]
 }
 
 // What the library is handed of the one T, and of the list: it takes the one or the other, and wants the other one empty.
 pub fn once<'a>(s: Settings, t: &'a [f64]) -> &'a [f64] {
-    if s.season == 0 {
-        return t;
-    }
-    first(t, 0)
+    if s.season.is_none() { t } else { &[] }
 }
 
 pub fn listed<'a>(s: Settings, list: &'a [f64]) -> &'a [f64] {
-    if s.season == 0 {
-        return first(list, 0);
+    if s.season.is_none() { &[] } else { list }
+}
+
+// The numbers of a sheet's model, which the library is lent.
+#[derive(Drop)]
+pub struct Clock<'a> {
+    settings: Settings,
+    z: [f64; 6],
+    h: [f64; 4],
+    t: [f64; 9],
+    list: &'a [f64],
+    rr: [f64; 9],
+    q: [f64; 9],
+    p_star: [f64; 9],
+    flags: [u8; 3],
+    c: [f64; 3],
+    d: [f64; 2],
+    a1: [f64; 3],
+}
+
+impl<'a> Clock<'a> {
+    // `list`: what `transitions` made of the same settings.
+    pub fn of(s: Settings, list: &'a [f64]) -> Clock<'a>
+        ensures { (result.t ≡ transition_of s) × (result.list.now ≡ list.now) }
+    {
+        Clock {
+            settings: s,
+            z: design(),
+            h: noise(s),
+            t: transition(s),
+            list,
+            rr: identity(),
+            q: disturbances(s),
+            p_star: start_cov(s),
+            flags: flags(s),
+            c: [0.0; 3],
+            d: [0.0; 2],
+            a1: start_mean(s),
+        }
     }
-    list
+
+    pub fn model(&self, n: usize) -> Model<'_>
+        ensures { (result.p ≡ 2) × (result.m ≡ 3) × (result.r ≡ 3) × (result.n ≡ n) }
+    {
+        Model {
+            p: 2,
+            m: 3,
+            r: 3,
+            n,
+            z: &self.z,
+            zs: &[],
+            repeats: false,
+            h: &self.h,
+            t: once(self.settings, &self.t),
+            ts: listed(self.settings, self.list),
+            rr: &self.rr,
+            q: &self.q,
+            p_star: &self.p_star,
+            flags: &self.flags,
+        }
+    }
+
+    pub fn offsets(&self) -> Offsets<'_>
+        ensures { (3 ≡ length result.c.now) × (2 ≡ length result.d.now) × (3 ≡ length result.a1.now) }
+    {
+        Offsets {
+            c: &self.c,
+            d: &self.d,
+            a1: &self.a1,
+        }
+    }
 }

@@ -20,9 +20,10 @@ use Rattle.laws.specs.Backward.{block_long}
 use Rattle.laws.specs.Blocks.{part_in}
 use Rattle.dense.specs.Views.{mat, rect}
 use Rattle.dense.specs.Places.{Saved, saved}
-use Rattle.period.specs.Views.{state_of, gaps_of}
-use Rattle.carried.specs.State.{cov_laid, cov_kept}
-use Rattle.cov.specs.declared.Ended.{Ended}
+use Rattle.track.specs.declared.State.{State}
+use Rattle.track.specs.View.{cov_in}
+use Rattle.period.specs.Views.{gaps_of}
+use Rattle.carried.specs.State.{cov_kept}
 use Rattle.cov.specs.View.{Blocks, Held, Room, LoopedTo, Passed}
 
 -- what is mapped over a part is a part of what is mapped over the whole
@@ -127,23 +128,23 @@ module _ (p m : ℕ) (z zs h t ts r : List Float) (c : Cov) (y : List Float) (n 
               };
         }
 
-  module _ {i d d' : ℕ} {s s' : Cov} {l : Bool} {zi ti : List Float} {pc₀ pc pi₀ pi fc₀ fc : List Float} {k₀ k : List ℕ} {fs₀ fs fi₀ fi ms₀ ms mi₀ mi : List Float} (pcb pib fcb : List Float) (kb : List ℕ) (fsb fib msb mib : List Float) where
+  module _ {i d d' : ℕ} {s s' : Cov} {zi ti : List Float} {pc₀ pc pi₀ pi fc₀ fc : List Float} {k₀ k : List ℕ} {fs₀ fs fi₀ fi ms₀ ms mi₀ mi : List Float} (pcb pib fcb : List Float) (kb : List ℕ) (fsb fib msb mib : List Float) where
     -- period i leaves its blocks, each in its own part
     pub going_next : Going i s d pc₀ pc pi₀ pi fc₀ fc k₀ k fs₀ fs fi₀ fi ms₀ ms mi₀ mi → i < n → Room p m n (length pc₀) (length pi₀) (length fc₀) (length k₀) (length fs₀) (length fi₀) (length ms₀) (length mi₀)
         → Blocks p m (length pcb) (length pib) (length fcb) (length kb) (length fsb) (length fib) (length msb) (length mib)
-        → zi ≡ part_from (p * m) z zs i → ti ≡ transition_from m t ts i → Held m (period_of p m h ti r zi s (own_gaps i)) l s' pcb pib fcb kb fsb fib msb mib → d' ≡ d + cond l 1 0
+        → zi ≡ part_from (p * m) z zs i → ti ≡ transition_from m t ts i → Held m (period_of p m h ti r zi s (own_gaps i)) s' pcb pib fcb kb fsb fib msb mib → d' ≡ d + cond s'.live 1 0
         → Going (i + 1) s' d' pc₀ (over i (m * m) pc pcb) pi₀ (over i (m * m) pi pib) fc₀ (over i (m * m) fc fcb) k₀ (over i p k kb) fs₀ (over i p fs fsb) fi₀ (over i p fi fib) ms₀ (over i (p * m) ms msb) mi₀ (over i (p * m) mi mib)
     unfolding system_from
     going_next g h' room long ez et w ed =
         let low : i < length gs = rw rows h' in
         let here = period Y i (past i).1 (get_or gs i []) in
         let now : period_of p m h ti r zi s (own_gaps i) ≡ here = ap₂ (λ (u v : List Float). period_of p m h u r v s (own_gaps i)) et ez ∙ ap₂ (λ (w : Cov) (v : List Bool). period Y i w v) g.state (row-at i h') in
-        let held = subst (λ (q : CovPeriod × Cov). Held m q l s' pcb pib fcb kb fsb fib msb mib) now w in
+        let held = subst (λ (q : CovPeriod × Cov). Held m q s' pcb pib fcb kb fsb fib msb mib) now w in
         record {
           low = omega arith;
           state = state_next (period Y) gs c i [] (past i).1 s' low refl held.state;
           diffuse = count_next (period Y) gs c (λ (q : CovPeriod). cond q.diffuse 1 0) (count (λ (q : CovPeriod). q.diffuse)) diffuse_more i [] d d' low g.diffuse (ed ∙ ap (λ (b : Bool). d + cond b 1 0) held.diffuse);
-          few = one_more l d d' i ed g.few;
+          few = one_more s'.live d d' i ed g.few;
           pred = wrote (cov_block m predCov) (m * m) pc₀ pc pcb low h' room.pred g.pred long.pred held.pred;
           pred_inf = wrote (cov_block m pred_inf) (m * m) pi₀ pi pib low h' room.pred_inf g.pred_inf long.pred_inf held.pred_inf;
           filt = wrote (cov_block m filtCov) (m * m) fc₀ fc fcb low h' room.filt g.filt long.filt held.filt;
@@ -158,13 +159,13 @@ module _ (p m : ℕ) (z zs h t ts r : List Float) (c : Cov) (y : List Float) (n 
             → passes.Wrote (period Y) f k gs c old (over i k o b) (i + 1)
         wrote f k old o b a h room w l e = wrote_next (period Y) f k gs c i [] old o b a (omega (arith, block_in i n k h)) w l e
 
-  module _ {i d : ℕ} {live : Bool} (p* p∞ b u : List Float) {pc₀ pc pi₀ pi fc₀ fc : List Float} {k₀ k : List ℕ} {fs₀ fs fi₀ fi ms₀ ms mi₀ mi : List Float} where
-    pub going_all : Going i (state_of m p* p∞ b u live) d pc₀ pc pi₀ pi fc₀ fc k₀ k fs₀ fs fi₀ fi ms₀ ms mi₀ mi → n ≤ i → Room p m n (length pc₀) (length pi₀) (length fc₀) (length k₀) (length fs₀) (length fi₀) (length ms₀) (length mi₀)
-        → LoopedTo p m n (cov_run Y 0 c gs) p* p∞ b u (record { live = live; diffuse = d }) pc₀ pc pi₀ pi fc₀ fc k₀ k fs₀ fs fi₀ fi ms₀ ms mi₀ mi
+  module _ {i d : ℕ} (z' : State) {pc₀ pc pi₀ pi fc₀ fc : List Float} {k₀ k : List ℕ} {fs₀ fs fi₀ fi ms₀ ms mi₀ mi : List Float} where
+    pub going_all : Going i (cov_in m z') d pc₀ pc pi₀ pi fc₀ fc k₀ k fs₀ fs fi₀ fi ms₀ ms mi₀ mi → n ≤ i → Room p m n (length pc₀) (length pi₀) (length fc₀) (length k₀) (length fs₀) (length fi₀) (length ms₀) (length mi₀)
+        → LoopedTo p m n (cov_run Y 0 c gs) z' d pc₀ pc pi₀ pi fc₀ fc k₀ k fs₀ fs fi₀ fi ms₀ ms mi₀ mi
     unfolding cov_run
     going_all g h' room =
         let e : i ≡ n = omega (arith, g.low) in
-        let st = state_all (period Y) gs c n i (state_of m p* p∞ b u live) rows e g.state in
+        let st = state_all (period Y) gs c n i (cov_in m z') rows e g.state in
         let all : take i gs ≡ gs = take_all i gs (omega (arith, rows)) in
         record {
           state = st;
@@ -180,8 +181,8 @@ module _ (p m : ℕ) (z zs h t ts r : List Float) (c : Cov) (y : List Float) (n 
         }
 
 -- place n stored too, in its own part, and the state kept
-module _ (p m n : ℕ) {r : List CovPeriod × Cov} {e : Ended} {p* p∞ b u s s' : List Float} {pc₀ pc pi₀ pi fc₀ fc : List Float} {k₀ k : List ℕ} {fs₀ fs fi₀ fi ms₀ ms mi₀ mi : List Float} (pcb pib : List Float) where
-  pub passed : LoopedTo p m n r p* p∞ b u e pc₀ pc pi₀ pi fc₀ fc k₀ k fs₀ fs fi₀ fi ms₀ ms mi₀ mi → length pcb ≡ m * m → pcb ≡ mat m p* → length pib ≡ m * m → pib ≡ mat m p∞ → s' ≡ cov_laid m s (mat m p*) (mat m p∞) (mat m b) (mat m u) → Passed p m n r e s s' pc₀ (over n (m * m) pc pcb) pi₀ (over n (m * m) pi pib) fc₀ fc k₀ k fs₀ fs fi₀ fi ms₀ ms mi₀ mi
+module _ (p m n : ℕ) {r : List CovPeriod × Cov} {z : State} {d : ℕ} {s s' : List Float} {pc₀ pc pi₀ pi fc₀ fc : List Float} {k₀ k : List ℕ} {fs₀ fs fi₀ fi ms₀ ms mi₀ mi : List Float} (pcb pib : List Float) where
+  pub passed : LoopedTo p m n r z d pc₀ pc pi₀ pi fc₀ fc k₀ k fs₀ fs fi₀ fi ms₀ ms mi₀ mi → length pcb ≡ m * m → pcb ≡ mat m z.star → length pib ≡ m * m → pib ≡ mat m z.p_inf → s' ≡ cov_kept m s (cov_in m z) → Passed p m n r (record { live = z.live; diffuse = d }) s s' pc₀ (over n (m * m) pc pcb) pi₀ (over n (m * m) pi pib) fc₀ fc k₀ k fs₀ fs fi₀ fi ms₀ ms mi₀ mi
   unfolding cov_written kinds_written
   passed l lc ec li ei q =
       record {
@@ -203,9 +204,9 @@ module _ (p m n : ℕ) (z zs : List Float) (gs : List (List Bool)) (h h' t ts r 
   same_run : h' ≡ h → c' ≡ c → cov_run (system_from p m z zs h' t ts r) 0 c' gs ≡ cov_run (system_from p m z zs h t ts r) 0 c gs
   same_run a e = cc
 
-  module _ {o : Ended} {p* p∞ w u s s' : List Float} {pc₀ pc pi₀ pi fc₀ fc : List Float} {k₀ k : List ℕ} {fs₀ fs fi₀ fi ms₀ ms mi₀ mi : List Float} (pcb pib : List Float) where
-    pub finished : h' ≡ h → c' ≡ c → LoopedTo p m n (cov_run (system_from p m z zs h' t ts r) 0 c' gs) p* p∞ w u o pc₀ pc pi₀ pi fc₀ fc k₀ k fs₀ fs fi₀ fi ms₀ ms mi₀ mi
-        → {a b : ℕ} → a ≡ m * m → Saved a p* pcb → b ≡ m * m → Saved b p∞ pib → s' ≡ cov_laid m s (mat m p*) (mat m p∞) (mat m w) (mat m u)
-        → Passed p m n (cov_run (system_from p m z zs h t ts r) 0 c gs) o s s' pc₀ (over n (m * m) pc pcb) pi₀ (over n (m * m) pi pib) fc₀ fc k₀ k fs₀ fs fi₀ fi ms₀ ms mi₀ mi
+  module _ {e : State} {d : ℕ} {s s' : List Float} {pc₀ pc pi₀ pi fc₀ fc : List Float} {k₀ k : List ℕ} {fs₀ fs fi₀ fi ms₀ ms mi₀ mi : List Float} (pcb pib : List Float) where
+    pub finished : h' ≡ h → c' ≡ c → LoopedTo p m n (cov_run (system_from p m z zs h' t ts r) 0 c' gs) e d pc₀ pc pi₀ pi fc₀ fc k₀ k fs₀ fs fi₀ fi ms₀ ms mi₀ mi
+        → {a b : ℕ} → a ≡ m * m → Saved a e.star pcb → b ≡ m * m → Saved b e.p_inf pib → s' ≡ cov_kept m s (cov_in m e)
+        → Passed p m n (cov_run (system_from p m z zs h t ts r) 0 c gs) (record { live = e.live; diffuse = d }) s s' pc₀ (over n (m * m) pc pcb) pi₀ (over n (m * m) pi pib) fc₀ fc k₀ k fs₀ fs fi₀ fi ms₀ ms mi₀ mi
     unfolding rect
-    finished a e l ec wc ei wi q = passed p m n pcb pib (subst (λ (r : List CovPeriod × Cov). LoopedTo p m n r p* p∞ w u o pc₀ pc pi₀ pi fc₀ fc k₀ k fs₀ fs fi₀ fi ms₀ ms mi₀ mi) (same_run a e) l) (wc.kept ∙ ec) (saved ec wc) (wi.kept ∙ ei) (saved ei wi) q
+    finished a ce l ec wc ei wi q = passed p m n pcb pib (subst (λ (r : List CovPeriod × Cov). LoopedTo p m n r e d pc₀ pc pi₀ pi fc₀ fc k₀ k fs₀ fs fi₀ fi ms₀ ms mi₀ mi) (same_run a ce) l) (wc.kept ∙ ec) (saved ec wc) (wi.kept ∙ ei) (saved ei wi) q

@@ -9,11 +9,7 @@ use Rattle.definition.specs.Inputs.{part_from}
 use Rattle.laws.specs.Backward.{block_long}
 use Rattle.laws.specs.Blocks.{part_in}
 use Rattle.model.specs.Lists.{length_part}
-use Rattle.cov.specs.View.{Period, Blocks, Periods, Room, Ready, Rooms}
-
--- the diffuse periods before period i are at most i
-pub fewer : {d i n : ℕ} → d ≤ i → i < n → n ≤ 4096 → d ≤ 4096
-fewer a b e = omega arith
+use Rattle.cov.specs.View.{OfPeriod, Blocks, Periods, Room, Ready, Rooms}
 
 -- the readings have room for block i
 pub read_in : (p : ℕ) {i n y : ℕ} → y ≡ n * p → i < n → i * p + p ≤ y
@@ -21,7 +17,7 @@ read_in p e h = part_in p h (omega arith) e
 
 -- period i of n
 pub period_in : (z zs y : List Float) {design : List Float} {p m n t ts i : ℕ} → Periods p m n (length z) (length zs) t ts (length y) → i < n → design ≡ part_from (p * m) z zs i
-    → Period p m (length design) (length (take (i * p + p - i * p) (drop (i * p) y)))
+    → OfPeriod p m (length design) (length (take (i * p + p - i * p) (drop (i * p) y)))
 period_in z zs y {p = p} {i = i} g h e =
     record { p8 = g.design.p8; m8 = g.design.m8; designed = ap length e ∙ length_part z zs i g.design.chosen; readings = block_long i p y (read_in p g.readings h) }
 

@@ -1,8 +1,8 @@
 -- What the covariance pass's functions need of the lent parts, and what they promise.
-use Rattle.std.specs.Prelude.{◌≡◌, ℕ, ◌+◌, ◌*◌, ◌≤◌, Bool, List, [], map, Float}
+use Rattle.std.specs.Prelude.{◌≡◌, ℕ, ◌+◌, ◌*◌, ◌≤◌, Bool, List, [], map, length, Float}
 use Rattle.definition.specs.Dense.{symmetrise}
 use Rattle.definition.specs.Run.{scan, join, count}
-use Rattle.definition.specs.Cov.{Cov, CovPeriod, Decision, Inner, is_live, entered, element_of, stepped}
+use Rattle.definition.specs.Cov.{Cov, CovPeriod, Decision, Inner, element_of, stepped}
 use Rattle.definition.specs.Parts.{predCov, pred_inf, filtCov, fStar, fInf, mStar, mInf, cov_block, kind_block, kind_no, m_star_of, m_inf_of}
 use Rattle.definition.specs.Parts as parts
 use Rattle.definition.specs.Outcome.{cov_written, kinds_written}
@@ -10,21 +10,24 @@ use Rattle.laws.specs.Passes.{Laid}
 use Rattle.dense.specs.Views.{mat}
 use Rattle.model.specs.Lists.{PartFits}
 use Rattle.model.specs.Places.{StartFits}
-use Rattle.period.specs.Views.{state_of}
+use Rattle.promise.specs.declared.Model.{Model}
+use Rattle.track.specs.declared.State.{State}
+use Rattle.track.specs.View.{cov_in}
+use Rattle.period.specs.Views.{Begun}
 use Rattle.carried.specs.State.{cov_kept}
 use Rattle.cov.specs.declared.Ended.{Ended}
 
 -- ---- one period, in three steps
 
 -- its design, of p rows, and its p readings
-pub record Period (p m : ℕ) (design ys : ℕ) : Type 0 where
+pub record OfPeriod (p m : ℕ) (design ys : ℕ) : Type 0 where
   pub p8 : p ≤ 8
   pub m8 : m ≤ 8
   pub designed : design ≡ p * m
   pub readings : ys ≡ p
 
 -- its own part of each output: as long as its block, and no longer
-pub record Records (p m : ℕ) (ks fs fi ms mi : ℕ) : Type 0 where
+pub record OfRecords (p m : ℕ) (ks fs fi ms mi : ℕ) : Type 0 where
   pub kinds : ks ≡ p
   pub stars : fs ≡ p
   pub infs : fi ≡ p
@@ -35,40 +38,39 @@ pub record Blocks (p m : ℕ) (pc pi fc ks fs fi ms mi : ℕ) : Type 0 where
   pub pred : pc ≡ m * m
   pub pred_inf : pi ≡ m * m
   pub filt : fc ≡ m * m
-  pub records : Records p m ks fs fi ms mi
+  pub records : OfRecords p m ks fs fi ms mi
 
 -- the test, P∞ as it enters, and the predicted P* and P∞ stored
-pub record Entered (m : ℕ) (live : Bool) (p* p∞ q∞ pc pi : List Float) (l : Bool) : Type 0 where
-  pub lasts : l ≡ is_live m live (mat m p∞)
-  pub pinf : mat m q∞ ≡ entered m l (mat m p∞)
-  pub pred : pc ≡ mat m p*
-  pub pred_inf : pi ≡ mat m q∞
+pub record Entered (m : ℕ) (s s' : State) (pc pi : List Float) : Type 0 where
+  pub begun : Begun m s s'
+  pub pred : pc ≡ mat m s'.star
+  pub pred_inf : pi ≡ mat m s'.p_inf
 
 -- the decisions, and the state after the elements
-unfoldable pub absorb_of : ℕ → ℕ → List Float → List Float → Bool → List Float → List Bool → List Float → List Float → List Float → List Decision × Inner
-absorb_of p m h z live unres gaps star pinf root =
-    scan (element_of p m h (record { diffuse = live; z = z; pre = star; unres = unres })) 0 (record { star = star; pinf = pinf; root = root; taken = [] }) gaps
+unfoldable pub absorb_of : ℕ → ℕ → List Float → List Float → Cov → List Bool → List Decision × Inner
+absorb_of p m h z c gaps =
+    scan (element_of p m h (record { diffuse = c.live; z = z; pre = c.star; unres = c.unres })) 0 (record { star = c.star; pinf = c.pinf; root = c.root; taken = [] }) gaps
 
 -- those decisions stored
-pub record Absorbed (m : ℕ) (want : List Decision × Inner) (q* q∞ b : List Float) (ks : List ℕ) (fs fi ms mi : List Float) : Type 0 where
+pub record Absorbed (m : ℕ) (want : List Decision × Inner) (s : State) (ks : List ℕ) (fs fi ms mi : List Float) : Type 0 where
   pub kinds : ks ≡ map kind_no want.0
   pub stars : fs ≡ map parts.f_star_of want.0
   pub infs : fi ≡ map parts.f_inf_of want.0
   pub m_stars : ms ≡ join (map (m_star_of m) want.0)
   pub m_infs : mi ≡ join (map (m_inf_of m) want.0)
-  pub star : mat m q* ≡ want.1.star
-  pub pinf : mat m q∞ ≡ want.1.pinf
-  pub root : mat m b ≡ want.1.root
+  pub star : mat m s.star ≡ want.1.star
+  pub pinf : mat m s.p_inf ≡ want.1.pinf
+  pub root : mat m s.root ≡ want.1.root
 
 -- the filtered P* stored, and the state gone on by T
-pub record Left (m : ℕ) (live : Bool) (tr rqr : List Float) (c c' : Cov) (fc : List Float) : Type 0 where
+pub record Left (m : ℕ) (tr rqr : List Float) (c c' : Cov) (fc : List Float) : Type 0 where
   pub filt : fc ≡ symmetrise m c.star
-  pub state : c' ≡ stepped m tr rqr live (symmetrise m c.star) (symmetrise m c.pinf) c.root c.unres
+  pub state : c' ≡ stepped m tr rqr c.live (symmetrise m c.star) (symmetrise m c.pinf) c.root c.unres
 
 -- what the whole period leaves, over the definition's period q: the state, and in each part the block that q has for it
-pub record Held (m : ℕ) (q : CovPeriod × Cov) (l : Bool) (s : Cov) (pc pi fc : List Float) (ks : List ℕ) (fs fi ms mi : List Float) : Type 0 where
+pub record Held (m : ℕ) (q : CovPeriod × Cov) (s : Cov) (pc pi fc : List Float) (ks : List ℕ) (fs fi ms mi : List Float) : Type 0 where
   pub state : s ≡ q.1
-  pub diffuse : l ≡ q.0.diffuse
+  pub diffuse : s.live ≡ q.0.diffuse
   pub pred : pc ≡ cov_block m predCov q.0
   pub pred_inf : pi ≡ cov_block m pred_inf q.0
   pub filt : fc ≡ cov_block m filtCov q.0
@@ -97,9 +99,9 @@ pub record Room (p m n : ℕ) (pc pi fc ks fs fi ms mi : ℕ) : Type 0 where
   pub m_infs : n * (p * m) ≤ mi
 
 -- what the loop leaves, over the run r: the state, the count of diffuse periods, and the periods' blocks laid over the parts
-pub record LoopedTo (p m n : ℕ) (r : List CovPeriod × Cov) (p* p∞ b u : List Float) (e : Ended) (pc₀ pc pi₀ pi fc₀ fc : List Float) (ks₀ ks : List ℕ) (fs₀ fs fi₀ fi ms₀ ms mi₀ mi : List Float) : Type 0 where
-  pub state : state_of m p* p∞ b u e.live ≡ r.1
-  pub diffuse : e.diffuse ≡ count (λ c. c.diffuse) r.0
+pub record LoopedTo (p m n : ℕ) (r : List CovPeriod × Cov) (s : State) (d : ℕ) (pc₀ pc pi₀ pi fc₀ fc : List Float) (ks₀ ks : List ℕ) (fs₀ fs fi₀ fi ms₀ ms mi₀ mi : List Float) : Type 0 where
+  pub state : cov_in m s ≡ r.1
+  pub diffuse : d ≡ count (λ c. c.diffuse) r.0
   pub pred : Laid (n * (m * m)) (join (map (cov_block m predCov) r.0)) pc₀ pc
   pub pred_inf : Laid (n * (m * m)) (join (map (cov_block m pred_inf) r.0)) pi₀ pi
   pub filt : Laid (n * (m * m)) (join (map (cov_block m filtCov) r.0)) fc₀ fc
@@ -119,6 +121,9 @@ pub record Ready (p m n : ℕ) (z zs h t ts p* flags y : ℕ) : Type 0 where
   pub transition : PartFits m m t ts
   pub start : StartFits m p* flags
   pub readings : y ≡ n * p
+
+abbrev pub ReadyFor : Model → ℕ → Type 0
+ReadyFor x y = Ready x.p x.m x.n (length x.z.now) (length x.zs.now) (length x.h.now) (length x.t.now) (length x.ts.now) (length x.p_star.now) (length x.flags.now) y
 
 -- and the outputs: one more block of the predicted moments
 pub record Rooms (p m n : ℕ) (pc pi fc ks fs fi ms mi : ℕ) : Type 0 where

@@ -2,119 +2,102 @@
 // Where it begins and what it keeps of the state is crates/carried.
 #![tactic(auto)]
 
-ghost use Rattle.std.specs.Prelude.{◌≡◌, cond, map, ◌≤◌, ◌*◌, ◌+◌, length};
+ghost use Rattle.std.specs.Prelude.{◌≡◌, map, ◌≤◌, ◌*◌, length};
 ghost use Rattle.definition.specs.Cov.{period_of, cov_run};
 ghost use Rattle.definition.specs.Inputs.{class_of, gap_rows, system_from};
 ghost use Rattle.dense.specs.Views.{mat};
-ghost use Rattle.period.specs.Views.{state_of, gaps_of};
+ghost use Rattle.track.specs.View.{cov_in};
+ghost use Rattle.element.specs.Views.{Kept};
+ghost use Rattle.period.specs.Views.{gaps_of};
 ghost use Rattle.carried.specs.State.{StateFits, cov_from};
-ghost use Rattle.cov.specs.View.{Period, Records, Blocks, Periods, Room, Ready, Rooms};
+ghost use Rattle.cov.specs.View.{OfPeriod, OfRecords, Blocks, Periods, Room, ReadyFor, Rooms};
 ghost use Rattle.cov.specs.View.{absorb_of, Entered, Absorbed, Left, Held, LoopedTo, Passed};
+
+use element::{Period, Records};
+use promise::Model;
+use track::State;
 
 pub mod counts;
 
 // Where the periods end: whether the diffuse state lasts, and how many of them were diffuse.
-#[derive(Drop)]
+#[derive(Clone, Copy)]
 pub struct Ended {
     pub live: bool,
     pub diffuse: usize,
 }
 
 // What comes before the elements: whether the period is diffuse, P∞ as it enters, and the predicted P* and P∞ stored.
-fn enter(
-    star: &[f64; 64],
-    p_inf: &mut [f64; 64],
-    pred: &mut [f64],
-    pred_inf: &mut [f64],
-    live: bool,
-    m: usize,
-) -> bool
+fn enter(s: &mut State, pred: &mut [f64], pred_inf: &mut [f64], m: usize)
     requires { (m ≤ 8) × ((length pred.old ≡ m * m) × (length pred_inf.old ≡ m * m)) }
-    ensures { Entered m live star.now p_inf.old p_inf.new
-        pred.new pred_inf.new result }
+    ensures { Entered m s.old s.new pred.new pred_inf.new }
 {
-    let lasts = period::begin(p_inf, live, m);
-    dense::save64(pred, star);
-    dense::save64(pred_inf, p_inf);
-    lasts
+    period::begin(s, m);
+    dense::save(pred, &s.star);
+    dense::save(pred_inf, &s.p_inf);
 }
 
 // The elements, in order, and their records stored: P*, P∞ and B go from predicted to filtered.
 fn absorb(
-    star: &mut [f64; 64],
-    p_inf: &mut [f64; 64],
-    root: &mut [f64; 64],
+    s: &mut State,
     kinds: &mut [u8],
     f_star: &mut [f64],
     f_inf: &mut [f64],
     m_star: &mut [f64],
     m_inf: &mut [f64],
-    live: bool,
-    unres: &[f64; 64],
     design: &[f64],
     hs: &[f64; 64],
     ys: &[f64],
     p: usize,
     m: usize,
 )
-    requires { Period p m (length design.now) (length ys.now)
-        × Records p m (length kinds.old)
+    requires { OfPeriod p m (length design.now) (length ys.now)
+        × OfRecords p m (length kinds.old)
         (length f_star.old) (length f_inf.old) (length m_star.old) (length m_inf.old) }
-    ensures { Absorbed m
-        (absorb_of p m (mat p hs.now) design.now live (mat m unres.now)
-        (gaps_of ys.now)
-        (mat m star.old) (mat m p_inf.old) (mat m root.old))
-        star.new p_inf.new root.new kinds.new
-        f_star.new f_inf.new m_star.new m_inf.new }
+    ensures absorbed { Absorbed m
+        (absorb_of p m (mat p hs.now) design.now (cov_in m s.old) (gaps_of ys.now))
+        s.new kinds.new f_star.new f_inf.new m_star.new m_inf.new }
+    ensures kept { Kept s.old s.new }
 {
-    let pre = *star;
-    let z = dense::load64(design);
-    let mut ks = [0u8; 8];
-    let mut fs = [0.0; 8];
-    let mut fi = [0.0; 8];
-    let mut ms = [0.0; 64];
-    let mut mi = [0.0; 64];
-    period::elements(
-        star, p_inf, root, &mut ks, &mut fs, &mut fi, &mut ms, &mut mi, live, &pre, unres, &z, hs,
-        ys, p, m,
-    );
-    dense::save_bytes(kinds, &ks);
-    dense::save8(f_star, &fs);
-    dense::save8(f_inf, &fi);
-    dense::save64(m_star, &ms);
-    dense::save64(m_inf, &mi);
+    let pre = s.star;
+    let mut z = [0.0; 64];
+    dense::fill(&mut z, design);
+    let mut records = Records {
+        kinds: [0; 8],
+        f_star: [0.0; 8],
+        f_inf: [0.0; 8],
+        m_star: [0.0; 64],
+        m_inf: [0.0; 64],
+    };
+    let x = Period {
+        pre: &pre,
+        design: &z,
+        hs,
+        p,
+        m,
+    };
+    period::elements(s, &mut records, &x, ys);
+    dense::save(kinds, &records.kinds);
+    dense::save(f_star, &records.f_star);
+    dense::save(f_inf, &records.f_inf);
+    dense::save(m_star, &records.m_star);
+    dense::save(m_inf, &records.m_inf);
 }
 
 // What comes after the elements: the filtered P* stored, and the state gone on by T.
-fn leave(
-    star: &mut [f64; 64],
-    p_inf: &mut [f64; 64],
-    root: &mut [f64; 64],
-    unres: &mut [f64; 64],
-    filt: &mut [f64],
-    tr: &[f64; 64],
-    rqr: &[f64; 64],
-    diffuse: bool,
-    m: usize,
-)
+fn leave(s: &mut State, filt: &mut [f64], tr: &[f64; 64], rqr: &[f64; 64], m: usize)
     requires { (m ≤ 8) × (length filt.old ≡ m * m) }
-    ensures { Left m diffuse (mat m tr.now) (mat m rqr.now)
-        (state_of m star.old p_inf.old root.old unres.old diffuse)
-        (state_of m star.new p_inf.new root.new unres.new diffuse)
-        filt.new }
+    ensures { Left m (mat m tr.now) (mat m rqr.now) (cov_in m s.old) (cov_in m s.new) filt.new }
 {
-    dense::symmetrize_in_place(star, m);
-    dense::symmetrize_in_place(p_inf, m);
-    dense::save64(filt, star);
-    period::go_on(star, p_inf, root, unres, tr, rqr, diffuse, m);
+    dense::symmetrize_in_place(&mut s.star, m);
+    dense::symmetrize_in_place(&mut s.p_inf, m);
+    dense::save(filt, &s.star);
+    period::go_on(s, tr, rqr, m);
 }
 
-// One period: whether it was diffuse. It sees its own block of each output, its own readings, and nothing of another's.
+// One period. It sees its own block of each output, its own readings, and nothing of another's. Whether it was diffuse stands
+// in the state afterwards. The outputs stay apart here and above, since the exported functions are lent each by itself (DECISIONS 147).
 fn cov_period(
-    star: &mut [f64; 64],
-    p_inf: &mut [f64; 64],
-    root: &mut [f64; 64],
-    unres: &mut [f64; 64],
+    s: &mut State,
     pred: &mut [f64],
     pred_inf: &mut [f64],
     filt: &mut [f64],
@@ -123,7 +106,6 @@ fn cov_period(
     f_inf: &mut [f64],
     m_star: &mut [f64],
     m_inf: &mut [f64],
-    live: bool,
     design: &[f64],
     hs: &[f64; 64],
     tr: &[f64; 64],
@@ -131,43 +113,30 @@ fn cov_period(
     ys: &[f64],
     p: usize,
     m: usize,
-) -> bool
-    requires { Period p m (length design.now) (length ys.now)
+)
+    requires { OfPeriod p m (length design.now) (length ys.now)
         × Blocks p m (length pred.old) (length pred_inf.old) (length filt.old)
         (length kinds.old) (length f_star.old) (length f_inf.old)
         (length m_star.old) (length m_inf.old) }
     ensures { Held m
         (period_of p m (mat p hs.now) (mat m tr.now) (mat m rqr.now)
-        design.now
-        (state_of m star.old p_inf.old root.old unres.old live)
-        (gaps_of ys.now)) result
-        (state_of m star.new p_inf.new root.new unres.new result)
-        pred.new pred_inf.new filt.new kinds.new
+        design.now (cov_in m s.old) (gaps_of ys.now))
+        (cov_in m s.new) pred.new pred_inf.new filt.new kinds.new
         f_star.new f_inf.new m_star.new m_inf.new }
 {
-    let lasts = enter(star, p_inf, pred, pred_inf, live, m);
-    absorb(
-        star, p_inf, root, kinds, f_star, f_inf, m_star, m_inf, lasts, unres, design, hs, ys, p, m,
-    );
-    leave(star, p_inf, root, unres, filt, tr, rqr, lasts, m);
-    lasts
+    enter(s, pred, pred_inf, m);
+    absorb(s, kinds, f_star, f_inf, m_star, m_inf, design, hs, ys, p, m);
+    leave(s, filt, tr, rqr, m);
 }
 
-// One more, if yes.
-fn and_one(d: usize, yes: bool) -> usize
-    requires { d ≤ 4096 }
-    ensures { result ≡ d + cond yes 1 0 }
-{
-    if yes { d + 1 } else { d }
-}
-
-// All n periods, in order. Each is handed its own block of each output, and its own transition: `tr` is the constant one, `trs`
-// the list.
-fn cov_loop<'a>(
-    star: &mut [f64; 64],
-    p_inf: &mut [f64; 64],
-    root: &mut [f64; 64],
-    unres: &mut [f64; 64],
+// All n periods, in order, each with its own block of each output, its own design and its own transition. How many of them
+// were diffuse. By the index: a period is a block of each of several lists, of other widths.
+fn cov_loop(
+    s: &mut State,
+    x: &Model,
+    hs: &[f64; 64],
+    rqr: &[f64; 64],
+    y: &[f64],
     pred_cov: &mut [f64],
     pred_inf: &mut [f64],
     filt_cov: &mut [f64],
@@ -176,53 +145,40 @@ fn cov_loop<'a>(
     f_inf: &mut [f64],
     m_star: &mut [f64],
     m_inf: &mut [f64],
-    live: bool,
-    z: &'a [f64],
-    zs: &'a [f64],
-    hs: &[f64; 64],
-    tr: &'a [f64],
-    trs: &'a [f64],
-    rqr: &[f64; 64],
-    y: &[f64],
-    p: usize,
-    m: usize,
-    n: usize,
-) -> Ended
-    requires { Periods p m n (length z.now) (length zs.now) (length tr.now) (length trs.now) (length y.now)
-        × Room p m n (length pred_cov.old) (length pred_inf.old) (length filt_cov.old)
+) -> usize
+    requires { Periods x.now.p x.now.m x.now.n (length x.now.z.now) (length x.now.zs.now)
+        (length x.now.t.now) (length x.now.ts.now) (length y.now)
+        × Room x.now.p x.now.m x.now.n (length pred_cov.old) (length pred_inf.old) (length filt_cov.old)
         (length kinds.old) (length f_star.old) (length f_inf.old)
         (length m_star.old) (length m_inf.old) }
-    ensures { LoopedTo p m n
-        (cov_run (system_from p m z.now zs.now (mat p hs.now)
-        tr.now trs.now (mat m rqr.now)) 0
-        (state_of m star.old p_inf.old root.old unres.old live)
-        (gap_rows n p (map class_of y.now)))
-        star.new p_inf.new root.new unres.new result
+    ensures { LoopedTo x.now.p x.now.m x.now.n
+        (cov_run (system_from x.now.p x.now.m x.now.z.now x.now.zs.now (mat x.now.p hs.now)
+        x.now.t.now x.now.ts.now (mat x.now.m rqr.now)) 0
+        (cov_in x.now.m s.old)
+        (gap_rows x.now.n x.now.p (map class_of y.now)))
+        s.new result
         pred_cov.old pred_cov.new pred_inf.old pred_inf.new
         filt_cov.old filt_cov.new kinds.old kinds.new
         f_star.old f_star.new f_inf.old f_inf.new
         m_star.old m_star.new m_inf.old m_inf.new }
 {
-    let mm = m * m;
-    let pm = p * m;
-    let mut live = live;
+    let mm = x.m * x.m;
+    let pm = x.p * x.m;
     let mut d = 0;
-    let mut step = dense::load64(tr);
-    for t in 0..n {
-        let design = model::lists::part(z, zs, p, m, t);
-        model::lists::transition(&mut step, tr, trs, m, t);
+    let mut tr = [0.0; 64];
+    dense::fill(&mut tr, x.t);
+    for t in 0..x.n {
+        let design = model::lists::part(x.z, x.zs, x.p, x.m, t);
+        model::lists::transition(&mut tr, x.t, x.ts, x.m, t);
         // Where its blocks lie: its matrices, its elements, their gain vectors.
         let cov = t * mm;
         let cov_end = cov + mm;
-        let element = t * p;
-        let element_end = element + p;
+        let element = t * x.p;
+        let element_end = element + x.p;
         let gain = t * pm;
         let gain_end = gain + pm;
-        live = cov_period(
-            star,
-            p_inf,
-            root,
-            unres,
+        cov_period(
+            s,
             &mut pred_cov[cov..cov_end],
             &mut pred_inf[cov..cov_end],
             &mut filt_cov[cov..cov_end],
@@ -231,32 +187,25 @@ fn cov_loop<'a>(
             &mut f_inf[element..element_end],
             &mut m_star[gain..gain_end],
             &mut m_inf[gain..gain_end],
-            live,
             design,
             hs,
-            &step,
+            &tr,
             rqr,
             &y[element..element_end],
-            p,
-            m,
+            x.p,
+            x.m,
         );
-        d = and_one(d, live);
+        d += s.live as usize;
     }
-    Ended { live, diffuse: d }
+    d
 }
 
 // The covariance pass: the predicted, diffuse and filtered covariances and the records of n periods, and place n of the
 // predicted ones, in its own part too. It begins at the state that is lent, and leaves it as it is after the n periods; an
 // empty state: it begins at the start. `rqr` is R Q R', symmetrised.
-pub fn cov_pass<'a>(
-    z: &'a [f64],
-    zs: &'a [f64],
-    h: &[f64],
-    t: &'a [f64],
-    ts: &'a [f64],
+pub fn cov_pass(
+    x: &Model,
     rqr: &[f64; 64],
-    p_star: &[f64],
-    flags: &[u8],
     y: &[f64],
     pred_cov: &mut [f64],
     pred_inf: &mut [f64],
@@ -268,43 +217,44 @@ pub fn cov_pass<'a>(
     m_inf: &mut [f64],
     state: &mut [f64],
     live: bool,
-    p: usize,
-    m: usize,
-    n: usize,
 ) -> Ended
-    requires { StateFits m (length state.old)
-        × Ready p m n (length z.now) (length zs.now) (length h.now) (length t.now) (length ts.now)
-        (length p_star.now) (length flags.now) (length y.now)
-        × Rooms p m n (length pred_cov.old) (length pred_inf.old) (length filt_cov.old)
+    requires { StateFits x.now.m (length state.old)
+        × ReadyFor x.now (length y.now)
+        × Rooms x.now.p x.now.m x.now.n (length pred_cov.old) (length pred_inf.old) (length filt_cov.old)
         (length kinds.old) (length f_star.old) (length f_inf.old)
         (length m_star.old) (length m_inf.old) }
-    ensures { Passed p m n
-        (cov_run (system_from p m z.now zs.now h.now t.now
-        ts.now (mat m rqr.now)) 0
-        (cov_from m state.old live p_star.now flags.now)
-        (gap_rows n p (map class_of y.now))) result state.old state.new
+    ensures { Passed x.now.p x.now.m x.now.n
+        (cov_run (system_from x.now.p x.now.m x.now.z.now x.now.zs.now x.now.h.now
+        x.now.t.now x.now.ts.now (mat x.now.m rqr.now)) 0
+        (cov_from x.now.m state.old live x.now.p_star.now x.now.flags.now)
+        (gap_rows x.now.n x.now.p (map class_of y.now))) result state.old state.new
         pred_cov.old pred_cov.new pred_inf.old pred_inf.new
         filt_cov.old filt_cov.new kinds.old kinds.new
         f_star.old f_star.new f_inf.old f_inf.new
         m_star.old m_star.new m_inf.old m_inf.new }
 {
-    let hs = dense::load64(h);
-    let mut star = [0.0; 64];
-    let mut p_inf = [0.0; 64];
-    let mut root = [0.0; 64];
-    let mut unres = [0.0; 64];
-    let live = carried::cov_from(
-        state, p_star, flags, live, m, &mut star, &mut p_inf, &mut root, &mut unres,
+    let mut hs = [0.0; 64];
+    dense::fill(&mut hs, x.h);
+    // The zeros are written out here and in stretch: it is not known of a const of 2 KB that it would make no copy more in the frame.
+    let mut s = State {
+        live,
+        star: [0.0; 64],
+        p_inf: [0.0; 64],
+        root: [0.0; 64],
+        unres: [0.0; 64],
+    };
+    carried::cov_from(state, x, live, &mut s);
+    let diffuse = cov_loop(
+        &mut s, x, &hs, rqr, y, pred_cov, pred_inf, filt_cov, kinds, f_star, f_inf, m_star, m_inf,
     );
-    let ended = cov_loop(
-        &mut star, &mut p_inf, &mut root, &mut unres, pred_cov, pred_inf, filt_cov, kinds, f_star,
-        f_inf, m_star, m_inf, live, z, zs, &hs, t, ts, rqr, y, p, m, n,
-    );
-    let mm = m * m;
-    let from = n * mm;
+    let mm = x.m * x.m;
+    let from = x.n * mm;
     let to = from + mm;
-    dense::save64(&mut pred_cov[from..to], &star);
-    dense::save64(&mut pred_inf[from..to], &p_inf);
-    carried::keep_cov(state, &star, &p_inf, &root, &unres, m);
-    ended
+    dense::save(&mut pred_cov[from..to], &s.star);
+    dense::save(&mut pred_inf[from..to], &s.p_inf);
+    carried::keep_cov(state, &s, x.m);
+    Ended {
+        live: s.live,
+        diffuse,
+    }
 }

@@ -11,24 +11,22 @@ use Rattle.definition.specs.Num.{at}
 use Rattle.definition.specs.Dense.{mul, transposed, minus, quad, symmetrise, row}
 use Rattle.definition.specs.Run.{fold_back}
 use Rattle.definition.specs.Smooth.{Ns, back_n, back_element, elements_n, between, diffuse_v, back_v, step_ns, back_cov_of}
-use Rattle.laws.specs.Flat.{Flat, no_decision, decision_of, read_back, decisions_at, decisions_long, decision_at, block_at, look_at}
-use Rattle.laws.specs.Backward.{fold_none, fold_step, part_block, block_long}
-use Rattle.dense.specs.Views.{vec, mat}
+use Rattle.laws.specs.Flat.{Flat, no_decision, read_back, decisions_at, decisions_long, decision_at, block_at, look_at}
+use Rattle.laws.specs.Backward.{fold_none, fold_step, part_block}
+use Rattle.dense.specs.Views.{mat}
 use Rattle.dense.specs.Places.{Saved}
-use Rattle.dense.proofs.Laws.{loaded_vec, saved_rect}
-
--- ---- parts of slices, loaded and saved
-
--- the m entries from place k * m on
-pub loaded_block : (k m : ℕ) (l r : List Float) → k * m + m ≤ length l → vec (length (take (k * m + m - k * m) (drop (k * m) l))) r ≡ take (k * m + m - k * m) (drop (k * m) l) → vec m r ≡ block_at m l k
-loaded_block k m l r h e = loaded_vec m r (block_long k m l h) e ∙ part_block k m l h
+use Rattle.dense.proofs.Laws.{saved_rect}
+use Rattle.promise.specs.declared.Kind.{Kind}
+use Rattle.promise.specs.Records.{kind_from}
+use Rattle.element_back.specs.View.{decided, decided_from}
 
 -- ---- one element, by the record at place k
 
-pub element_back : (m i k : ℕ) (live : Bool) (design : List Float) (r : Flat) (n : Ns) (z ms mi : List Float) {x : Ns} → vec m z ≡ row m design i → vec m ms ≡ block_at m r.m_stars k → vec m mi ≡ block_at m r.m_infs k
-    → x ≡ back_n m live (vec m z) n (decision_of (get_or r.kinds k 0) (at r.f_stars k) (at r.f_infs k) (vec m ms) (vec m mi)) → x ≡ back_element m live design i n (read_back m r k)
+pub element_back : (m i k : ℕ) (live : Bool) (design : List Float) (r : Flat) (n : Ns) (v : Float) {q : Kind} {x : Ns} → q ≡ kind_from (get_or r.kinds k 0) v (at r.f_stars k) (at r.f_infs k)
+    → x ≡ back_n m live (row m design i) n (decided q (block_at m r.m_stars k) (block_at m r.m_infs k)) → x ≡ back_element m live design i n (read_back m r k)
 unfolding back_element read_back block_at
-element_back m i k live design r n z ms mi ez es ei h = rw (ez, es, ei) at h
+element_back m i k live design r n v e h =
+    h ∙ ap (back_n m live (row m design i) n) (ap (λ (q : Kind). decided q (block_at m r.m_stars k) (block_at m r.m_infs k)) e ∙ decided_from (get_or r.kinds k 0) v (at r.f_stars k) (at r.f_infs k) (block_at m r.m_stars k) (block_at m r.m_infs k))
 
 -- ---- the elements of a period, last to first
 

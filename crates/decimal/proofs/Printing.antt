@@ -2,15 +2,18 @@
 use mathlib.Core.Path.{◌≡◌, refl, sym, ap, ◌∙◌, subst}
 use mathlib.Core.Bool.{Bool, true, false, ◌&&◌, and-false, cond, true≢false}
 use mathlib.Core.List.{List, [], ◌∷◌, ◌++◌, append_assoc}
-use Prim.Native.Nat.{ℕ, zero, suc, ◌+◌, ◌-◌, ◌/◌, ◌%◌, ◌^◌, ◌≤◌, ◌<◌}
-use native.Mathlib.Nat.{le_refl, zero-add, add-zero, pow-suc}
+use Prim.Native.Nat.{ℕ, zero, suc, ◌+◌, ◌-◌, ◌*◌, ◌/◌, ◌%◌, ◌^◌, ◌≤◌, ◌<◌, max}
+use native.Mathlib.Nat.{le_refl, zero-add, add-zero, pow-suc, pow-le-pow_right, zero-lt-suc}
+use Rattle.std.proofs.Common.{◌⊎◌, ⊎_elim}
+use Rattle.std.proofs.Math.Nat.{one-le-pow}
+use Rattle.std.proofs.lemmas.Bool.{cases_order}
 use native.Mathlib.Numerals.{add-one}
 use native.Mathlib.Omega.{arith}
 use lib.ListN.{length, take, drop, set, replicate, length-set, length-append, take-append-drop}
 use lib.Seq.{drop-cons, take-set-le, drop-set-lt, get_or-set_same, take-take, take_at, length-take-le}
 use lib.Dec.{leb}
-use borrow.Author.Tests.{lt-ltb, le-ltb, le-leb, lt-leb}
-use Rattle.decimal.specs.Printed.{digits_onto, places_in, places_of, sign_of, sign_width, fraction_onto, point_width, text_of, shown, fits_in, put_in, Onto, plain_of, Added}
+use borrow.Author.Tests.{le-leb, lt-leb}
+use Rattle.decimal.specs.Printed.{digits_onto, places_in, places_of, places_are, sign_of, sign_width, fraction_onto, point_width, text_of, shown, fits_in, put_in, Onto, plain_of, Added}
 
 -- ---- one byte, where what stands before it is as it was
 pub byte_before : (old out : List ℕ) (j b : ℕ) → take (suc j) out ≡ take (suc j) old → take j (set out j b) ≡ take j old
@@ -53,49 +56,26 @@ at_last old out a k i n r z l t d =
       long = l;
     }
 
--- ---- blanks
-replicate_next : (k b : ℕ) (l : List ℕ) → replicate k b ++ (b ∷ l) ≡ replicate (suc k) b ++ l
-replicate_next zero b l = refl
-replicate_next (suc k) b l = ap (λ (x : List ℕ). b ∷ x) (replicate_next k b l)
-
-pub blank_on : (i : ℕ) (l : List ℕ) → 0 < i → replicate (i - 1) 32 ++ (32 ∷ l) ≡ replicate i 32 ++ l
-blank_on zero l h = absurd (omega (arith, h))
-blank_on (suc i) l h = ap (λ (m : ℕ). replicate m 32 ++ (32 ∷ l)) (one_less i) ∙ replicate_next i 32 l
-  where
-    one_less : (i : ℕ) → suc i - 1 ≡ i
-    one_less i = omega arith
-
-pub at_last_blank : (old out : List ℕ) (a i : ℕ) (t : List ℕ) → i ≡ 0 → length out ≡ length old → take (a + i) out ≡ take (a + i) old → replicate i 32 ++ drop (a + i) out ≡ t → Onto a t old out
-at_last_blank old out a i t z l b d =
-    let e : a + i ≡ a = omega arith in
-    record {
-      before = subst (λ (m : ℕ). take m out ≡ take m old) e b;
-      after = sym (ap (λ (m : ℕ). drop m out) e) ∙ sym (ap (λ (j : ℕ). replicate j 32 ++ drop (a + i) out) z) ∙ d;
-      long = l;
-    }
-
--- ---- how many digits: a turn of the loop, and its end
-pub places_on : (m r : ℕ) → m ≤ 19 → r < 10 ^ (20 - m) → 10 ≤ r → (m + 1 ≤ 19) × (r / 10 < 10 ^ (20 - (m + 1))) × (places_in (19 - (m + 1)) (r / 10) + (m + 1) ≡ places_in (19 - m) r + m)
-unfolding places_in
-places_on m r h b t = go (19 - m) refl
-  where
-    go : (f : ℕ) → 19 - m ≡ f → (m + 1 ≤ 19) × (r / 10 < 10 ^ (20 - (m + 1))) × (places_in (19 - (m + 1)) (r / 10) + (m + 1) ≡ places_in (19 - m) r + m)
-    go zero e = let z : 20 - m ≡ 1 = omega arith in let y : r < 10 = subst (λ (x : ℕ). r < 10 ^ x) z b in absurd (omega (arith, y))
-    go (suc f) e =
-        let p : 20 - m ≡ suc (suc f) = omega arith in
-        let q : 20 - (m + 1) ≡ suc f = omega arith in
-        let u : 19 - (m + 1) ≡ f = omega arith in
-        let y : r < 10 ^ suc (suc f) = subst (λ (x : ℕ). r < 10 ^ x) p b in
-        let v = pow-suc 10 (suc f) in
-        let d : r / 10 < 10 ^ suc f = omega arith in
-        let one : places_in (19 - m) r ≡ suc (places_in f (r / 10)) = ap (λ (x : ℕ). places_in x r) e ∙ ap (λ (c : Bool). cond c 1 (suc (places_in f (r / 10)))) (le-ltb r 10 t) in
-        let two : places_in (19 - (m + 1)) (r / 10) ≡ places_in f (r / 10) = ap (λ (x : ℕ). places_in x (r / 10)) u in
-        (omega arith, subst (λ (x : ℕ). r / 10 < 10 ^ x) (sym q) d, omega arith)
-
-pub places_end : (f r : ℕ) → r < 10 → places_in f r ≡ 1
-unfolding places_in
-places_end zero r h = refl
-places_end (suc f) r h = ap (λ (c : Bool). cond c 1 (suc (places_in f (r / 10)))) (lt-ltb r 10 h)
+-- ---- how many digits: one more than the power of ten that the number reaches
+pub places_by : (n m r : ℕ) → m ≡ max n 1 → 10 ^ r ≤ m → m < 10 * 10 ^ r → n < 10 ^ 20 → r + 1 ≡ places_of n
+unfolding places_of places_in
+places_by zero m zero e lo hi h = refl
+places_by zero m (suc r) e lo hi h = let p = pow-suc 10 r in let q : 1 ≤ 10 ^ r = one-le-pow r 10 (zero-lt-suc 9) in absurd (omega (arith, e, lo))
+places_by (suc n) m r e lo hi h =
+    let same : m ≡ suc n = omega arith in
+    let k = places_of (suc n) in
+    let are = places_are (suc n) h in
+    ⊎_elim
+    (λ (q : k ≡ r + 1). sym q)
+    (λ (q : (k < r + 1) ⊎ (r + 1 < k)). ⊎_elim
+    (λ (l : k < r + 1). let p : 10 ^ k ≤ 10 ^ r = pow-le-pow_right (zero-lt-suc 9) {i = k} {j = r} (omega arith) in let a = are.0 in absurd (omega arith))
+    (λ (l : r + 1 < k).
+    let p : 10 ^ suc r ≤ 10 ^ (k - 1) = pow-le-pow_right (zero-lt-suc 9) {i = suc r} {j = k - 1} (omega arith) in
+    let a : 10 ^ (k - 1) ≤ suc n = are.1 (omega arith) in
+    let b = pow-suc 10 r in
+    absurd (omega arith))
+    q)
+    (cases_order k (r + 1))
 
 -- ---- the sign and the point
 pub point_some : (d : ℕ) → (d ≡ 0 → ⊥) → point_width d ≡ d + 1

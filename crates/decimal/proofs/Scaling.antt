@@ -2,10 +2,10 @@
 use mathlib.Core.Path.{◌≡◌, refl, sym, ap, ◌∙◌, subst}
 use mathlib.Core.Bool.{Bool, true, false, cond, true≢false}
 use Prim.Native.Nat.{ℕ, zero, suc, ◌+◌, ◌-◌, ◌*◌, ◌/◌, ◌%◌, ◌^◌, ◌≤◌, ◌<◌, min}
-use native.Mathlib.Nat.{le_of_lt, zero-lt-suc, mul_comm, mul_assoc, mul_left_comm, mul_right_comm, mul-mul-mul_comm, mul-add, add-mul, mul-pos, mul-le-mul, mul-div-mul_left, mul-add-div_right, div-div-eq-div-mul, div-eq_of_lt, pow-suc, min-eq_left, min-eq_right, one-mul, div-lt_iff_lt-mul, le-div_iff_mul-le}
+use native.Mathlib.Nat.{le_of_lt, zero-lt-suc, mul_comm, mul_assoc, mul_left_comm, mul_right_comm, mul-mul-mul_comm, mul-add, add-mul, mul-pos, mul-le-mul, mul-div-mul_left, mul-add-div_right, div-div-eq-div-mul, div-eq_of_lt, pow-suc, min-eq_left, min-eq_right}
 use native.Mathlib.Omega.{arith}
-use lib.Dec.{ltb, leb, eqb, lit<, lit≤}
-use lib.Pow.{pow_pos, pow-add, pow_mono, high, shl_exact}
+use lib.Dec.{ltb, leb, eqb, lit≤}
+use lib.Pow.{pow_pos, pow-add, pow_mono, high}
 use lib.Ieee.{Float, nan, inf, fin, binary64, up, down, odd, of_fields, of_bits, is_nan}
 use lib.Ieee.Fits.{down_pos}
 use lib.Ieee.Exact.{HasValue, odd_sign}
@@ -170,9 +170,6 @@ low_zero h k l g =
     let p : 2 ^ 48 ≤ 2 ^ (k - 1) = pow_mono {i = 48} {j = k - 1} (omega arith) in
     div-eq_of_lt (omega arith)
 
-pub shifted : (k : ℕ) → k < 64 → 1 * 2 ^ k % 2 ^ 64 ≡ 2 ^ k
-shifted k h = shl_exact {a = 1} 1 k 64 (lit< tt) (omega arith) ∙ one-mul (2 ^ k)
-
 -- ---- up to 10 ^ 18
 pub kept : (q n : ℕ) → q ≡ n → q < 10 ^ 18 → q ≡ min n (10 ^ 18)
 kept q n e h = e ∙ sym (min-eq_left (subst (λ (x : ℕ). x ≤ 10 ^ 18) e (le_of_lt h)))
@@ -182,17 +179,6 @@ topped n h = sym (min-eq_right h)
 
 pub raised_far : (H k x : ℕ) → 2 ^ 26 ≤ H → 33 < k → 10 ^ 18 ≤ H * 2 ^ k + x
 raised_far H k x h g = let p : 2 ^ 26 * 2 ^ 34 ≤ H * 2 ^ k = mul-le-mul h (pow_mono {i = 34} {j = k} g) in omega arith
-
-pub raised_over : (H k u x : ℕ) → u ≡ 2 ^ k → 10 ^ 18 / u < H → 10 ^ 18 ≤ H * 2 ^ k + x
-raised_over H k u x e h =
-    let l : 10 ^ 18 < H * 2 ^ k = (div-lt_iff_lt-mul (pow_pos k)).0 (subst (λ (v : ℕ). 10 ^ 18 / v < H) e h) in
-    omega arith
-
-pub raised_high : (H k u : ℕ) → u ≡ 2 ^ k → H ≤ 10 ^ 18 / u → H * u ≤ 10 ^ 18
-raised_high H k u e h = (le-div_iff_mul-le (subst (λ (v : ℕ). 0 < v) (sym e) (pow_pos k))).0 h
-
-pub raised_low : (L k u : ℕ) → u ≡ 2 ^ k → L < 2 ^ 26 → k ≤ 33 → L * u ≤ 2 ^ 59
-raised_low L k u e h g = mul-le-mul {n₁ = L} {m₁ = u} {n₂ = 2 ^ 26} {m₂ = 2 ^ 33} (le_of_lt h) (subst (λ (v : ℕ). v ≤ 2 ^ 33) (sym e) (pow_mono {i = k} {j = 33} g))
 
 -- ---- a NaN
 pub units_nan : (d : ℕ) (x : Float) → is_nan x ≡ true → units_of d x ≡ NotANumber

@@ -1,44 +1,44 @@
 -- What the definitions say of some texts and numbers: antt computes them. Assumes nothing.
-use Rattle.std.specs.Prelude.{◌≡◌, refl, true, false, [], ◌∷◌}
+use Rattle.std.specs.Prelude.{◌≡◌, refl, true, false, [], ◌∷◌, Ok, Err}
 use Rattle.std.specs.Float.{binary64}
 use Rattle.std.specs.Float.Ieee.{of_bits}
-use Rattle.decimal.specs.declared.answers.Read.TheVariants.{Whole, Empty, TooLong, NotANumber}
+use Rattle.decimal.specs.declared.answers.NotRead.TheVariants.{Empty, TooLong, NotANumber}
 use Rattle.decimal.specs.declared.answers.Units.TheVariants as units
-use Rattle.decimal.specs.Reading.{is_digit, all_digits, value_from, number_of, read_of, stretch}
+use Rattle.decimal.specs.Reading.{is_digit, all_digits, value_from, whole, number_of, read_of, stretch}
 use Rattle.decimal.specs.Words.{is_blank, keeps, run_of, word_at}
 use Rattle.decimal.specs.Scaled.{away, sized_of, units_of}
 use Rattle.decimal.specs.Printed.{digits_onto, places_in, places_of, sign_of, fraction_onto, text_of, shown, put_in, fits_in}
 
 -- ---- reading: "-0042", "", "-", "12a", "+1", fifteen nines, sixteen digits, and the 42 of "x 42 y"
-pub minus_42 : read_of (45 ∷ 48 ∷ 48 ∷ 52 ∷ 50 ∷ []) ≡ Whole true 42
+pub minus_42 : read_of (45 ∷ 48 ∷ 48 ∷ 52 ∷ 50 ∷ []) ≡ Ok (whole true 42)
 unfolding read_of number_of all_digits is_digit value_from
 minus_42 = refl
 
-pub empty : read_of [] ≡ Empty
+pub empty : read_of [] ≡ Err Empty
 unfolding read_of
 empty = refl
 
-pub lone_minus : read_of (45 ∷ []) ≡ NotANumber
+pub lone_minus : read_of (45 ∷ []) ≡ Err NotANumber
 unfolding read_of number_of
 lone_minus = refl
 
-pub a_letter : read_of (49 ∷ 50 ∷ 97 ∷ []) ≡ NotANumber
+pub a_letter : read_of (49 ∷ 50 ∷ 97 ∷ []) ≡ Err NotANumber
 unfolding read_of number_of all_digits is_digit value_from
 a_letter = refl
 
-pub a_plus : read_of (43 ∷ 49 ∷ []) ≡ NotANumber
+pub a_plus : read_of (43 ∷ 49 ∷ []) ≡ Err NotANumber
 unfolding read_of number_of all_digits is_digit value_from
 a_plus = refl
 
-pub fifteen : read_of (57 ∷ 57 ∷ 57 ∷ 57 ∷ 57 ∷ 57 ∷ 57 ∷ 57 ∷ 57 ∷ 57 ∷ 57 ∷ 57 ∷ 57 ∷ 57 ∷ 57 ∷ []) ≡ Whole false 999999999999999
+pub fifteen : read_of (57 ∷ 57 ∷ 57 ∷ 57 ∷ 57 ∷ 57 ∷ 57 ∷ 57 ∷ 57 ∷ 57 ∷ 57 ∷ 57 ∷ 57 ∷ 57 ∷ 57 ∷ []) ≡ Ok (whole false 999999999999999)
 unfolding read_of number_of all_digits is_digit value_from
 fifteen = refl
 
-pub sixteen : read_of (48 ∷ 48 ∷ 48 ∷ 48 ∷ 48 ∷ 48 ∷ 48 ∷ 48 ∷ 48 ∷ 48 ∷ 48 ∷ 48 ∷ 48 ∷ 48 ∷ 48 ∷ 49 ∷ []) ≡ TooLong
+pub sixteen : read_of (48 ∷ 48 ∷ 48 ∷ 48 ∷ 48 ∷ 48 ∷ 48 ∷ 48 ∷ 48 ∷ 48 ∷ 48 ∷ 48 ∷ 48 ∷ 48 ∷ 48 ∷ 49 ∷ []) ≡ Err TooLong
 unfolding read_of number_of all_digits is_digit value_from
 sixteen = refl
 
-pub inside : read_of (stretch (120 ∷ 32 ∷ 52 ∷ 50 ∷ 32 ∷ 121 ∷ []) 2 4) ≡ Whole false 42
+pub inside : read_of (stretch (120 ∷ 32 ∷ 52 ∷ 50 ∷ 32 ∷ 121 ∷ []) 2 4) ≡ Ok (whole false 42)
 unfolding stretch read_of number_of all_digits is_digit value_from
 inside = refl
 
@@ -57,23 +57,23 @@ no_word = refl
 
 -- ---- doubles: 0.5 and -0.5 at no decimals (a tie, away from zero), -0.25 at two, the double 2.675 at two (it is below the tie), -0.001 at two (no minus
 -- at zero), 1e18, NaN and an infinity
-pub tie_up : units_of 0 (of_bits binary64 0x3FE0000000000000) ≡ units.Whole false 1
+pub tie_up : units_of 0 (of_bits binary64 0x3FE0000000000000) ≡ units.Whole (whole false 1)
 unfolding units_of sized_of away of_bits
 tie_up = refl
 
-pub tie_down : units_of 0 (of_bits binary64 0xBFE0000000000000) ≡ units.Whole true 1
+pub tie_down : units_of 0 (of_bits binary64 0xBFE0000000000000) ≡ units.Whole (whole true 1)
 unfolding units_of sized_of away of_bits
 tie_down = refl
 
-pub quarter : units_of 2 (of_bits binary64 0xBFD0000000000000) ≡ units.Whole true 25
+pub quarter : units_of 2 (of_bits binary64 0xBFD0000000000000) ≡ units.Whole (whole true 25)
 unfolding units_of sized_of away of_bits
 quarter = refl
 
-pub below_a_tie : units_of 2 (of_bits binary64 0x4005666666666666) ≡ units.Whole false 267
+pub below_a_tie : units_of 2 (of_bits binary64 0x4005666666666666) ≡ units.Whole (whole false 267)
 unfolding units_of sized_of away of_bits
 below_a_tie = refl
 
-pub no_minus : units_of 2 (of_bits binary64 0xBF50624DD2F1A9FC) ≡ units.Whole false 0
+pub no_minus : units_of 2 (of_bits binary64 0xBF50624DD2F1A9FC) ≡ units.Whole (whole false 0)
 unfolding units_of sized_of away of_bits
 no_minus = refl
 

@@ -6,6 +6,7 @@ use Rattle.std.specs.Float.{nan, inf, fin}
 use Rattle.std.specs.Float.Ieee.{up, down}
 use Rattle.decimal.specs.declared.answers.Units.{Units}
 use Rattle.decimal.specs.declared.answers.Units.TheVariants.{Whole, NotANumber, Infinite, TooLarge}
+use Rattle.decimal.specs.Reading.{whole}
 
 -- the whole number nearest to n / c: n / c + 1 / 2, cut. A tie goes up, so away from zero, since signs are apart.
 unfoldable pub away : ℕ → ℕ → ℕ
@@ -13,7 +14,7 @@ away n c = (2 * n + c) / (2 * c)
 
 -- q units with a sign. Zero has no minus.
 unfoldable pub sized_of : Bool → ℕ → Units
-sized_of minus q = cond (ltb q (10 ^ 18)) (Whole (cond (eqb q 0) false minus) q) (TooLarge minus)
+sized_of minus q = cond (ltb q (10 ^ 18)) (Whole (whole (cond (eqb q 0) false minus) q)) (TooLarge minus)
 
 -- a finite value is m * 2 ^ e, which is m * up e / down e
 unfoldable pub units_of : ℕ → Float → Units

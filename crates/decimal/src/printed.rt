@@ -2,25 +2,20 @@
 ghost use Rattle.std.specs.Prelude.{◌≡◌, ◌+◌, ◌≤◌, ◌<◌, ◌++◌, length, drop, replicate};
 ghost use Rattle.decimal.specs.Printed.{places_of, digits_onto, sign_of, sign_width, fraction_onto, point_width, Onto, fits_in, put_in, plain_of, Added};
 
+use crate::answers::Whole;
 use crate::small::ten_to;
 
 // How many digits n has, one for 0.
 fn places(n: u64) -> usize
     ensures { (result ≡ places_of n) × (result ≤ 20) }
 {
-    let mut rest = n;
-    let mut more: usize = 0;
-    while 10 <= rest {
-        rest = rest / 10;
-        more += 1;
-    }
-    more + 1
+    n.max(1).ilog10() as usize + 1
 }
 
 fn sign_width(minus: bool) -> usize
     ensures { (result ≡ sign_width minus) × (result ≤ 1) }
 {
-    if minus { 1 } else { 0 }
+    usize::from(minus)
 }
 
 fn point_width(decimals: u8) -> usize
@@ -37,7 +32,7 @@ fn figure(d: u64) -> u8
     requires { d < 10 }
     ensures { result ≡ 48 + d }
 {
-    48 + d as u8
+    b'0' + d as u8
 }
 
 // The last k digits of n, at `from`.
@@ -45,12 +40,11 @@ fn spell(out: &mut [u8], from: usize, k: usize, n: u64)
     requires { from + k ≤ length out.old }
     ensures { Onto from (digits_onto k n (drop (from + k) out.old)) out.old out.new }
 {
-    let mut i = k;
     let mut rest = n;
-    while 0 < i {
-        i -= 1;
+    // By index: the proof says of each place what stands behind it.
+    for i in (0..k).rev() {
         out[from + i] = figure(rest % 10);
-        rest = rest / 10;
+        rest /= 10;
     }
 }
 
@@ -59,11 +53,7 @@ pub fn blanks(out: &mut [u8], from: usize, k: usize)
     requires { from + k ≤ length out.old }
     ensures { Onto from (replicate k 32 ++ drop (from + k) out.old) out.old out.new }
 {
-    let mut i = k;
-    while 0 < i {
-        i -= 1;
-        out[from + i] = 32;
-    }
+    out[from..from + k].fill(b' ');
 }
 
 fn sign(out: &mut [u8], from: usize, minus: bool)
@@ -71,7 +61,7 @@ fn sign(out: &mut [u8], from: usize, minus: bool)
     ensures { Onto from (sign_of minus ++ drop (from + sign_width minus) out.old) out.old out.new }
 {
     if minus {
-        out[from] = 45;
+        out[from] = b'-';
     }
 }
 
@@ -84,7 +74,7 @@ fn fraction(out: &mut [u8], from: usize, decimals: u8, part: u64)
         return;
     }
     spell(out, from + 1, decimals as usize, part);
-    out[from] = 46;
+    out[from] = b'.';
 }
 
 // The field, from its end to its start: each part leaves what stands after it.
@@ -111,23 +101,20 @@ fn field(
     blanks(out, at, pad);
 }
 
-// size units of 10^-decimals into out[at..at + width]. Where it does not fit nothing is written.
-pub fn put(out: &mut [u8], at: usize, width: usize, minus: bool, size: u64, decimals: u8) -> bool
+// n units of 10^-decimals into out[at..at + width]. Where it does not fit nothing is written.
+pub fn put(out: &mut [u8], at: usize, width: usize, n: Whole, decimals: u8) -> bool
     requires { decimals ≤ 6 }
-    ensures value { result ≡ fits_in (length out.old) at width decimals minus size }
-    ensures out_after { out.new ≡ put_in at width decimals minus size out.old }
+    ensures value { result ≡ fits_in (length out.old) at width decimals n.minus n.size }
+    ensures out_after { out.new ≡ put_in at width decimals n.minus n.size out.old }
 {
+    let Whole { minus, size } = n;
     let p = ten_to(decimals);
     let whole = size / p;
     let k = places(whole);
     let need = sign_width(minus) + (k + point_width(decimals));
-    if out.len() < at {
-        return false;
-    }
-    if out.len() - at < width {
-        return false;
-    }
-    if width < need {
+
+    // The field's end is not added up before the test: the sum could wrap.
+    if out.len() < at || out.len() - at < width || width < need {
         return false;
     }
     field(out, at, width - need, minus, k, whole, decimals, size % p);

@@ -2,7 +2,7 @@
 ghost use Rattle.std.specs.Prelude.{◌≡◌, ◌+◌, ◌-◌, ◌*◌, ◌/◌, ◌^◌, ◌≤◌, ◌<◌, min};
 ghost use Rattle.decimal.specs.Scaled.{away, sized_of, units_of};
 
-use crate::answers::Units;
+use crate::answers::{Units, Whole};
 use crate::small::ten_to;
 
 const TWO_25: u64 = 1 << 25;
@@ -16,7 +16,7 @@ const TWO_63: u64 = 1 << 63;
 const TEN_18: u64 = 1000000000000000000;
 
 // The number high * 2^26 + low.
-#[derive(Drop)]
+#[derive(Clone, Copy)]
 struct Wide {
     high: u64,
     low: u64,
@@ -59,8 +59,7 @@ fn raised(high: u64, low: u64, k: u64) -> u64
     if TEN_18 / u < high {
         return TEN_18;
     }
-    let q = high * u + (low * u + TWO_25) / TWO_26;
-    if q < TEN_18 { q } else { TEN_18 }
+    (high * u + (low * u + TWO_25) / TWO_26).min(TEN_18)
 }
 
 // m * 2^place / 2^1074 * p, to nearest, and no more than 10^18.
@@ -80,10 +79,11 @@ fn sized(minus: bool, q: u64) -> Units
     ensures { result ≡ sized_of minus q }
 {
     if q < TEN_18 {
-        if q == 0 {
-            return Units::Whole(false, 0);
-        }
-        return Units::Whole(minus, q);
+        // Zero has no minus.
+        return Units::Whole(Whole {
+            minus: minus && q != 0,
+            size: q,
+        });
     }
     Units::TooLarge(minus)
 }
@@ -96,7 +96,7 @@ pub fn units(x: f64, decimals: u8) -> Units
     if float::is_nan(x) {
         return Units::NotANumber;
     }
-    let b = f64::to_bits(x);
+    let b = x.to_bits();
     let minus = TWO_63 <= b;
     let e = b % TWO_63 / TWO_52;
     let t = b % TWO_52;

@@ -1,7 +1,7 @@
 -- Places in a matrix, and lists that loops store into, for every size; and from these to the definition's tables.
-use Prim.Native.Nat.{ℕ, zero, suc, ◌+◌, ◌*◌, ◌/◌, ◌%◌, ◌≤◌, ◌<◌, ◌-◌}
-use mathlib.Core.Path.{◌≡◌, refl, sym, ap, ap₂, ◌∙◌, subst}
-use mathlib.Core.List.{List, ◌∷◌, ◌++◌}
+use Prim.Native.Nat.{ℕ, zero, suc, ◌+◌, ◌*◌, ◌/◌, ◌%◌, ◌≤◌, ◌<◌}
+use mathlib.Core.Path.{◌≡◌, refl, sym, ap, ◌∙◌, subst}
+use mathlib.Core.List.{List, ◌∷◌}
 use mathlib.Core.Logic.{◌⊎◌, inl, inr, ⊎_elim}
 use mathlib.Core.Bool.{Bool, true, false, cond}
 use lib.Dec.{ltb, eqb}
@@ -9,14 +9,12 @@ use borrow.Author.Tests.{ltb-true, ltb-false, eqb-true, eqb-false}
 use native.Mathlib.Omega.{arith}
 use native.Mathlib.Numerals.{add-one}
 use native.Mathlib.Nat.{mul-le-mul, suc-mul, div-add-mod', mod-lt, div-lt_iff_lt-mul, not-suc-le-zero, le_of_suc-le-suc}
-use lib.ListN.{length, get_or, set, take, drop, replicate, length-set, length-append, get_or-append}
-use lib.Seq.{get_or-set_same, get_or-set_other, ext_get_or, get_or-take, length-take-le, take_all, get_or-append-add}
+use lib.ListN.{length, get_or, set, take, replicate, length-set}
+use lib.Seq.{get_or-set_same, get_or-set_other, ext_get_or, get_or-take, length-take-le}
 use lib.Ieee.{Float, nan}
-use Rattle.definition.specs.Num.{tabulate, matrix, at, ent, zeros, sum_but, sum_from, ◌⊕◌, 0ᶠ}
-use Rattle.definition.specs.Dense as Dense
+use Rattle.definition.specs.Num.{tabulate, matrix, at, ent, zeros, sum_to, sum_but, sum_from, ◌⊕◌, 0ᶠ}
 use Rattle.laws.specs.Lists.{some_column, vector_at, matrix_at, length_tab, tab_cong}
 use Rattle.laws.specs.Passes.{block_in}
-use Rattle.laws.specs.Backward.{block_long, part_row}
 use Rattle.dense.specs.Views.{vec, rect}
 use Rattle.dense.specs.Places.{Saved}
 
@@ -319,54 +317,24 @@ both-vec op m p q out h e =
 pub flat-at : (c k : ℕ) (a : List Float) → ent c a (k / c) (k % c) ≡ at a k
 flat-at c k a = ap (λ (x : ℕ). at a x) (div-add-mod' k c)
 
-pub both-rect : (op : Float → Float → Float) (r c : ℕ) (p q out : List Float) → r * c ≤ length p → out ≡ row (both op p q) 0 (r * c) p → rect r c out ≡ matrix r c (λ i j. op (ent c (rect r c p) i j) (ent c (rect r c q) i j))
-unfolding both vec rect
-both-rect op r c p q out h e =
-    both-vec op (r * c) p q out h e
-    ∙ tab_cong (r * c) 0 (both op (vec (r * c) p) (vec (r * c) q)) (λ k. op (ent c (rect r c p) (k / c) (k % c)) (ent c (rect r c q) (k / c) (k % c))) (λ k a b.
-    let l = flat-at c k (rect r c p) in
-    let g = flat-at c k (rect r c q) in
+-- a square one, place by place
+pub flat_both : (op : Float → Float → Float) (m : ℕ) (p q out : List Float) → out ≡ tabulate (m * m) (λ k. op (at (vec (m * m) p) k) (at (vec (m * m) q) k))
+    → out ≡ matrix m m (λ i j. op (ent m (rect m m p) i j) (ent m (rect m m q) i j))
+unfolding vec rect
+flat_both op m p q out e =
+    e
+    ∙ tab_cong (m * m) 0 (λ k. op (at (vec (m * m) p) k) (at (vec (m * m) q) k)) (λ k. op (ent m (rect m m p) (k / m) (k % m)) (ent m (rect m m q) (k / m) (k % m))) (λ k a b.
+    let l = flat-at m k (rect m m p) in
+    let g = flat-at m k (rect m m q) in
     cc)
 
--- ---- moves: n places of a, from the first on
-
-unfoldable pub copied : {A : Type 0} → A → List A → ℕ → A
-copied d a k = get_or a k d
-
-pub copied_next : {A : Type 0} (d : A) (a l out : List A) (k : ℕ) → out ≡ row (copied d a) 0 k l → set out k (get_or a k d) ≡ row (copied d a) 0 (k + 1) l
-unfolding copied
-copied_next d a l out k e = vec_next (copied d a) k l out (get_or a k d) e refl
-
-pub take-copied : {A : Type 0} (d : A) (a l out : List A) (n : ℕ) → n ≤ length a → n ≤ length l → out ≡ row (copied d a) 0 n l → take n out ≡ take n a
-unfolding copied
-take-copied d a l out n h g e =
-    let k : length out ≡ length l = ap length e ∙ length-row (copied d a) 0 n l in
-    ext_get_or d (take n out) (take n a) (length-take-le n out (omega arith) ∙ sym (length-take-le n a h))
-    (λ i b.
-    let q : i < n = omega (arith, length-take-le n out (omega arith)) in
-    get_or-take n out i d q ∙ ap (λ (x : List _). get_or x i d) e ∙ row-at (copied d a) 0 n l i d i (omega arith) q (omega arith) ∙ sym (get_or-take n a i d q))
-
--- a part that was loaded, and one that was saved to
-pub loaded : (a l out : List Float) (n : ℕ) → n ≡ length a → n ≤ length l → out ≡ row (copied nan a) 0 n l → vec (length a) out ≡ a
-unfolding vec
-loaded a l out n h g e = ap (λ (k : ℕ). take k out) (sym h) ∙ take-copied nan a l out n (omega arith) g e ∙ take_all n a (omega arith)
-
-pub saved : {A : Type 0} (d : A) (a l out : List A) (n : ℕ) → n ≡ length l → n ≤ length a → out ≡ row (copied d a) 0 n l → Saved (length l) a out
-saved d a l out n h g e =
-    let k : length out ≡ length l = ap length e ∙ length-row (copied d a) 0 n l in
-    record { holds = sym (take_all n out (omega arith)) ∙ take-copied d a l out n g (omega arith) e ∙ ap (λ (x : ℕ). take x a) h; kept = k }
-
--- the same for a caller that knows the part's length
+-- ---- moves: a part that was loaded, or that was saved to, for a caller that knows its length
 pub loaded_rect : (r c n : ℕ) (a : List Float) {s : List Float} → n ≡ r * c → vec n a ≡ s → rect r c a ≡ s
 unfolding vec rect
 loaded_rect r c n a h e = ap (λ (k : ℕ). take k a) (sym h) ∙ e
 
 pub loaded_vec : (k : ℕ) {n : ℕ} (a : List Float) {s : List Float} → n ≡ k → vec n a ≡ s → vec k a ≡ s
 loaded_vec k a h e = ap (λ (i : ℕ). vec i a) (sym h) ∙ e
-
--- and row i of a design
-pub loaded_row : (i m : ℕ) (l r : List Float) → i * m + m ≤ length l → vec (length (take (i * m + m - i * m) (drop (i * m) l))) r ≡ take (i * m + m - i * m) (drop (i * m) l) → vec m r ≡ Dense.row m l i
-loaded_row i m l r h e = loaded_vec m r (block_long i m l h) e ∙ part_row i m l h
 
 pub saved_vec : (k : ℕ) {n : ℕ} {a out : List Float} → n ≡ k → Saved n a out → out ≡ vec k a
 unfolding vec
@@ -376,41 +344,12 @@ pub saved_rect : (r c : ℕ) {n : ℕ} {a out : List Float} → n ≡ r * c → 
 unfolding vec rect
 saved_rect r c h s = saved_vec (r * c) h s
 
--- a row after the others
-pub next_row : (k r : ℕ) (l out x : List Float) → r * k + k ≤ length l → k ≤ length x → out ≡ row (copied nan x) (r * k) k l → rect (r + 1) k out ≡ rect r k l ++ vec k x
-unfolding rect vec copied
-next_row k r l out x h g e =
-    let n : length out ≡ length l = ap length e ∙ length-row (copied nan x) (r * k) k l in
-    let w : (r + 1) * k ≡ r * k + k = omega arith in
-    let a : length (take (r * k) l) ≡ r * k = length-take-le (r * k) l (omega arith) in
-    let b : length (take k x) ≡ k = length-take-le k x g in
-    let o : length (take ((r + 1) * k) out) ≡ (r + 1) * k = length-take-le ((r + 1) * k) out (omega arith) in
-    ext_get_or nan (take ((r + 1) * k) out) (take (r * k) l ++ take k x) (o ∙ sym (length-append (take (r * k) l) (take k x) ∙ ap₂ ◌+◌ a b ∙ sym w))
-    (λ i q.
-    let q' : i < (r + 1) * k = omega arith in
-    get_or-take ((r + 1) * k) out i nan q' ∙ ap (λ (y : List Float). get_or y i nan) e
-    ∙ ⊎_elim
-    (λ (s : i < r * k).
-    row_before (copied nan x) (r * k) k l i nan s
-    ∙ sym (get_or-take (r * k) l i nan s)
-    ∙ sym (get_or-append (take (r * k) l) (take k x) nan i (omega arith)))
-    (λ (s : r * k ≤ i).
-    let d : i ≡ length (take (r * k) l) + (i - r * k) = omega arith in
-    row-at (copied nan x) (r * k) k l (i - r * k) nan i (omega arith) (omega arith) h
-    ∙ sym (get_or-take k x (i - r * k) nan (omega arith))
-    ∙ sym (ap (λ (y : ℕ). get_or (take (r * k) l ++ take k x) y nan) d ∙ get_or-append-add (take (r * k) l) (take k x) (i - r * k) nan))
-    (lt_or_le i (r * k)))
-
 -- an array that is all +0.0
 pub vec-zeros : (k n : ℕ) → k ≤ n → vec k (replicate n 0ᶠ) ≡ zeros k
 unfolding vec
 vec-zeros zero n h = refl
 vec-zeros (suc k) zero h = absurd (not-suc-le-zero h)
 vec-zeros (suc k) (suc n) h = ap (λ (l : List Float). 0ᶠ ∷ l) (vec-zeros k n (le_of_suc-le-suc h))
-
-pub rect-zeros : (r c n : ℕ) → r * c ≤ n → rect r c (replicate n 0ᶠ) ≡ zeros (r * c)
-unfolding rect vec
-rect-zeros r c n h = vec-zeros (r * c) n h
 
 -- ---- sums that leave terms out, and sums from a first value
 
@@ -435,3 +374,8 @@ from_next f k r s x h e = rw add-one (cc)
 
 pub from_end : (f : ℕ → Float) (r : Float) {k n : ℕ} {s : Float} → s ≡ sum_from r k f → k ≤ n → n ≤ k → s ≡ sum_from r n f
 from_end f r {k} {n} {s} h a b = let e : k ≡ n = omega arith in cc
+
+pub from_zero : (n : ℕ) (f : ℕ → Float) → sum_from 0ᶠ n f ≡ sum_to n f
+unfolding sum_from sum_to
+from_zero zero f = refl
+from_zero (suc n) f = ap (λ (s : Float). s ⊕ f n) (from_zero n f)

@@ -3,3 +3,4 @@ pub mod Places
 pub mod Columns
 pub mod Pairs
 pub mod Told
+pub mod Entries

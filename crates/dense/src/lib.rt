@@ -1,17 +1,20 @@
 // dense.rs: vectors in [f64; 8] and matrices in [f64; 64], row by row. A contract speaks of the places in use:
-// `vec m` of a vector, `mat m` of a square matrix, `rect r c` of one of r rows and c columns.
+// `vec m` of a vector, `mat m` of a square matrix, `rect r c` of one of r rows and c columns. The arrays are of fixed size, since nothing is allocated;
+// the sizes stay numbers, with m ≤ 8 in the clauses (DECISIONS 148).
 #![tactic(auto)]
 
-ghost use Rattle.std.specs.Prelude.{◌≡◌, List, ◌++◌, ◌≤◌, ◌<◌, ◌+◌, ◌*◌, Float, set, length};
-ghost use Rattle.definition.specs.Num.{◌⊕◌, ◌⊗◌, is_zero, tabulate, matrix, zeros, at, ent, sum_from};
+ghost use Rattle.std.specs.Prelude.{◌≡◌, ℕ, Bool, List, ◌++◌, ◌≤◌, ◌<◌, ◌+◌, ◌*◌, Float, set, length};
+ghost use Rattle.definition.specs.Num.{is_zero, tabulate, matrix, zeros, at, ent, sum_to, sum_from};
 ghost use Rattle.definition.specs.Dense.{dot, axpy, over, scaled, row, mat_vec, mat_tVec, mat_tVec_at};
 ghost use Rattle.definition.specs.Dense.{outer_sub, outer_scaled, plus, minus, symmetrise, sq_term, frob_sq, abs_term, abs_column, abs_quad_form};
+ghost use Rattle.definition.specs.Run.{any_of, any_to};
 ghost use Rattle.definition.specs.Refusals.{not_finite};
 ghost use Rattle.dense.specs.Views.{vec, mat, rect};
 ghost use Rattle.dense.specs.Columns.{more_at, more_kept_at, column_less, column_kept, outer_more_at};
 ghost use Rattle.dense.specs.Pairs.{mean_of, Paired};
 ghost use Rattle.dense.specs.Places.{Within, Cell, Saved};
 ghost use Rattle.dense.specs.Told.{Told};
+ghost use Rattle.dense.specs.Entries.{ReadyBelow, GivesBelow, ReadyWithin, GivesWithin};
 
 // What a sum starts from.
 pub const EMPTY: f64 = 0.0;
@@ -23,25 +26,30 @@ fn is_zero(x: f64) -> bool
     x == 0.0
 }
 
-// ---- proof devices: `sized`, `sized8` and `sized_bytes` do nothing at run time. A reference to an array does not tell a
-// proof how long its list is; lent as a slice, it does. A kernel that writes through `&mut` calls one of them first.
+// ---- whether a test holds somewhere. All places are looked at, with no branch on what is found: a call takes as long for any values.
 
-pub fn sized(a: &[f64; 64])
-    ensures { length a.now ≡ 64 }
+// At a place below k.
+pub fn any<F: Fn(usize) -> bool>(k: usize, test: F) -> bool
+    requires { (i : _) → i < k → F.pre test i }
+    ensures { (q : ℕ → Bool) → ((i : ℕ) (b : Bool) → i < k → F.post test i b → b ≡ q i) → result ≡ any_to k q }
 {
-    let s: &[f64] = a;
+    let mut found = false;
+    for i in 0..k {
+        found = found | test(i);
+    }
+    found
 }
 
-pub fn sized8(a: &[f64; 8])
-    ensures { length a.now ≡ 8 }
+// Of an entry of a list.
+pub fn any_of<T: Copy, F: Fn(T) -> bool>(s: &[T], test: F) -> bool
+    requires { F.IsAlwaysCallable test }
+    ensures { (q : T → Bool) → ((v : T) (b : Bool) → F.post test v b → b ≡ q v) → result ≡ any_of q s.now }
 {
-    let s: &[f64] = a;
-}
-
-pub fn sized_bytes(a: &[u8; 8])
-    ensures { length a.now ≡ 8 }
-{
-    let s: &[u8] = a;
+    let mut found = false;
+    for v in s {
+        found = found | test(*v);
+    }
+    found
 }
 
 // ---- whether all is finite. A kernel that tells it looks through its result after its loop: the loop stays as it is, and
@@ -51,29 +59,23 @@ pub fn sized_bytes(a: &[u8; 8])
 pub fn not_finite(a: &[f64]) -> bool
     ensures { result ≡ not_finite a.now }
 {
-    let mut found = false;
-    for i in 0..a.len() {
-        found = found | !float::is_finite(a[i]);
-    }
-    found
+    any_of(a, |x| !float::is_finite(x))
 }
 
-// The same of a vector, of a matrix of r rows and c columns, and of a square one.
+// The same of the places in use: of a vector, of a matrix of r rows and c columns, and of a square one. One thing by a name for each view that contracts
+// have: vec, rect, mat.
 pub fn vector_not_finite(x: &[f64; 8], m: usize) -> bool
     requires { m ≤ 8 }
     ensures { result ≡ not_finite (vec m x.now) }
 {
-    let all: &[f64] = x;
-    not_finite(&all[0..m])
+    not_finite(&x[..m])
 }
 
 pub fn rect_not_finite(a: &[f64; 64], r: usize, c: usize) -> bool
     requires { (r ≤ 8) × (c ≤ 8) }
     ensures { result ≡ not_finite (rect r c a.now) }
 {
-    let all: &[f64] = a;
-    let e = r * c;
-    not_finite(&all[0..e])
+    not_finite(&a[..r * c])
 }
 
 pub fn matrix_not_finite(a: &[f64; 64], m: usize) -> bool
@@ -90,6 +92,7 @@ pub fn nth(x: &[f64; 8], m: usize, i: usize) -> f64
     x[i]
 }
 
+// An entry of a square matrix, and below of any: one thing by a name for each view that contracts have, mat and rect.
 pub fn get(a: &[f64; 64], m: usize, i: usize, j: usize) -> f64
     requires { Within m i j }
     ensures { result ≡ ent m (mat m a.now) i j }
@@ -119,15 +122,90 @@ pub fn set_cell(a: &mut [f64; 64], r: usize, c: usize, i: usize, j: usize, v: f6
     a[i * c + j] = v;
 }
 
+// ---- by a closure: a sum by its terms, a vector and a matrix by their entries, and a matrix that is changed entry by entry. The compiler puts the
+// closure into the loop.
+
+// s and n terms, from the first on.
+fn sum_more<F: Fn(usize) -> f64>(s: f64, n: usize, term: F) -> f64
+    requires { ReadyBelow n (F.pre term) }
+    ensures { (f : ℕ → Float) → GivesBelow n (F.post term) f → result ≡ sum_from s n f }
+{
+    let mut s = s;
+    for i in 0..n {
+        s = s + term(i);
+    }
+    s
+}
+
+// The sum of n terms, from the first on.
+pub fn sum<F: Fn(usize) -> f64>(n: usize, term: F) -> f64
+    requires { ReadyBelow n (F.pre term) }
+    ensures { (f : ℕ → Float) → GivesBelow n (F.post term) f → result ≡ sum_to n f }
+{
+    sum_more(EMPTY, n, term)
+}
+
+// A vector of m entries; 0 behind them.
+pub fn vector<F: Fn(usize) -> f64>(m: usize, entry: F) -> [f64; 8]
+    requires size { m ≤ 8 }
+    requires each { ReadyBelow m (F.pre entry) }
+    ensures { (f : ℕ → Float) → GivesBelow m (F.post entry) f → vec m result ≡ tabulate m f }
+{
+    let mut out = [0.0; 8];
+    for i in 0..m {
+        out[i] = entry(i);
+    }
+    out
+}
+
+// A matrix of r rows and c columns.
+pub fn matrix_into<F: Fn(usize, usize) -> f64>(out: &mut [f64; 64], r: usize, c: usize, entry: F)
+    requires size { (r ≤ 8) × (c ≤ 8) }
+    requires each { ReadyWithin r c (F.pre entry) }
+    ensures { (f : ℕ → ℕ → Float) → GivesWithin r c (F.post entry) f → rect r c out.new ≡ matrix r c f }
+{
+    for i in 0..r {
+        for j in 0..c {
+            let v = entry(i, j);
+            set_cell(out, r, c, i, j, v);
+        }
+    }
+}
+
+// Each entry of a matrix by what it was, in place.
+pub fn change<F: Fn(f64, usize, usize) -> f64>(p: &mut [f64; 64], r: usize, c: usize, entry: F)
+    requires size { (r ≤ 8) × (c ≤ 8) }
+    requires each { (x : Float) → ReadyWithin r c (F.pre entry x) }
+    ensures { (f : Float → ℕ → ℕ → Float)
+        → ((x : Float) → GivesWithin r c (F.post entry x) (f x))
+        → rect r c p.new ≡ matrix r c (λ i j. f (ent c (rect r c p.old) i j) i j) }
+{
+    for i in 0..r {
+        for j in 0..c {
+            let v = entry(cell(p, r, c, i, j), i, j);
+            set_cell(p, r, c, i, j, v);
+        }
+    }
+}
+
+// The first n places of p, each by itself and by q's, in place; a matrix as one row.
+fn combine<const N: usize, F: Fn(f64, f64) -> f64>(p: &mut [f64; N], q: &[f64; N], n: usize, of: F)
+    requires room { n ≤ N }
+    requires each { (x y : Float) → F.pre of x y }
+    ensures { (f : Float → Float → Float)
+        → ((x y v : Float) → F.post of x y v → v ≡ f x y)
+        → vec n p.new ≡ tabulate n (λ i. f (at (vec n p.old) i) (at (vec n q.now) i)) }
+{
+    for k in 0..n {
+        p[k] = of(p[k], q[k]);
+    }
+}
+
 pub fn dot(a: &[f64; 8], b: &[f64; 8], m: usize) -> f64
     requires { m ≤ 8 }
     ensures { result ≡ dot m (vec m a.now) (vec m b.now) }
 {
-    let mut s = EMPTY;
-    for i in 0..m {
-        s = s + nth(a, m, i) * nth(b, m, i);
-    }
-    s
+    sum(m, |i| nth(a, m, i) * nth(b, m, i))
 }
 
 // y + s x, in place, nothing left out; and whether all of it is finite.
@@ -135,10 +213,7 @@ pub fn axpy(y: &mut [f64; 8], s: f64, x: &[f64; 8], m: usize) -> bool
     requires { m ≤ 8 }
     ensures { Told (axpy m (vec m y.old) s (vec m x.now)) (vec m y.new) result }
 {
-    sized8(y);
-    for i in 0..m {
-        y[i] = y[i] + s * x[i];
-    }
+    combine(y, x, m, |y, x| y + s * x);
     !vector_not_finite(y, m)
 }
 
@@ -147,11 +222,7 @@ pub fn scaled(x: &[f64; 8], s: f64, m: usize) -> [f64; 8]
     requires { m ≤ 8 }
     ensures { vec m result ≡ scaled m (vec m x.now) s }
 {
-    let mut out = [0.0; 8];
-    for i in 0..m {
-        out[i] = nth(x, m, i) * s;
-    }
-    out
+    vector(m, |i| nth(x, m, i) * s)
 }
 
 // Each entry of x over s.
@@ -159,11 +230,7 @@ pub fn over(x: &[f64; 8], s: f64, m: usize) -> [f64; 8]
     requires { m ≤ 8 }
     ensures { vec m result ≡ over m (vec m x.now) s }
 {
-    let mut out = [0.0; 8];
-    for i in 0..m {
-        out[i] = nth(x, m, i) / s;
-    }
-    out
+    vector(m, |i| nth(x, m, i) / s)
 }
 
 // out and column j of M times x_j.
@@ -171,7 +238,6 @@ fn add_column(out: &mut [f64; 8], a: &[f64; 64], x: &[f64; 8], m: usize, j: usiz
     requires { (m ≤ 8) × (j < m) }
     ensures { vec m out.new ≡ tabulate m (more_at m (mat m a.now) (vec m x.now) j (vec m out.old)) }
 {
-    sized8(out);
     let xj = nth(x, m, j);
     for i in 0..m {
         out[i] = out[i] + get(a, m, i, j) * xj;
@@ -183,7 +249,6 @@ fn add_column_kept(out: &mut [f64; 8], a: &[f64; 64], x: &[f64; 8], m: usize, j:
     requires { (m ≤ 8) × (j < m) }
     ensures { vec m out.new ≡ tabulate m (more_kept_at m (mat m a.now) (vec m x.now) j (vec m out.old)) }
 {
-    sized8(out);
     if is_zero(nth(x, m, j)) {
         return;
     }
@@ -207,7 +272,6 @@ fn sub_column(p: &mut [f64; 64], a: &[f64; 8], b: &[f64; 8], m: usize, j: usize)
     requires { (m ≤ 8) × (j < m) }
     ensures { mat m p.new ≡ matrix m m (column_less m (mat m p.old) (vec m a.now) (vec m b.now) j) }
 {
-    sized(p);
     let bj = nth(b, m, j);
     for i in 0..m {
         let v = get(p, m, i, j) - nth(a, m, i) * bj;
@@ -220,7 +284,6 @@ fn sub_column_kept(p: &mut [f64; 64], a: &[f64; 8], b: &[f64; 8], m: usize, j: u
     requires { (m ≤ 8) × (j < m) }
     ensures { mat m p.new ≡ matrix m m (column_kept m (mat m p.old) (vec m a.now) (vec m b.now) j) }
 {
-    sized(p);
     if is_zero(nth(b, m, j)) {
         return;
     }
@@ -233,7 +296,6 @@ pub fn outer_sub(p: &mut [f64; 64], a: &[f64; 8], b: &[f64; 8], m: usize) -> boo
     ensures { Told (outer_sub m (mat m p.old) (vec m a.now) (vec m b.now))
         (mat m p.new) result }
 {
-    sized(p);
     for j in 0..m {
         sub_column_kept(p, a, b, m, j);
     }
@@ -245,13 +307,7 @@ pub fn outer_add(p: &mut [f64; 64], a: &[f64; 8], b: &[f64; 8], m: usize)
     requires { m ≤ 8 }
     ensures { mat m p.new ≡ matrix m m (outer_more_at m (vec m a.now) (vec m b.now) (mat m p.old)) }
 {
-    sized(p);
-    for i in 0..m {
-        for j in 0..m {
-            let v = get(p, m, i, j) + nth(a, m, i) * nth(b, m, j);
-            put(p, m, i, j, v);
-        }
-    }
+    change(p, m, m, |x, i, j| x + nth(a, m, i) * nth(b, m, j));
 }
 
 // s a b', as (s a) b'.
@@ -260,31 +316,16 @@ pub fn outer_scaled(a: &[f64; 8], b: &[f64; 8], s: f64, m: usize) -> [f64; 64]
     ensures { mat m result ≡ outer_scaled m (vec m a.now) (vec m b.now) s }
 {
     let mut out = [0.0; 64];
-    for i in 0..m {
-        for j in 0..m {
-            let v = s * nth(a, m, i) * nth(b, m, j);
-            put(&mut out, m, i, j, v);
-        }
-    }
+    matrix_into(&mut out, m, m, |i, j| s * nth(a, m, i) * nth(b, m, j));
     out
 }
 
-// s + a x, also where x is 0: an infinity times 0 is a NaN, and M' x keeps it.
-fn plus_times(s: f64, a: f64, x: f64) -> f64
-    ensures { result ≡ s ⊕ a ⊗ x }
-{
-    s + a * x
-}
-
+// Entry j of M' x. No term is left out where x is 0: an infinity times 0 is a NaN.
 fn mat_t_vec_at(a: &[f64; 64], x: &[f64; 8], m: usize, j: usize) -> f64
     requires { (m ≤ 8) × (j < m) }
     ensures { result ≡ mat_tVec_at m (mat m a.now) (vec m x.now) j }
 {
-    let mut s = EMPTY;
-    for i in 0..m {
-        s = plus_times(s, get(a, m, i, j), nth(x, m, i));
-    }
-    s
+    sum(m, |i| get(a, m, i, j) * nth(x, m, i))
 }
 
 // M' x.
@@ -292,11 +333,7 @@ pub fn mat_t_vec(a: &[f64; 64], x: &[f64; 8], m: usize) -> [f64; 8]
     requires { m ≤ 8 }
     ensures { vec m result ≡ mat_tVec m (mat m a.now) (vec m x.now) }
 {
-    let mut out = [0.0; 8];
-    for j in 0..m {
-        out[j] = mat_t_vec_at(a, x, m, j);
-    }
-    out
+    vector(m, |j| mat_t_vec_at(a, x, m, j))
 }
 
 // Both mirrored entries, (i, j) and (j, i), become half of their sum.
@@ -314,7 +351,6 @@ fn mirror_column(p: &mut [f64; 64], m: usize, j: usize)
     requires { (m ≤ 8) × (j < m) }
     ensures { (q : List Float) → Paired m j 0 q p.old → Paired m (j + 1) 0 q p.new }
 {
-    sized(p);
     for i in 0..j {
         mirror(p, m, i, j);
     }
@@ -325,7 +361,6 @@ pub fn symmetrize_in_place(p: &mut [f64; 64], m: usize)
     requires { m ≤ 8 }
     ensures { mat m p.new ≡ symmetrise m (mat m p.old) }
 {
-    sized(p);
     for j in 0..m {
         mirror_column(p, m, j);
     }
@@ -336,10 +371,7 @@ pub fn clear(p: &mut [f64; 64], m: usize)
     requires { m ≤ 8 }
     ensures { mat m p.new ≡ zeros (m * m) }
 {
-    sized(p);
-    for k in 0..m * m {
-        p[k] = 0.0;
-    }
+    p[..m * m].fill(0.0);
 }
 
 // P + Q, in place.
@@ -347,10 +379,7 @@ pub fn add(p: &mut [f64; 64], q: &[f64; 64], m: usize)
     requires { m ≤ 8 }
     ensures { mat m p.new ≡ plus m (mat m p.old) (mat m q.now) }
 {
-    sized(p);
-    for k in 0..m * m {
-        p[k] = p[k] + q[k];
-    }
+    combine(p, q, m * m, |x, y| x + y);
 }
 
 // P - Q, in place.
@@ -358,10 +387,7 @@ pub fn sub(p: &mut [f64; 64], q: &[f64; 64], m: usize)
     requires { m ≤ 8 }
     ensures { mat m p.new ≡ minus m (mat m p.old) (mat m q.now) }
 {
-    sized(p);
-    for k in 0..m * m {
-        p[k] = p[k] - q[k];
-    }
+    combine(p, q, m * m, |x, y| x - y);
 }
 
 // s and the terms of column j of |z|' |M| |z|.
@@ -370,11 +396,11 @@ fn abs_column(s: f64, z: &[f64; 8], a: &[f64; 64], m: usize, j: usize) -> f64
     ensures { result ≡ sum_from s m (abs_term m (vec m z.now) (mat m a.now) j) }
 {
     let zj = float::abs(nth(z, m, j));
-    let mut s = s;
-    for i in 0..m {
-        s = s + float::abs(nth(z, m, i)) * zj * float::abs(get(a, m, i, j));
-    }
-    s
+    sum_more(
+        s,
+        m,
+        |i| float::abs(nth(z, m, i)) * zj * float::abs(get(a, m, i, j)),
+    )
 }
 
 fn abs_column_kept(s: f64, z: &[f64; 8], a: &[f64; 64], m: usize, j: usize) -> f64
@@ -403,12 +429,10 @@ fn sq_column(s: f64, a: &[f64; 64], m: usize, j: usize) -> f64
     requires { (m ≤ 8) × (j < m) }
     ensures { result ≡ sum_from s m (sq_term m (mat m a.now) j) }
 {
-    let mut s = s;
-    for i in 0..m {
+    sum_more(s, m, |i| {
         let x = get(a, m, i, j);
-        s = s + x * x;
-    }
-    s
+        x * x
+    })
 }
 
 // The sum of the squares, column by column.
@@ -428,11 +452,7 @@ pub fn row_to_vec(a: &[f64; 64], p: usize, m: usize, i: usize) -> [f64; 8]
     requires { (p ≤ 8) × ((m ≤ 8) × (i < p)) }
     ensures { vec m result ≡ row m (rect p m a.now) i }
 {
-    let mut out = [0.0; 8];
-    for j in 0..m {
-        out[j] = a[i * m + j];
-    }
-    out
+    vector(m, |j| cell(a, p, m, i, j))
 }
 
 // x becomes row i of a matrix of c columns: what stands before it stays.
@@ -440,76 +460,36 @@ pub fn put_row(a: &mut [f64; 64], x: &[f64; 8], i: usize, c: usize)
     requires { (i < 8) × (c ≤ 8) }
     ensures { rect (i + 1) c a.new ≡ rect i c a.old ++ vec c x.now }
 {
-    sized(a);
-    sized8(x);
-    for j in 0..c {
-        a[i * c + j] = x[j];
-    }
+    a[i * c..i * c + c].copy_from_slice(&x[..c]);
 }
 
 // ---- between a lent part and an array
 
-// A part of at most 8 places, in an array.
-pub fn load8(s: &[f64]) -> [f64; 8]
-    requires { length s.now ≤ 8 }
+// A part, in an array that has room for it.
+pub fn load<const N: usize>(s: &[f64]) -> [f64; N]
+    requires { length s.now ≤ N }
     ensures { vec (length s.now) result ≡ s.now }
 {
-    let mut out = [0.0; 8];
-    for i in 0..s.len() {
-        out[i] = s[i];
-    }
-    out
-}
-
-// A part of at most 64 places, in an array.
-pub fn load64(s: &[f64]) -> [f64; 64]
-    requires { length s.now ≤ 64 }
-    ensures { vec (length s.now) result ≡ s.now }
-{
-    let mut out = [0.0; 64];
-    fill64(&mut out, s);
+    let mut out = [0.0; N];
+    fill(&mut out, s);
     out
 }
 
 // The same, into an array that is there: what stands behind it stays.
-pub fn fill64(out: &mut [f64; 64], s: &[f64])
-    requires { length s.now ≤ 64 }
+pub fn fill<const N: usize>(out: &mut [f64; N], s: &[f64])
+    requires { length s.now ≤ N }
     ensures { vec (length s.now) out.new ≡ s.now }
 {
-    sized(out);
     for i in 0..s.len() {
         out[i] = s[i];
     }
 }
 
-// The first places of an array, into a part of at most 8.
-pub fn save8(out: &mut [f64], a: &[f64; 8])
-    requires { length out.old ≤ 8 }
+// The first places of an array, into a part that is no longer.
+pub fn save<T: Copy, const N: usize>(out: &mut [T], a: &[T; N])
+    requires { length out.old ≤ N }
     ensures { Saved (length out.old) a.now out.new }
 {
-    sized8(a);
-    for i in 0..out.len() {
-        out[i] = a[i];
-    }
-}
-
-// The same of an array of 64.
-pub fn save64(out: &mut [f64], a: &[f64; 64])
-    requires { length out.old ≤ 64 }
-    ensures { Saved (length out.old) a.now out.new }
-{
-    sized(a);
-    for i in 0..out.len() {
-        out[i] = a[i];
-    }
-}
-
-// The same of 8 bytes.
-pub fn save_bytes(out: &mut [u8], a: &[u8; 8])
-    requires { length out.old ≤ 8 }
-    ensures { Saved (length out.old) a.now out.new }
-{
-    sized_bytes(a);
     for i in 0..out.len() {
         out[i] = a[i];
     }

@@ -1,17 +1,15 @@
 -- What the calls of a function give, put together: equations over plain variables.
-use Prim.Native.Nat.{ℕ, ◌≤◌, ◌<◌, ◌+◌}
+use Prim.Native.Nat.{ℕ, ◌≤◌}
 use mathlib.Core.Path.{◌≡◌, refl, sym, ap, ◌∙◌, subst}
 use mathlib.Core.Bool.{Bool, true, false, cond}
 use mathlib.Core.List.{List, [], ◌∷◌, ◌++◌}
-use native.Mathlib.Omega.{arith}
-use native.Mathlib.Numerals.{add-one}
-use lib.ListN.{take, set, length, replicate}
-use lib.Seq.{take-suc-set}
+use lib.ListN.{take, replicate}
 use lib.Ieee.{Float}
 use Rattle.definition.specs.Num.{0ᶠ, ent}
 use Rattle.definition.specs.Dense.{mat_vec, mat_tVec, outer_sub, over, dot, row}
 use Rattle.definition.specs.Cov.{
   Cause,
+  Candidate,
   atGap,
   Decision,
   skipped,
@@ -36,18 +34,18 @@ use Rattle.definition.specs.Cov.{
 use Rattle.definition.specs.Parts.{cause_no}
 use Rattle.definition.specs.Star.{again_of}
 use Rattle.laws.specs.Flat.{Flat}
+use Rattle.std.proofs.Common.{Result, Ok, Err}
 use Rattle.promise.specs.declared.Cause as told
 use Rattle.dense.specs.Views.{vec, mat, rect}
 use Rattle.dense.proofs.Laws as dense
 use Rattle.acceptance.specs.declared.Finding.{Finding}
 use Rattle.acceptance.specs.declared.Finding.TheVariants as finding
-use Rattle.acceptance.specs.declared.Found.{Found}
-use Rattle.acceptance.specs.declared.Found.TheVariants as found
 use Rattle.promise.specs.Records.{cause_in}
-use Rattle.acceptance.specs.Views.{decision_by, decision_on, judged_as, judged_by, UsualBy, Judged}
+use Rattle.acceptance.specs.Views.{decision_by, decision_on, judged_by}
+use Rattle.element.specs.declared.Period.{Period}
 use Rattle.element.specs.declared.Step.{Step}
 use Rattle.element.specs.declared.Step.TheVariants as step
-use Rattle.element.specs.Views.{Updated, Carried, carried, inner_of, fixed_of, Entered, Recorded, taken_by, Applied, Settled, ElementIs, ElementDone, WithoutRoot, ByRoot}
+use Rattle.element.specs.Views.{Updated, Carried, carried, inner_of, fixed_of, noise_in, Entered, Recorded, taken_by, Applied, Settled, ElementIs, ElementDone, WithoutRoot, ByRoot}
 
 module _ (m : ℕ) (z r : List Float) {u bu g r' : List Float} {d : Float} where
   pub root_less_lem : u ≡ mat_tVec m r z → bu ≡ mat_vec m r u → d ≡ dot m u u → g ≡ over m u d → r' ≡ outer_sub m r bu g → r' ≡ root_less m z r
@@ -63,10 +61,6 @@ module _ (m : ℕ) (q m∞ : List Float) (f∞ : Float) {q1 k0 : List Float} whe
   diffuse_pinf a b = cc
 
 -- ---- the record of an element
-
--- one entry more
-pub one_more : {A : Type 0} (l : List A) (i : ℕ) (x : A) → length l ≡ 8 → i < 8 → take (i + 1) (set l i x) ≡ take i l ++ (x ∷ [])
-one_more l i x e h = rw add-one (take-suc-set l i x (omega arith))
 
 -- unused gain vectors are +0.0
 module _ (i m : ℕ) {n n' : Flat} (h : m ≤ 8) where
@@ -111,6 +105,10 @@ module _ (m i : ℕ) (z : List Float) (f : Float) {d : Finding} (a c : List Floa
 
 -- ---- element i, as the definition has it
 
+-- an element as the definition judges it
+abbrev judged_as : List Float → Float → Bool → List Float → List Float → List Float → Bool → Float → List Float → List Float → List Float → Candidate
+judged_as z h live pre sd unres fresh again star pinf root = record { z = z; h = h; live = live; pre = pre; sd = sd; unres = unres; fresh = fresh; again = again; star = star; pinf = pinf; root = root }
+
 -- before the period's first update the standard deviations are not read
 judged_known : (m : ℕ) (z : List Float) (h : Float) (live : Bool) (pre sd sd' : List Float) (again : Float) (fresh : Bool) (unres star pinf root : List Float) (f : Float) (m* : List Float)
     → (fresh ≡ false → sd ≡ sd') → judged_by m (judged_as z h live pre sd unres fresh again star pinf root) f m* ≡ judged_by m (judged_as z h live pre sd' unres fresh again star pinf root) f m*
@@ -153,15 +151,16 @@ module _ (p m : ℕ) (hs : List Float) (fix : Fixed) (fresh : Bool) (i : ℕ) {g
 
   module _ {z : List Float} {h f : Float} (a c : List Float) {sd : List Float} (r : Step) (e : gap ≡ false) (ez : z ≡ row m fix.z i) (eh : h ≡ ent p hs i i) (ek : fresh ≡ false → sd ≡ sd_of m fix.pre)
       (ea : vec m a ≡ mat_vec m (mat m b.star) z) (ef : f ≡ f_star_by m z h (vec m a)) where
+    -- what `judge` finds, and what a doubt tells
     abbrev Judges : Finding → Type 0
-    Judges d = Judged m z h fix.diffuse fix.pre sd fresh fix.unres (mat m b.star) (mat m b.pinf) (mat m b.root) f c d
+    Judges d = ((again : Float) (a : List Float) → decision_by m again f d a c ≡ judged_by m (judged_as z h fix.diffuse fix.pre sd fix.unres fresh again (mat m b.star) (mat m b.pinf) (mat m b.root)) f (vec m a)) × ((x : Float) → d ≡ finding.Doubtful x → (fix.diffuse ≡ false) × (fresh ≡ false))
 
     done : (d : Finding) (dec : Decision) → Judges d → ((again : Float) → decision_by m again f d a c ≡ dec) → Applied m i z dec r b b' → ElementDone p m hs fix fresh i gap b b' r
     done d dec w k v = λ taken n.
         let again = again_of p m fix.z hs fix.pre i taken in
         let j : dec ≡ judge m (judged_as z h fix.diffuse fix.pre (sd_of m fix.pre) fix.unres (none_yet taken) again (mat m b.star) (mat m b.pinf) (mat m b.root)) =
         sym (k again)
-        ∙ w.finds again a
+        ∙ w.0 again a
         ∙ judged_known m z h fix.diffuse fix.pre sd (sd_of m fix.pre) again fresh fix.unres (mat m b.star) (mat m b.pinf) (mat m b.root) f (vec m a) ek
         ∙ judged_is m z h fix.diffuse fix.pre (sd_of m fix.pre) again fresh fix.unres (mat m b.star) (mat m b.pinf) (mat m b.root) ea ef
         ∙ rw n in
@@ -172,7 +171,7 @@ module _ (p m : ℕ) (hs : List Float) (fix : Fixed) (fresh : Bool) (i : ℕ) {g
     went (finding.Nothing why) w v = rw v.told (rw v.told at (done (finding.Nothing why) (skipped (cause_in why)) w (λ again. refl) v))
     went finding.Usual w v = rw v.told (rw v.told at (done finding.Usual (usual f (vec m a)) w (λ again. refl) v))
     went (finding.Diffuse g) w v = rw v.told (rw v.told at (done (finding.Diffuse g) (diffuse f g (vec m a) (vec m c)) w (λ again. refl) v))
-    went (finding.Doubtful x) w v = rw v.0 (record { same = v.1; settled = (w.doubts x refl).0; stale = (w.doubts x refl).1 })
+    went (finding.Doubtful x) w v = rw v.0 (record { same = v.1; settled = (w.1 x refl).0; stale = (w.1 x refl).1 })
 
 -- ---- with F by the star root at hand
 
@@ -180,43 +179,43 @@ pub stale_next : (taken : List ℕ) (i : ℕ) → none_yet (taken ++ (i ∷ []))
 stale_next [] i = refl
 stale_next (x ∷ taken) i = refl
 
-module _ (p m : ℕ) (hs design pre : List Float) (i : ℕ) (gap : Bool) (again : Float) (star : List Float) (n : Flat) (star' : List Float) (n' : Flat) where
+module _ (x : Period) (i : ℕ) (gap : Bool) (again : Float) (star : List Float) (n : Flat) (star' : List Float) (n' : Flat) where
   by_root : (z : List Float) (d : Decision) (r : Step) (joins : Bool)
-      → ((p∞ b unres : List Float) (taken : List ℕ) → none_yet taken ≡ false → again ≡ again_of p m (rect p m design) hs (mat m pre) i taken
-      → (d, apply m z i (inner_of m (carried star p∞ b n) taken) d) ≡ element_of p m hs (fixed_of p m false design pre unres) i (inner_of m (carried star p∞ b n) taken) gap)
-      → ((p∞ b : List Float) → Applied m i z d r (carried star p∞ b n) (carried star' p∞ b n'))
+      → ((p∞ b unres : List Float) (taken : List ℕ) → none_yet taken ≡ false → again ≡ again_of x.p x.m (rect x.p x.m x.design.now) (noise_in x) (mat x.m x.pre.now) i taken
+      → (d, apply x.m z i (inner_of x.m (carried star p∞ b n) taken) d) ≡ element_of x.p x.m (noise_in x) (fixed_of x false unres) i (inner_of x.m (carried star p∞ b n) taken) gap)
+      → ((p∞ b : List Float) → Applied x.m i z d r (carried star p∞ b n) (carried star' p∞ b n'))
       → ((taken : List ℕ) → taken_by d taken i ≡ cond joins (taken ++ (i ∷ [])) taken)
-      → ByRoot p m hs design pre i gap again star n star' n' joins
+      → ByRoot x i gap again star n star' n' joins
   by_root z d r joins is moves after = λ p∞ b unres taken s w.
       let e = is p∞ b unres taken s w in
-      let g = did m i z d taken r (carried star p∞ b n) (carried star' p∞ b n') e (moves p∞ b) in
+      let g = did x.m i z d taken r (carried star p∞ b n) (carried star' p∞ b n') e (moves p∞ b) in
       record {
         inner = g.inner;
         recorded = g.recorded;
-        joined = ap (λ (x : Decision × Inner). x.1.taken) (sym e) ∙ applied_taken m z i (inner_of m (carried star p∞ b n) taken) d ∙ after taken;
+        joined = ap (λ (y : Decision × Inner). y.1.taken) (sym e) ∙ applied_taken x.m z i (inner_of x.m (carried star p∞ b n) taken) d ∙ after taken;
       }
 
-  pub by_root_gap : gap ≡ true → star' ≡ star → Recorded m i (skipped atGap) n n' → ByRoot p m hs design pre i gap again star n star' n' false
+  pub by_root_gap : gap ≡ true → star' ≡ star → Recorded x.m i (skipped atGap) n n' → ByRoot x i gap again star n star' n' false
   unfolding apply
   by_root_gap e s v = by_root [] (skipped atGap) step.Passed false
-      (λ p∞ b unres taken k w. gap_is p m hs (fixed_of p m false design pre unres) i (inner_of m (carried star p∞ b n) taken) e)
-      (λ p∞ b. moved_none m i [] (carried star p∞ b n) (carried star' p∞ b n') atGap s refl refl v)
+      (λ p∞ b unres taken k w. gap_is x.p x.m (noise_in x) (fixed_of x false unres) i (inner_of x.m (carried star p∞ b n) taken) e)
+      (λ p∞ b. moved_none x.m i [] (carried star p∞ b n) (carried star' p∞ b n') atGap s refl refl v)
       (λ taken. refl)
 
-  module _ {z : List Float} {h f : Float} {a sd : List Float} {r : Found} (e : gap ≡ false) (ez : z ≡ row m (rect p m design) i) (eh : h ≡ ent p hs i i) (ek : sd ≡ sd_of m (mat m pre))
-      (ea : a ≡ mat_vec m (mat m star) z) (ef : f ≡ f_star_by m z h a) (er : UsualBy m z h (mat m pre) sd again (mat m star) f r) where
-    decided : (d : Decision) → d ≡ decision_on f a r → (p∞ b unres : List Float) (taken : List ℕ) → none_yet taken ≡ false → again ≡ again_of p m (rect p m design) hs (mat m pre) i taken
-        → (d, apply m z i (inner_of m (carried star p∞ b n) taken) d) ≡ element_of p m hs (fixed_of p m false design pre unres) i (inner_of m (carried star p∞ b n) taken) gap
+  module _ {z : List Float} {h f : Float} {a sd : List Float} (r : Result (Unit {0}) told.Cause) (e : gap ≡ false) (ez : z ≡ row x.m (rect x.p x.m x.design.now) i) (eh : h ≡ ent x.p (noise_in x) i i) (ek : sd ≡ sd_of x.m (mat x.m x.pre.now))
+      (ea : a ≡ mat_vec x.m (mat x.m star) z) (ef : f ≡ f_star_by x.m z h a) (er : (pinf root unres m* : List Float) → decision_on f m* r ≡ usually x.m (judged_as z h false (mat x.m x.pre.now) sd unres false again (mat x.m star) pinf root) f m*) where
+    decided : (d : Decision) → d ≡ decision_on f a r → (p∞ b unres : List Float) (taken : List ℕ) → none_yet taken ≡ false → again ≡ again_of x.p x.m (rect x.p x.m x.design.now) (noise_in x) (mat x.m x.pre.now) i taken
+        → (d, apply x.m z i (inner_of x.m (carried star p∞ b n) taken) d) ≡ element_of x.p x.m (noise_in x) (fixed_of x false unres) i (inner_of x.m (carried star p∞ b n) taken) gap
     unfolding judge
     decided d g p∞ b unres taken k w =
-        element_is p m hs (fixed_of p m false design pre unres) i (inner_of m (carried star p∞ b n) taken) e ez eh (rw (k, sym w, sym ek, sym ea, sym ef) (g ∙ er.finds (mat m unres) (mat m p∞) (mat m b) a))
+        element_is x.p x.m (noise_in x) (fixed_of x false unres) i (inner_of x.m (carried star p∞ b n) taken) e ez eh (rw (k, sym w, sym ek, sym ea, sym ef) (g ∙ er (mat x.m p∞) (mat x.m b) (mat x.m unres) a))
 
-    pub by_root_no : (why : told.Cause) → r ≡ found.Nothing why → star' ≡ star → Recorded m i (skipped (cause_in why)) n n' → ByRoot p m hs design pre i gap again star n star' n' false
+    pub by_root_no : (why : told.Cause) → r ≡ Err why → star' ≡ star → Recorded x.m i (skipped (cause_in why)) n n' → ByRoot x i gap again star n star' n' false
     unfolding decision_on
     by_root_no why g s v = let c = cause_in why in
-        by_root z (skipped c) step.Passed false (decided (skipped c) (rw g)) (λ p∞ b. moved_none m i z (carried star p∞ b n) (carried star' p∞ b n') c s refl refl v) (λ taken. refl)
+        by_root z (skipped c) step.Passed false (decided (skipped c) (rw g)) (λ p∞ b. moved_none x.m i z (carried star p∞ b n) (carried star' p∞ b n') c s refl refl v) (λ taken. refl)
 
-    pub by_root_yes : r ≡ found.Usual → mat m star' ≡ outer_sub m (mat m star) a (over m a f) → Recorded m i (usual f a) n n' → ByRoot p m hs design pre i gap again star n star' n' true
+    pub by_root_yes : r ≡ Ok tt → mat x.m star' ≡ outer_sub x.m (mat x.m star) a (over x.m a f) → Recorded x.m i (usual f a) n n' → ByRoot x i gap again star n star' n' true
     unfolding decision_on
     by_root_yes g s v =
-        by_root z (usual f a) step.Taken true (decided (usual f a) (rw g)) (λ p∞ b. moved_usual m i z (carried star p∞ b n) (carried star' p∞ b n') f a s refl refl v) (λ taken. refl)
+        by_root z (usual f a) step.Taken true (decided (usual f a) (rw g)) (λ p∞ b. moved_usual x.m i z (carried star p∞ b n) (carried star' p∞ b n') f a s refl refl v) (λ taken. refl)

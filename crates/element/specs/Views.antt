@@ -1,14 +1,19 @@
 -- An element's values as the definition's, and what each step of it leaves.
-use Rattle.std.specs.Prelude.{ℕ, ◌≤◌, ◌<◌, ◌+◌, ◌≡◌, Bool, false, cond, List, [], ◌∷◌, ◌++◌, take, Float}
+use Rattle.std.specs.Prelude.{ℕ, ◌≤◌, ◌<◌, ◌+◌, ◌≡◌, Bool, false, cond, List, [], ◌∷◌, ◌++◌, take, Float, Option}
+use Rattle.std.specs.Borrow.{Bor}
 use Rattle.definition.specs.Dense.{outer_sub, over}
 use Rattle.definition.specs.Cov.{Decision, skipped, usual, diffuse, Inner, Fixed, apply, element_of, k1_of, none_yet, sd_of}
 use Rattle.definition.specs.Star.{again_of}
 use Rattle.definition.specs.Parts.{kind_no, f_star_of, f_inf_of, m_star_of, m_inf_of}
-use Rattle.laws.specs.Flat.{Flat}
+use Rattle.laws.specs.Flat.{Flat, flat_in}
 use Rattle.dense.specs.Views.{vec, mat, rect}
+use Rattle.track.specs.declared.State.{State}
+use Rattle.acceptance.specs.Views.{sd_in, fresh_in}
 use Rattle.acceptance.specs.declared.Finding.{Finding}
 use Rattle.acceptance.specs.declared.Finding.TheVariants as finding
 use Rattle.promise.specs.Records.{cause_in}
+use Rattle.element.specs.declared.Period.{Period}
+use Rattle.element.specs.declared.Records.{Records}
 use Rattle.element.specs.declared.Step.{Step}
 use Rattle.element.specs.declared.Step.TheVariants as step
 
@@ -35,8 +40,25 @@ carried star pinf root n = record { star = star; pinf = pinf; root = root; flat 
 abbrev pub inner_of : ℕ → Carried → List ℕ → Inner
 inner_of m b taken = record { star = mat m b.star; pinf = mat m b.pinf; root = mat m b.root; taken = taken }
 
-abbrev pub fixed_of : ℕ → ℕ → Bool → List Float → List Float → List Float → Fixed
-fixed_of p m live design pre unres = record { diffuse = live; z = rect p m design; pre = mat m pre; unres = mat m unres }
+abbrev pub fixed_of : Period → Bool → List Float → Fixed
+fixed_of x live unres = record { diffuse = live; z = rect x.p x.m x.design.now; pre = mat x.m x.pre.now; unres = mat x.m unres }
+
+abbrev pub noise_in : Period → List Float
+noise_in x = mat x.p x.hs.now
+
+-- from the state and the records, and from what of the state stays the same
+abbrev pub flat_of : Records → Flat
+flat_of r = flat_in r.kinds r.f_star r.f_inf r.m_star r.m_inf
+
+abbrev pub carried_of : State → Records → Carried
+carried_of s r = carried s.star s.p_inf s.root (flat_of r)
+
+abbrev pub fixed_in : Period → State → Fixed
+fixed_in x s = fixed_of x s.live s.unres
+
+pub record Kept (s s' : State) : Type 0 where
+  pub live : s'.live ≡ s.live
+  pub unres : s'.unres ≡ s.unres
 
 -- the record of element i, with its numbers and its vectors, after those before it; the same by the decision on the
 -- element
@@ -77,14 +99,14 @@ Settled m i z f (finding.Diffuse g) a c r b b' = Applied m i z (diffuse f g (vec
 Settled m i z f (finding.Doubtful x) a c r b b' = (r ≡ step.Doubtful) × (b' ≡ b)
 
 -- element i of p, m states
-pub record InPeriod (p m i : ℕ) : Type 0 where
-  pub elements : p ≤ 8
-  pub states : m ≤ 8
-  pub here : i < p
+pub record InPeriod (x : Period) (i : ℕ) : Type 0 where
+  pub elements : x.p ≤ 8
+  pub states : x.m ≤ 8
+  pub here : i < x.p
 
 -- the standard deviations are worked out, once the period had an update
-pub record SdKnown (m : ℕ) (fresh : Bool) (pre sd : List Float) : Type 0 where
-  pub known : fresh ≡ false → vec m sd ≡ sd_of m (mat m pre)
+pub record SdKnown (x : Period) (sd : Option (Bor (List Float))) : Type 0 where
+  pub known : fresh_in sd ≡ false → sd_in x.m sd ≡ sd_of x.m (mat x.m x.pre.now)
 
 -- element i as the definition has it: what goes on, its record, and whether it was taken
 pub record ElementIs (m i : ℕ) (want : Decision × Inner) (r : Step) (b b' : Carried) : Type 0 where
@@ -116,11 +138,10 @@ pub record ByRootAt (m i : ℕ) (want : Decision × Inner) (taken : List ℕ) (b
   pub recorded : Recorded m i want.0 b.flat b'.flat
   pub joined : want.1.taken ≡ cond r (taken ++ (i ∷ [])) taken
 
-abbrev pub ByRoot : ℕ → ℕ → List Float → List Float → List Float → ℕ → Bool → Float → List Float → Flat
-    → List Float → Flat → Bool → Type 0
-ByRoot p m h design pre i gap again star n star' n' r =
+abbrev pub ByRoot : Period → ℕ → Bool → Float → List Float → Flat → List Float → Flat → Bool → Type 0
+ByRoot x i gap again star n star' n' r =
     (p∞ b unres : List Float) (taken : List ℕ) → none_yet taken ≡ false
-    → again ≡ again_of p m (rect p m design) h (mat m pre) i taken
-    → ByRootAt m i
-    (element_of p m h (fixed_of p m false design pre unres) i (inner_of m (carried star p∞ b n) taken) gap) taken
+    → again ≡ again_of x.p x.m (rect x.p x.m x.design.now) (noise_in x) (mat x.m x.pre.now) i taken
+    → ByRootAt x.m i
+    (element_of x.p x.m (noise_in x) (fixed_of x false unres) i (inner_of x.m (carried star p∞ b n) taken) gap) taken
     (carried star p∞ b n) (carried star' p∞ b n') r

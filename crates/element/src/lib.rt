@@ -3,15 +3,17 @@
 // needs it, and `element_by_root` has its F at hand.
 #![tactic(auto)]
 
-ghost use Rattle.std.specs.Prelude.{◌≡◌, false, ◌≤◌, ◌<◌};
+ghost use Rattle.std.specs.Prelude.{◌≡◌, ◌≤◌, ◌<◌};
 ghost use Rattle.definition.specs.Cov.{k1_of, root_less, skipped, usual, sd_of, sd_at};
 ghost use Rattle.definition.specs.Dense.{outer_sub, over};
-ghost use Rattle.laws.specs.Flat.{flat_in};
 ghost use Rattle.dense.specs.Views.{vec, mat};
 ghost use Rattle.promise.specs.Records.{cause_in};
-ghost use Rattle.element.specs.Views.{carried, fixed_of, Updated, Entered, Recorded, Settled, InPeriod, SdKnown, WithoutRoot, ByRoot};
+ghost use Rattle.acceptance.specs.Views.{fresh_in};
+ghost use Rattle.element.specs.Views.{flat_of, carried_of, Kept, noise_in, fixed_in, Updated, Entered, Recorded, Settled, InPeriod, SdKnown, WithoutRoot, ByRoot};
 
+use acceptance::{Candidate, Finding};
 use promise::Cause;
+use track::State;
 
 // How an element ended: nothing moved, or it was taken; or it is left as it was, since the star root has to say.
 #[derive(Clone, Copy)]
@@ -21,17 +23,36 @@ pub enum Step {
     Doubtful,
 }
 
+// What stays the same through a period: its predicted P*, its design, its noise H; p elements and m states.
+#[derive(Clone, Copy)]
+pub struct Period<'a> {
+    pub pre: &'a [f64; 64],
+    pub design: &'a [f64; 64],
+    pub hs: &'a [f64; 64],
+    pub p: usize,
+    pub m: usize,
+}
+
+// The records of a period's elements in the flat form: the kinds, F*, F∞, and the rows M* and M∞. Lists side by side, as C lends the flat parts.
+#[derive(Clone, Copy)]
+pub struct Records {
+    pub kinds: [u8; 8],
+    pub f_star: [f64; 8],
+    pub f_inf: [f64; 8],
+    pub m_star: [f64; 64],
+    pub m_inf: [f64; 64],
+}
+
 // The gain K1 of a diffuse element.
 fn k1(m_star: &[f64; 8], k0: &[f64; 8], f: f64, f_inf: f64, m: usize) -> [f64; 8]
     requires { m ≤ 8 }
     ensures { vec m result ≡ k1_of m (vec m m_star.now) (vec m k0.now) f f_inf }
 {
     let f12 = -f / f_inf;
-    let mut out = [0.0; 8];
-    for j in 0..m {
-        out[j] = dense::nth(m_star, m, j) / f_inf + dense::nth(k0, m, j) * f12;
-    }
-    out
+    dense::vector(
+        m,
+        |j| dense::nth(m_star, m, j) / f_inf + dense::nth(k0, m, j) * f12,
+    )
 }
 
 // B (I - u u' / u' u), u = B' z.
@@ -78,255 +99,155 @@ fn diffuse_update(
     dense::outer_sub(p_inf, m_inf, &k0, m);
 }
 
-// The flat record of element i: its kind, F*, F∞, M* and M∞.
-fn enter(
-    kinds: &mut [u8; 8],
-    fs: &mut [f64; 8],
-    fi: &mut [f64; 8],
-    ms: &mut [f64; 64],
-    mi: &mut [f64; 64],
-    kind: u8,
-    f: f64,
-    g: f64,
-    m_star: &[f64; 8],
-    m_inf: &[f64; 8],
-    i: usize,
-    m: usize,
-)
-    requires { (i < 8) × (m ≤ 8) }
-    ensures { Entered i m kind f g (vec m m_star.now) (vec m m_inf.now)
-        (flat_in kinds.old fs.old fi.old ms.old mi.old)
-        (flat_in kinds.new fs.new fi.new ms.new mi.new) }
-{
-    dense::sized_bytes(kinds);
-    dense::sized8(fs);
-    dense::sized8(fi);
-    kinds[i] = kind;
-    fs[i] = f;
-    fi[i] = g;
-    dense::put_row(ms, m_star, i, m);
-    dense::put_row(mi, m_inf, i, m);
-}
+impl Records {
+    // The record of element i: its kind, F*, F∞, M* and M∞. The kind by its number, as the flat parts hold it.
+    fn enter(
+        &mut self,
+        kind: u8,
+        f: f64,
+        g: f64,
+        m_star: &[f64; 8],
+        m_inf: &[f64; 8],
+        i: usize,
+        m: usize,
+    )
+        requires { (i < 8) × (m ≤ 8) }
+        ensures { Entered i m kind f g (vec m m_star.now) (vec m m_inf.now) (flat_of self.old) (flat_of self.new) }
+    {
+        self.kinds[i] = kind;
+        self.f_star[i] = f;
+        self.f_inf[i] = g;
+        dense::put_row(&mut self.m_star, m_star, i, m);
+        dense::put_row(&mut self.m_inf, m_inf, i, m);
+    }
 
-// The record of an element that is skipped: its numbers and vectors are +0.0.
-fn record_skipped(
-    kinds: &mut [u8; 8],
-    fs: &mut [f64; 8],
-    fi: &mut [f64; 8],
-    ms: &mut [f64; 64],
-    mi: &mut [f64; 64],
-    cause: Cause,
-    i: usize,
-    m: usize,
-)
-    requires { (i < 8) × (m ≤ 8) }
-    ensures { Recorded m i (skipped (cause_in cause))
-        (flat_in kinds.old fs.old fi.old ms.old mi.old)
-        (flat_in kinds.new fs.new fi.new ms.new mi.new) }
-{
-    let none = [0.0; 8];
-    enter(
-        kinds,
-        fs,
-        fi,
-        ms,
-        mi,
-        record::number(cause),
-        0.0,
-        0.0,
-        &none,
-        &none,
-        i,
-        m,
-    );
-}
+    // The record of an element that is skipped: its numbers and vectors are +0.0.
+    fn skip(&mut self, cause: Cause, i: usize, m: usize)
+        requires { (i < 8) × (m ≤ 8) }
+        ensures { Recorded m i (skipped (cause_in cause)) (flat_of self.old) (flat_of self.new) }
+    {
+        let none = [0.0; 8];
+        self.enter(u8::from(cause), 0.0, 0.0, &none, &none, i, m);
+    }
 
-// The record of a usual element: F∞ and M∞ are +0.0.
-fn record_usual(
-    kinds: &mut [u8; 8],
-    fs: &mut [f64; 8],
-    fi: &mut [f64; 8],
-    ms: &mut [f64; 64],
-    mi: &mut [f64; 64],
-    f: f64,
-    m_star: &[f64; 8],
-    i: usize,
-    m: usize,
-)
-    requires { (i < 8) × (m ≤ 8) }
-    ensures { Recorded m i (usual f (vec m m_star.now))
-        (flat_in kinds.old fs.old fi.old ms.old mi.old)
-        (flat_in kinds.new fs.new fi.new ms.new mi.new) }
-{
-    let none = [0.0; 8];
-    enter(
-        kinds,
-        fs,
-        fi,
-        ms,
-        mi,
-        promise::USUAL,
-        f,
-        0.0,
-        m_star,
-        &none,
-        i,
-        m,
-    );
+    // The record of a usual element: F∞ and M∞ are +0.0.
+    fn usual(&mut self, f: f64, m_star: &[f64; 8], i: usize, m: usize)
+        requires { (i < 8) × (m ≤ 8) }
+        ensures { Recorded m i (usual f (vec m m_star.now)) (flat_of self.old) (flat_of self.new) }
+    {
+        let none = [0.0; 8];
+        self.enter(promise::USUAL, f, 0.0, m_star, &none, i, m);
+    }
 }
 
 // What a finding brings: the update and the record. A doubtful element leaves all as it was.
 fn settle(
-    star: &mut [f64; 64],
-    p_inf: &mut [f64; 64],
-    root: &mut [f64; 64],
-    kinds: &mut [u8; 8],
-    fs: &mut [f64; 8],
-    fi: &mut [f64; 8],
-    ms: &mut [f64; 64],
-    mi: &mut [f64; 64],
-    d: acceptance::Finding,
+    s: &mut State,
+    records: &mut Records,
+    d: Finding,
+    e: &Candidate,
     f: f64,
-    z: &[f64; 8],
     m_star: &[f64; 8],
     m_inf: &[f64; 8],
     i: usize,
-    m: usize,
 ) -> Step
-    requires { (i < 8) × (m ≤ 8) }
-    ensures { Settled m i (vec m z.now) f d m_star.now m_inf.now result
-        (carried star.old p_inf.old root.old
-        (flat_in kinds.old fs.old fi.old ms.old mi.old))
-        (carried star.new p_inf.new root.new
-        (flat_in kinds.new fs.new fi.new ms.new mi.new)) }
+    requires { (i < 8) × (e.now.m ≤ 8) }
+    ensures settled { Settled e.now.m i (vec e.now.m e.now.z.now) f d m_star.now m_inf.now result
+        (carried_of s.old records.old) (carried_of s.new records.new) }
+    ensures kept { Kept s.old s.new }
 {
     match d {
-        acceptance::Finding::Nothing(cause) => {
-            record_skipped(kinds, fs, fi, ms, mi, cause, i, m);
+        Finding::Nothing(cause) => {
+            records.skip(cause, i, e.m);
             Step::Passed
         }
-        acceptance::Finding::Usual => {
-            usual_update(star, m_star, f, m);
-            record_usual(kinds, fs, fi, ms, mi, f, m_star, i, m);
+        Finding::Usual => {
+            usual_update(&mut s.star, m_star, f, e.m);
+            records.usual(f, m_star, i, e.m);
             Step::Taken
         }
-        acceptance::Finding::Diffuse(g) => {
-            diffuse_update(star, p_inf, m_star, m_inf, f, g, m);
-            root_less(root, z, m);
-            enter(
-                kinds,
-                fs,
-                fi,
-                ms,
-                mi,
-                promise::DIFFUSE,
-                f,
-                g,
-                m_star,
-                m_inf,
-                i,
-                m,
-            );
+        Finding::Diffuse(g) => {
+            diffuse_update(&mut s.star, &mut s.p_inf, m_star, m_inf, f, g, e.m);
+            root_less(&mut s.root, e.z, e.m);
+            records.enter(promise::DIFFUSE, f, g, m_star, m_inf, i, e.m);
             Step::Taken
         }
-        acceptance::Finding::Doubtful(_) => Step::Doubtful,
+        Finding::Doubtful(_) => Step::Doubtful,
     }
 }
 
-// Element i of a period, the star root not asked; a gap is passed over. `live`: the period is diffuse. `fresh`: it had
-// no update yet. `pre` is its predicted P*, with the standard deviations `sd`, which are read once the period had an
-// update.
+// Element i of a period, the star root not asked; a gap is passed over. `sd` are the standard deviations of the period's
+// predicted P*, once it had an update.
 pub fn element(
-    star: &mut [f64; 64],
-    p_inf: &mut [f64; 64],
-    root: &mut [f64; 64],
-    kinds: &mut [u8; 8],
-    fs: &mut [f64; 8],
-    fi: &mut [f64; 8],
-    ms: &mut [f64; 64],
-    mi: &mut [f64; 64],
+    s: &mut State,
+    records: &mut Records,
+    x: &Period,
+    sd: Option<&[f64; 8]>,
     gap: bool,
-    live: bool,
-    fresh: bool,
-    pre: &[f64; 64],
-    sd: &[f64; 8],
-    unres: &[f64; 64],
-    design: &[f64; 64],
-    hs: &[f64; 64],
-    p: usize,
-    m: usize,
     i: usize,
 ) -> Step
-    requires { InPeriod p m i × SdKnown m fresh pre.now sd.now }
-    ensures { WithoutRoot p m (mat p hs.now)
-        (fixed_of p m live design.now pre.now unres.now) fresh i gap
-        (carried star.old p_inf.old root.old
-        (flat_in kinds.old fs.old fi.old ms.old mi.old))
-        (carried star.new p_inf.new root.new
-        (flat_in kinds.new fs.new fi.new ms.new mi.new)) result }
+    requires { InPeriod x.now i × SdKnown x.now sd }
+    ensures done { WithoutRoot x.now.p x.now.m (noise_in x.now) (fixed_in x.now s.old) (fresh_in sd.entry) i gap
+        (carried_of s.old records.old) (carried_of s.new records.new) result }
+    ensures kept { Kept s.old s.new }
 {
     if gap {
-        record_skipped(kinds, fs, fi, ms, mi, Cause::Gap, i, m);
+        records.skip(Cause::Gap, i, x.m);
         return Step::Passed;
     }
-    let z = dense::row_to_vec(design, p, m, i);
-    let h = dense::get(hs, p, i, i);
+    let z = dense::row_to_vec(x.design, x.p, x.m, i);
+    let e = Candidate {
+        z: &z,
+        h: dense::get(x.hs, x.p, i, i),
+        pre: x.pre,
+        sd,
+        m: x.m,
+    };
     let mut m_star = [0.0; 8];
-    dense::mat_vec(&mut m_star, star, &z, m);
-    let f = acceptance::f_star(&z, h, &m_star, m);
+    dense::mat_vec(&mut m_star, &s.star, &z, x.m);
+    let f = e.f_star(&m_star);
     let mut m_inf = [0.0; 8];
-    let d = acceptance::judge(
-        &z, h, live, fresh, pre, sd, unres, star, p_inf, root, &mut m_inf, f, m,
-    );
-    settle(
-        star, p_inf, root, kinds, fs, fi, ms, mi, d, f, &z, &m_star, &m_inf, i, m,
-    )
+    let d = e.judge(s, &mut m_inf, f);
+    settle(s, records, d, &e, f, &m_star, &m_inf, i)
 }
 
 // Element i of a period that is not diffuse and had an update, with `again`, its F by the star root, at hand. Whether it
-// was taken.
+// was taken. It is handed P* alone: it holds whatever the rest of the state is (period Views.RestByRoot).
 pub fn element_by_root(
     star: &mut [f64; 64],
-    kinds: &mut [u8; 8],
-    fs: &mut [f64; 8],
-    fi: &mut [f64; 8],
-    ms: &mut [f64; 64],
-    mi: &mut [f64; 64],
+    records: &mut Records,
+    x: &Period,
+    sd: &[f64; 8],
     gap: bool,
     again: f64,
-    pre: &[f64; 64],
-    sd: &[f64; 8],
-    design: &[f64; 64],
-    hs: &[f64; 64],
-    p: usize,
-    m: usize,
     i: usize,
 ) -> bool
-    requires { InPeriod p m i × SdKnown m false pre.now sd.now }
-    ensures { ByRoot p m (mat p hs.now) design.now pre.now i gap again
-        star.old
-        (flat_in kinds.old fs.old fi.old ms.old mi.old)
-        star.new
-        (flat_in kinds.new fs.new fi.new ms.new mi.new) result }
+    requires { InPeriod x.now i × SdKnown x.now (Some sd) }
+    ensures { ByRoot x.now i gap again star.old (flat_of records.old) star.new (flat_of records.new) result }
 {
     if gap {
-        record_skipped(kinds, fs, fi, ms, mi, Cause::Gap, i, m);
+        records.skip(Cause::Gap, i, x.m);
         return false;
     }
-    let z = dense::row_to_vec(design, p, m, i);
-    let h = dense::get(hs, p, i, i);
+    let z = dense::row_to_vec(x.design, x.p, x.m, i);
+    let e = Candidate {
+        z: &z,
+        h: dense::get(x.hs, x.p, i, i),
+        pre: x.pre,
+        sd: Some(sd),
+        m: x.m,
+    };
     let mut m_star = [0.0; 8];
-    dense::mat_vec(&mut m_star, star, &z, m);
-    let f = acceptance::f_star(&z, h, &m_star, m);
-    let found = acceptance::is_usual(&z, h, again, pre, sd, star, f, m);
-    match found {
-        acceptance::Found::Nothing(cause) => {
-            record_skipped(kinds, fs, fi, ms, mi, cause, i, m);
+    dense::mat_vec(&mut m_star, star, &z, x.m);
+    let f = e.f_star(&m_star);
+    match e.is_usual(star, again, f) {
+        Err(cause) => {
+            records.skip(cause, i, x.m);
             false
         }
-        acceptance::Found::Usual => {
-            usual_update(star, &m_star, f, m);
-            record_usual(kinds, fs, fi, ms, mi, f, &m_star, i, m);
+        Ok(()) => {
+            usual_update(star, &m_star, f, x.m);
+            records.usual(f, &m_star, i, x.m);
             true
         }
     }
@@ -345,9 +266,5 @@ pub fn deviations(pre: &[f64; 64], m: usize) -> [f64; 8]
     requires { m ≤ 8 }
     ensures { vec m result ≡ sd_of m (mat m pre.now) }
 {
-    let mut out = [0.0; 8];
-    for j in 0..m {
-        out[j] = sd_at(pre, m, j);
-    }
-    out
+    dense::vector(m, |j| sd_at(pre, m, j))
 }

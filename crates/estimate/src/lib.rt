@@ -4,17 +4,22 @@
 
 ghost use Rattle.std.specs.Prelude.{◌≤◌};
 
-use sheet::answers::Settings;
+use clock::Clock;
+use goxundar::{Answer, Refusal};
+use sheet::answers::Sheet;
 
 pub fn estimate(
-    s: Settings,
-    n: usize,
+    sheet: Sheet,
     y: &[f64],
     rows: &mut [f64],
     kinds: &mut [u8],
-) -> goxundar::Outcome
-    requires { n ≤ 4096 }
+) -> Result<Answer, Refusal>
+    requires { sheet.periods ≤ 4096 }
 {
+    let Sheet {
+        settings,
+        periods: n,
+    } = sheet;
     let mut pred_mean = [0.0; 12291];
     let mut pred_cov = [0.0; 36873];
     let mut pred_inf = [0.0; 36873];
@@ -27,27 +32,12 @@ pub fn estimate(
     let mut m_inf = [0.0; 24576];
     let mut sm_mean = [0.0; 12288];
     let mut sm_cov = [0.0; 36864];
-    let t = clock::transition(s);
     let mut list = [0.0; 36864];
-    clock::transitions(s, &mut list);
+    clock::transitions(settings, &mut list);
+    let clock = Clock::of(settings, &list);
     let outcome = goxundar::smooth(
-        2,
-        3,
-        3,
-        n,
-        &clock::design(),
-        &[],
-        false,
-        &clock::noise(s),
-        clock::once(s, &t),
-        clock::listed(s, &list),
-        &clock::identity(),
-        &clock::disturbances(s),
-        &[0.0; 3],
-        &[0.0; 2],
-        &clock::start_mean(s),
-        &clock::start_cov(s),
-        &clock::flags(s),
+        &clock.model(n),
+        &clock.offsets(),
         clock::first(y, 2 * n),
         &mut pred_mean,
         &mut pred_cov,

@@ -1,5 +1,5 @@
 -- A call's three ends, over the filter's parts: turned away before anything is written, silent, answered. The smoother's call ends the same ways.
-use Rattle.std.specs.Prelude.{◌≡◌, ℕ, suc, ◌≤◌, Bool, List, map, length, Float}
+use Rattle.std.specs.Prelude.{◌≡◌, ℕ, Bool, cond, List, map, length, Float, Ok, Err}
 use Rattle.std.proofs.Math.Path.{refl, ap}
 use Rattle.std.proofs.Common.{subst, ◌∙◌, zero-add, arith, eq-eqb}
 use Rattle.std.proofs.Math.Bool.{true, false}
@@ -15,14 +15,12 @@ use Rattle.carried.specs.State.{cov_from, mean_from}
 use Rattle.dense.specs.Views.{mat}
 use Rattle.forward.specs.View.{Fit, FitOn, fit_on, onward, cov_on, mean_on}
 use Rattle.judged.specs.declared.Judged.{Judged}
-use Rattle.judged.specs.Went.{Went, is_silent, tally_of}
+use Rattle.judged.specs.Went.{Went, is_silent, tally_of, told_of, turned_by}
 use Rattle.promise.specs.declared.Answer.{Answer}
-use Rattle.promise.specs.declared.Outcome.{Outcome}
-use Rattle.promise.specs.declared.Outcome.TheVariants.{Refused, Answered}
-use Rattle.promise.specs.Calls.{answer_in, answer_by, Promise}
-
-pub none : {k c : ℕ} → k ≤ 0 → k ≡ c → 0 ≡ c
-none h e = omega arith
+use Rattle.promise.specs.declared.Refusal.{Refusal}
+use Rattle.promise.specs.declared.Refusal.TheVariants.{NoInformation}
+use Rattle.promise.specs.Calls.{Outcome, answer_in, Promise}
+use Rattle.promise.specs.Refusals as promise
 
 -- the answer before the first period
 abbrev pub nothing : Answer
@@ -48,18 +46,17 @@ module _ (x : Model) (o : Offsets) (y : List Float) where
   unfolding ending
   by_number room k e = rw (length-map, ← e) refl
 
-  pub is_turned : (room : Bool) (k : ℕ) → suc k ≡ number room → ending x o kinds room ≡ turned (suc k)
-  unfolding ending_of
-  is_turned room k e = by_number room (suc k) e
+  pub is_turned : (room : Bool) (e : Refusal) → promise.number e ≡ number room → ending x o kinds room ≡ turned (promise.number e)
+  is_turned room e h = by_number room (promise.number e) h ∙ turned_by e _
 
   -- w and w' are the parts as they were lent
   module _ (w : CovParts) (w' : MeanParts) where
     abbrev pub End : Ending → CovOutcome × MeanOutcome
     End f = (cov_outcome x f kinds w, mean_outcome x f o kinds y w')
 
-    pub turned_away : (k : ℕ) → Promise (End (turned (suc k))) (Refused (suc k)) w w'
-    unfolding cov_outcome mean_outcome answer_by number_of after
-    turned_away k = record { answer = refl; kinds = refl; cov = λ q. refl; mean = λ q. refl }
+    pub turned_away : (e : Refusal) → Promise (End (turned (promise.number e))) (Err e) w w'
+    unfolding cov_outcome mean_outcome number_of after
+    turned_away e = record { refusal = refl; answer = tt; kinds = refl; cov = λ q. refl; mean = λ q. refl }
 
     -- the run from the start, and refusal 12
     module _ {s s' : List Float} {live : Bool} {e : Judged} {b : CovParts} {b' : MeanParts} (begins : length s ≡ 0) (r : Went x o y s live 0 nothing true e s' w b w' b') where
@@ -82,30 +79,32 @@ module _ (x : Model) (o : Offsets) (y : List Float) where
       unfolding is_silent
       silent_so = r.silent ∙ ap (λ (a : Answer). no_information (tally_of a)) answer_same
 
-      by : (t : Bool) → e.silent ≡ t → Promise (End (ending_of 0 t)) (answer_by (number_of (ending_of 0 t)) e.answer) b b'
-      unfolding cov_outcome mean_outcome answer_by number_of ending_of after counts_in loglik_in report_in
+      by : (t : Bool) → e.silent ≡ t → Promise (End (ending_of 0 t)) (cond t (Err NoInformation) (Ok e.answer)) b b'
+      unfolding cov_outcome mean_outcome number_of ending_of after counts_in loglik_in report_in
       by true h =
           record {
-            answer = refl;
+            refusal = refl;
+            answer = tt;
             kinds = rw h at r.kinds;
             cov = λ q. rw h at (r.cov q);
             mean = λ q. rw h at (r.mean q);
           }
       by false h =
           record {
-            answer = ap Answered answer_same;
+            refusal = refl;
+            answer = answer_same;
             kinds = rw (h, cov_same) at r.kinds;
             cov = λ q. rw (h, cov_same) at (r.cov q);
             mean = λ q. rw (h, mean_same) at (r.mean q);
           }
 
-      pub ended : Promise (End (ending_of 0 (no_information (counts_of (cov_of x kinds).0 kinds)))) (answer_by (number_of (ending_of 0 e.silent)) e.answer) b b'
-      ended = subst (λ (t : Bool). Promise (End (ending_of 0 t)) (answer_by (number_of (ending_of 0 e.silent)) e.answer) b b') silent_so (by e.silent refl)
+      pub ended : Promise (End (ending_of 0 (no_information (counts_of (cov_of x kinds).0 kinds)))) (told_of e) b b'
+      ended = subst (λ (t : Bool). Promise (End (ending_of 0 t)) (told_of e) b b') silent_so (by e.silent refl)
 
 -- what the run of a call past its checks leaves: r its answer, b and b' the parts afterwards
 abbrev pub Run : Model → Offsets → List Float → CovParts → MeanParts → Outcome → CovParts → MeanParts → Type 0
 Run x o y w w' r b b' = Promise (End x o y w w' (ending_of 0 (no_information (counts_of (cov_of x (map class_of y)).0 (map class_of y))))) r b b'
 
--- k is the number of the first refusal before the run that the inputs and the lent outputs earn, 0 if none
+-- what the checks say tells the first refusal before the run that the inputs and the lent outputs earn
 pub record Checked (x : Model) (o : Offsets) (y : List Float) (w : CovParts) (w' : MeanParts) (k : ℕ) : Type 0 where
   pub number : k ≡ number x o y (roomy x w w')

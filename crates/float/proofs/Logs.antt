@@ -8,7 +8,7 @@ use lib.Dec.{T, leb, ltb, leb→le, nleb→lt, ltb→lt, nltb→le, lit≤, le�
 use lib.IntN.{ℤ, pos, negsuc, ◌-ℤ◌}
 use lib.Signed.{mag}
 use lib.Pow.{pow_pos}
-use lib.Ieee.{Float, inf, binary64, size, nearest, units, round, of_bits, neg, lt, mul, div, minus, in_float}
+use lib.Ieee.{Float, inf, binary64, size, nearest, units, round, of_bits, lt, mul, minus, in_float}
 use lib.Ieee.Fits.{core, round_is}
 use lib.Ieee.Positive.{positive}
 use lib.Ieee.Scale.{round_same}
@@ -16,13 +16,12 @@ use mir.Syntax.{w64}
 use mir.Val.{to_z, of_z, SFits}
 use mir.Facts.{to_z_pos}
 use mir.ValLaws.{to_z-of_z}
-use Rattle.definition.specs.Num.{0ᶠ}
 use Rattle.definition.specs.Root.{smallests_in}
 use Rattle.definition.specs.Log.{half, ln_of, log_of, log_count, reduced}
 use Rattle.laws.specs.Squares.{size_exact}
 use Rattle.laws.specs.RootLaws.{positive_cases}
 use Rattle.float.specs.Inner.{Parted}
-use Rattle.float.proofs.Tests.{top, Zero, Outside, zero_cases, outside_cases}
+use Rattle.float.proofs.Tests.{Zero, Outside, zero_cases, outside_cases}
 use Rattle.float.proofs.Units.{bits_units}
 
 -- ---- s = d / 2 ^ 52, with its pattern d + 1022 * 2 ^ 52, is what the definition divides
@@ -130,10 +129,10 @@ pub at_top : (x : Float) → x ≡ inf false → x ≡ ln_of x
 unfolding ln_of
 at_top x e = e ∙ ap ln_of (sym e)
 
-pub at_zero : (x : Float) → Zero x → neg top ≡ ln_of x
-unfolding ln_of neg of_bits
-at_zero = zero_cases (λ (x : Float). neg top ≡ ln_of x) (λ e. refl) (λ e. refl)
+pub at_zero : (x : Float) → Zero x → of_bits binary64 0xFFF0000000000000 ≡ ln_of x
+unfolding ln_of of_bits
+at_zero = zero_cases (λ (x : Float). of_bits binary64 0xFFF0000000000000 ≡ ln_of x) (λ e. refl) (λ e. refl)
 
-pub at_outside : (x : Float) → Outside x → div binary64 0ᶠ 0ᶠ ≡ ln_of x
-unfolding ln_of div of_bits
-at_outside = outside_cases (λ (x : Float). div binary64 0ᶠ 0ᶠ ≡ ln_of x) refl refl (λ m e. refl)
+pub at_outside : (x : Float) → Outside x → of_bits binary64 0x7FF8000000000000 ≡ ln_of x
+unfolding ln_of of_bits
+at_outside = outside_cases (λ (x : Float). of_bits binary64 0x7FF8000000000000 ≡ ln_of x) refl refl (λ m e. refl)

@@ -8,8 +8,7 @@ use mir.Val.{bool_byte}
 use lib.Dec.{T, ltb, ltb→lt, nltb→le, lit≤}
 use lib.Pow.{pow_pos, pow-add, pow_mono, shl_lt}
 use lib.Ieee.Positive.{positive}
-use lib.Ieee.{Float, inf, binary64, of_bits, div}
-use Rattle.definition.specs.Num.{0ᶠ}
+use lib.Ieee.{Float, inf, binary64, of_bits}
 use Rattle.definition.specs.Root.{smallests_in, sqrt_in, sqrt_of}
 use Rattle.laws.specs.Squares.{IsRoot, NearRoot, next_sq, by_next, by_last, sq_lt_back, four_two, near_least, near_most, near_half}
 use Rattle.laws.specs.RootLaws.{root_at, sqrt_positive}
@@ -71,11 +70,11 @@ picked_from n p u a b e most some a-yes a-no b-yes b-no = go a b a-yes a-no b-ye
         record { over = omega arith; under = omega arith }
     go false true ay an by bn = absurd (let h = an tt in let k = by tt in omega arith)
 
-pub picked : (m g u : ℕ) → 0 < g → 0 < u → Beside m g u → NearRoot (m * 2 ^ 52) (g - 1 + bool_byte (ltb (2 * g - 2) u) + bool_byte (ltb (4 * g - 2) u))
-picked m g u G U b =
+pub picked : (m g u : ℕ) → 0 < g → Beside m g u → NearRoot (m * 2 ^ 52) (g - 1 + bool_byte (ltb (2 * g - 2) u) + bool_byte (ltb (4 * g - 2) u))
+picked m g u G b =
     let p = g - 1 in
     let e : g ≡ p + 1 = omega arith in
-    picked_from (m * 2 ^ 52) p u (ltb (2 * g - 2) u) (ltb (4 * g - 2) u) (subst (λ (x : ℕ). u + x * x + 2 ≡ m * 2 ^ 52 + 3 * x) e b.is) (subst (λ (x : ℕ). u ≤ 6 * x) e b.most) U
+    picked_from (m * 2 ^ 52) p u (ltb (2 * g - 2) u) (ltb (4 * g - 2) u) (subst (λ (x : ℕ). u + x * x + 2 ≡ m * 2 ^ 52 + 3 * x) e b.is) (subst (λ (x : ℕ). u ≤ 6 * x) e b.most) b.some
     (λ t. let h = ltb→lt (2 * g - 2) u t in omega arith)
     (λ t. let h = nltb→le (2 * g - 2) u t in omega arith)
     (λ t. let h = ltb→lt (4 * g - 2) u t in omega arith)
@@ -148,6 +147,6 @@ pub at_zero : (x : Float) → Zero x → x ≡ sqrt_of x
 unfolding sqrt_in
 at_zero = zero_cases (λ (x : Float). x ≡ sqrt_of x) (λ e. refl) (λ e. refl)
 
-pub at_outside : (x : Float) → Outside x → div binary64 0ᶠ 0ᶠ ≡ sqrt_of x
-unfolding sqrt_in div of_bits
-at_outside = outside_cases (λ (x : Float). div binary64 0ᶠ 0ᶠ ≡ sqrt_of x) refl refl (λ m e. refl)
+pub at_outside : (x : Float) → Outside x → of_bits binary64 0x7FF8000000000000 ≡ sqrt_of x
+unfolding sqrt_in of_bits
+at_outside = outside_cases (λ (x : Float). of_bits binary64 0x7FF8000000000000 ≡ sqrt_of x) refl refl (λ m e. refl)

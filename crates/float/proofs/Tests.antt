@@ -5,11 +5,11 @@ use Prim.Native.Nat.{ℕ, zero, suc, ◌*◌, ◌<◌}
 use native.Mathlib.Nat.{zero-lt-suc, zero-mul, mul-one}
 use native.Mathlib.Omega.{arith}
 use lib.IntN.{ℤ}
-use lib.Dec.{T, ltb, eqb, ltb→lt, lt→ltb, eqb_refl}
-use lib.Ieee.{Float, nan, inf, fin, sub, lt, eq, ne, neg, fits, binary64, up, down, is_nan, of_bits}
+use lib.Dec.{T, ltb, eqb, ltb→lt, lt→ltb}
+use lib.Ieee.{Float, nan, inf, fin, sub, lt, eq, neg, fits, binary64, up, down, is_nan, of_bits}
 use lib.Ieee.Fits.{neg-fits, and_i, eq→eqb}
-use lib.Ieee.Bits.{is_false}
 use lib.Ieee.Positive.{positive}
+use Rattle.std.specs.Float.{float_is_infinite, float_is_finite}
 use Rattle.definition.specs.Num.{0ᶠ, abs_of, is_infinite, is_finite}
 use Rattle.laws.specs.Swap.{add_swap}
 use Rattle.laws.specs.Same.{zero_fits, plus_zero, minus_zero, some_above, add_plus_zero, zeros_add}
@@ -109,48 +109,17 @@ top_of (inf true) h = absurd (false≢true h)
 top_of (inf false) h = refl
 top_of (fin s m e) h = absurd (false≢true h)
 
-pub inf_yes : (x : Float) → eq x top ≡ true → true ≡ is_infinite x
-unfolding eq is_infinite of_bits
-inf_yes nan h = sym h
-inf_yes (inf s) h = refl
-inf_yes (fin s m e) h = sym h
+pub infinite_is : (x : Float) → float_is_infinite x ≡ is_infinite x
+unfolding float_is_infinite is_infinite
+infinite_is nan = refl
+infinite_is (inf s) = refl
+infinite_is (fin s m e) = refl
 
-pub inf_else : (x : Float) → eq x top ≡ false → eq x (neg top) ≡ is_infinite x
-unfolding eq is_infinite neg of_bits
-inf_else nan h = refl
-inf_else (inf true) h = refl
-inf_else (inf false) h = sym h
-inf_else (fin s m e) h = refl
-
-pub fin_yes : (x : Float) → lt x top ≡ true → lt (neg top) x ≡ is_finite x
-unfolding lt is_finite neg of_bits
-fin_yes nan h = refl
-fin_yes (inf true) h = refl
-fin_yes (inf false) h = sym h
-fin_yes (fin s m e) h = refl
-
-pub fin_no : (x : Float) → lt x top ≡ false → false ≡ is_finite x
-unfolding lt is_finite of_bits
-fin_no nan h = refl
-fin_no (inf s) h = refl
-fin_no (fin s m e) h = sym h
-
--- ---- against itself
-
-level_itself : (a : ℕ) → not (eqb a a && true) ≡ false
-level_itself a = is_false (not (eqb a a && true)) (go (eqb a a) (eqb_refl a))
-  where
-    go : (b : Bool) → T b → T (not (not (b && true)))
-    go true t = tt
-    go false t = t
-
-pub nan_test : (x : Float) → ne x x ≡ is_nan x
-unfolding ne is_nan
-nan_test nan = refl
-nan_test (inf true) = refl
-nan_test (inf false) = refl
-nan_test (fin true m e) = level_itself (m * up e * down e)
-nan_test (fin false m e) = level_itself (m * up e * down e)
+pub finite_is : (x : Float) → float_is_finite x ≡ is_finite x
+unfolding float_is_finite is_finite
+finite_is nan = refl
+finite_is (inf s) = refl
+finite_is (fin s m e) = refl
 
 -- ---- the magnitude, by the two cases of `abs`
 

@@ -10,7 +10,8 @@ pub record Parted (x : Float) (d j : ℕ) : Type 0 where
   pub small : j < 2098
   pub value : smallests_in binary64 x * 2 ^ 52 ≡ d * 2 ^ j
 
--- u is m * 2 ^ 52 less (g - 1) * (g - 2), and at most 6 * g: so m * 2 ^ 52 is at most (g + 1) * (g + 2)
+-- u is m * 2 ^ 52 less (g - 1) * (g - 2), from 1 up to 6 * g: so m * 2 ^ 52 is at most (g + 1) * (g + 2)
 pub record Beside (m g u : ℕ) : Type 0 where
+  pub some : 0 < u
   pub is : u + g * g + 2 ≡ m * 2 ^ 52 + 3 * g
   pub most : u ≤ 6 * g

@@ -25,8 +25,8 @@ fn sum_odd(w: f64) -> f64
     ensures { result ≡ series w 11 11 }
 {
     let mut q = ODD[11];
-    for i in 0..11 {
-        q = q * w + ODD[10 - i];
+    for c in ODD[..11].iter().rev() {
+        q = q * w + *c;
     }
     q
 }
@@ -48,9 +48,8 @@ fn log_of(j: u64, s: f64) -> f64
 pub fn ln(x: f64) -> f64
     ensures { result ≡ ln_of x }
 {
-    let top = f64::from_bits(0x7FF0_0000_0000_0000);
     if x > 0.0 {
-        if x == top {
+        if x == f64::INFINITY {
             return x;
         }
         let p = parts(x);
@@ -61,9 +60,9 @@ pub fn ln(x: f64) -> f64
         return log_of(p.place + 1, s * 0.5);
     }
     if x == 0.0 {
-        return -top;
+        return f64::NEG_INFINITY;
     }
-    0.0 / 0.0
+    f64::NAN
 }
 
 // ln 2π: the logarithm of twice 0x400921FB54442D18.

@@ -1,5 +1,5 @@
 // The square root of IEEE 754: a guess, an exact test of it and of the two numbers beside it, and the long way where the test fails.
-ghost use Rattle.std.specs.Prelude.{◌≡◌, ◌+◌, ◌*◌, ◌^◌, ◌≤◌, ◌<◌};
+ghost use Rattle.std.specs.Prelude.{◌≡◌, ◌+◌, ◌*◌, ◌^◌, ◌≤◌, ◌<◌, IfSome};
 ghost use Rattle.definition.specs.Root.{sqrt_of};
 ghost use Rattle.laws.specs.Squares.{IsRoot, NearRoot};
 ghost use Rattle.float.specs.Inner.{Beside};
@@ -19,7 +19,7 @@ fn long_root(m: u64) -> u64
     let mut w = m << 10;
     let mut q = 0u64;
     let mut r = 0u64;
-    for i in 0..54usize {
+    for _ in 0..54usize {
         let t = 4 * q + 1;
         r = r * 4 + (w >> 62);
         w = w << 2;
@@ -54,11 +54,11 @@ fn square(g: u64) -> Wide
     }
 }
 
-// m * 2^52 less (g - 1) * (g - 2), where that is from 1 up to 6 * g; else 0.
+// m * 2^52 less (g - 1) * (g - 2), where that is from 1 up to 6 * g.
 // A whole number q is nearest to the root of n where q * (q - 1) < n <= q * (q + 1). So in that range the nearest one is g - 1, g or g + 1.
-fn beside(m: u64, g: u64) -> u64
+fn beside(m: u64, g: u64) -> Option<u64>
     requires { (m < 2 ^ 54) × (g < 2 ^ 54) }
-    ensures { 0 < result → Beside m g result }
+    ensures { IfSome result (Beside m g) }
 {
     let s = square(g);
     if s.high <= m + 8 {
@@ -69,12 +69,12 @@ fn beside(m: u64, g: u64) -> u64
             if lower < upper {
                 let u = upper - lower;
                 if u <= 6 * g {
-                    return u;
+                    return Some(u);
                 }
             }
         }
     }
-    0
+    None
 }
 
 // A guess at the root of the number with the bit pattern b, from 1 up to 4, in units of 2^-52: a start by the pattern's half, three of Newton's
@@ -108,19 +108,19 @@ fn rounded(m: u64, b: u64) -> u64
     ensures { NearRoot (m * 2 ^ 52) result }
 {
     let g = guess(b);
-    let u = beside(m, g);
-    if u == 0 {
-        return (long_root(m) + 1) / 2;
+    match beside(m, g) {
+        // g * (g - 1) and g * (g + 1), each less (g - 1) * (g - 2)
+        Some(u) => g - 1 + (2 * g - 2 < u) as u64 + (4 * g - 2 < u) as u64,
+        None => (long_root(m) + 1) / 2,
     }
-    // g * (g - 1) and g * (g + 1), each less (g - 1) * (g - 2)
-    g - 1 + (2 * g - 2 < u) as u64 + (4 * g - 2 < u) as u64
 }
 
+// Not the library's sqrt: the definition has a root of its own, and three of must-fail's wrong programs are of this one.
 pub fn sqrt(x: f64) -> f64
     ensures { result ≡ sqrt_of x }
 {
     if x > 0.0 {
-        if x == f64::from_bits(0x7FF0_0000_0000_0000) {
+        if x == f64::INFINITY {
             return x;
         }
         let p = parts(x);
@@ -131,5 +131,5 @@ pub fn sqrt(x: f64) -> f64
     if x == 0.0 {
         return x;
     }
-    0.0 / 0.0
+    f64::NAN
 }

@@ -1,15 +1,20 @@
 -- What a stretch of periods leaves: what the run writes, or blanks where refusal 12 applies.
-use Rattle.std.specs.Prelude.{◌≡◌, ℕ, Bool, true, false, ◌&&◌, List, map, replicate, Float}
-use Rattle.std.proofs.Math.Path.{sym}
+use Rattle.std.specs.Prelude.{◌≡◌, ℕ, zero, suc, Bool, true, false, cond, ◌&&◌, List, map, replicate, Float, Ok, Err}
+use Rattle.std.proofs.Math.Path.{refl, sym}
 use Rattle.std.proofs.lemmas.List.{length-replicate}
 use Rattle.definition.specs.Num.{0ᶠ, zeros}
 use Rattle.definition.specs.Parts.{CovPart, MeanPart}
 use Rattle.definition.specs.Inputs.{Model, Offsets, class_of}
 use Rattle.definition.specs.Reports.{cov_report, mean_report}
-use Rattle.definition.specs.Outcome.{CovParts, MeanParts, Counts, ending_of, after, kinds_need, cov_need, mean_need, kinds_written, cov_written, mean_written, counts_of, no_information}
+use Rattle.definition.specs.Outcome.{CovParts, MeanParts, Counts, turned, ending_of, after, kinds_need, cov_need, mean_need, kinds_written, cov_written, mean_written, counts_of, no_information}
 use Rattle.laws.specs.Passes.{lay_again}
 use Rattle.carried.specs.State.{cov_kept, mean_kept}
 use Rattle.promise.specs.declared.Answer.{Answer}
+use Rattle.promise.specs.declared.Refusal.{Refusal}
+use Rattle.promise.specs.declared.Refusal.TheVariants.{NoInformation}
+use Rattle.promise.specs.Numbers.{numbered}
+use Rattle.promise.specs.Refusals.{number}
+use Rattle.promise.specs.Calls.{Outcome}
 use Rattle.forward.specs.declared.End.{End}
 use Rattle.forward.specs.View.{onward, cov_on, mean_on, Ran}
 use Rattle.judged.specs.declared.Judged.{Judged}
@@ -22,6 +27,19 @@ tally_of a = record { d_diffuse = a.d_diffuse; heard = a.heard; news = a.news }
 -- refusal 12, in the last stretch alone
 unfoldable pub is_silent : Bool → Answer → Bool
 is_silent last a = last && no_information (tally_of a)
+
+-- what the call comes back with, then: refusal 12, or the answer
+abbrev pub told_of : Judged → Outcome
+told_of e = cond e.silent (Err NoInformation) (Ok e.answer)
+
+-- a refusal before the run turns the call away, whatever the run would come to
+turned_by_number : (k : ℕ) (t : Bool) → (k ≡ 0 → ⊥) → ending_of k t ≡ turned k
+unfolding ending_of
+turned_by_number zero t some = absurd (some refl)
+turned_by_number (suc k) t some = refl
+
+pub turned_by : (e : Refusal) (t : Bool) → ending_of (number e) t ≡ turned (number e)
+turned_by e t = turned_by_number (number e) t (numbered e)
 
 -- w is what was lent, b what it holds afterwards
 pub record Went (x : Model) (o : Offsets) (y s : List Float) (on : Bool) (done : ℕ) (before : Answer) (last : Bool) (e : Judged) (s' : List Float) (w b : CovParts) (w' b' : MeanParts) : Type 0 where

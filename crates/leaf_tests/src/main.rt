@@ -5,10 +5,11 @@ mod matrices;
 mod vectors;
 mod words;
 
-const GROUP: usize = 8616;
+use words::GROUP;
 
 const LEAVES: u64 = 28;
 
+// By io, and no handle's print!: the function would take the handle and throw a Result away.
 fn print_line(vectors: u64, differ: u64) {
     io::print_decimal(1, vectors);
     io::write_all(1, b" vectors, ");
@@ -19,15 +20,14 @@ fn print_line(vectors: u64, differ: u64) {
 fn main() {
     let mut vectors: u64 = 0;
     let mut differ: u64 = 0;
-    let mut group = [0u8; 8616];
-    for g in 0..1000usize {
+    let mut group = [0u8; GROUP];
+    for _ in 0..1000 {
         let n = io::read_full(0, &mut group);
         if n < GROUP {
             break;
         }
-        vectors = std::num::wrapping_add_u64(vectors, LEAVES);
-        differ = std::num::wrapping_add_u64(differ, matrices::differ(&group));
-        differ = std::num::wrapping_add_u64(differ, vectors::differ(&group));
+        vectors = vectors.wrapping_add(LEAVES);
+        differ = words::sum(&[differ, matrices::differ(&group), vectors::differ(&group)]);
     }
     print_line(vectors, differ);
 }

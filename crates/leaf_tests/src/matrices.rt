@@ -1,9 +1,9 @@
 // The leaves that answer with a matrix, in the order of tools/leaf-vectors: how many of them differ from what the group wants.
-ghost use Rattle.std.specs.Prelude.{◌<◌, ◌≤◌, length};
+ghost use Rattle.std.specs.Prelude.{◌<◌, ◌≤◌};
 ghost use Rattle.dense.specs.Places.{Sizes};
 
-use crate::words::{apart64, doubles8, doubles64, size, word};
-use std::num::wrapping_add_u64;
+use crate::vectors::moved;
+use crate::words::{GROUP, apart_from, count, doubles, size, sum, word};
 
 fn cells(r: usize, c: usize) -> usize
     requires { (r ≤ 8) × (c ≤ 8) }
@@ -12,7 +12,7 @@ fn cells(r: usize, c: usize) -> usize
     r * c
 }
 
-fn products(a: &[f64; 64], b: &[f64; 64], r: usize, k: usize, c: usize, group: &[u8; 8616]) -> u64
+fn products(a: &[f64; 64], b: &[f64; 64], r: usize, k: usize, c: usize, group: &[u8; GROUP]) -> u64
     requires { Sizes r k c }
 {
     let n = cells(r, c);
@@ -22,22 +22,26 @@ fn products(a: &[f64; 64], b: &[f64; 64], r: usize, k: usize, c: usize, group: &
     products::product_t_into(&mut q, a, b, r, k, c);
     let mut t = [0.0; 64];
     products::t_product_into(&mut t, a, b, r, k, c);
-    wrapping_add_u64(
-        apart64(&p, n, group, 1168),
-        wrapping_add_u64(apart64(&q, n, group, 1680), apart64(&t, n, group, 2192)),
-    )
+    count(&[
+        apart_from(&p[..n], group, 1168),
+        apart_from(&q[..n], group, 1680),
+        apart_from(&t[..n], group, 2192),
+    ])
 }
 
-fn triples(a: &[f64; 64], b: &[f64; 64], m: usize, group: &[u8; 8616]) -> u64
+fn triples(a: &[f64; 64], b: &[f64; 64], m: usize, group: &[u8; GROUP]) -> u64
     requires { m ≤ 8 }
 {
     let n = cells(m, m);
     let p = products::sandwich(a, b, m);
     let q = products::quad(a, b, a, m);
-    wrapping_add_u64(apart64(&p, n, group, 3216), apart64(&q, n, group, 3728))
+    count(&[
+        apart_from(&p[..n], group, 3216),
+        apart_from(&q[..n], group, 3728),
+    ])
 }
 
-fn in_place(a: &[f64; 64], b: &[f64; 64], m: usize, group: &[u8; 8616]) -> u64
+fn in_place(a: &[f64; 64], b: &[f64; 64], m: usize, group: &[u8; GROUP]) -> u64
     requires { m ≤ 8 }
 {
     let n = cells(m, m);
@@ -47,57 +51,42 @@ fn in_place(a: &[f64; 64], b: &[f64; 64], m: usize, group: &[u8; 8616]) -> u64
     dense::sub(&mut q, b, m);
     let mut t = *a;
     dense::symmetrize_in_place(&mut t, m);
-    wrapping_add_u64(
-        apart64(&p, n, group, 4240),
-        wrapping_add_u64(apart64(&q, n, group, 4752), apart64(&t, n, group, 6288)),
-    )
+    count(&[
+        apart_from(&p[..n], group, 4240),
+        apart_from(&q[..n], group, 4752),
+        apart_from(&t[..n], group, 6288),
+    ])
 }
 
-fn outer(a: &[f64; 64], x: &[f64; 8], y: &[f64; 8], s: f64, m: usize, group: &[u8; 8616]) -> u64
+fn outer(a: &[f64; 64], x: &[f64; 8], y: &[f64; 8], s: f64, m: usize, group: &[u8; GROUP]) -> u64
     requires { m ≤ 8 }
 {
     let n = cells(m, m);
     let mut p = *a;
     dense::outer_sub(&mut p, x, y, m);
     let q = dense::outer_scaled(x, y, s, m);
-    wrapping_add_u64(apart64(&p, n, group, 5264), apart64(&q, n, group, 5776))
+    count(&[
+        apart_from(&p[..n], group, 5264),
+        apart_from(&q[..n], group, 5776),
+    ])
 }
 
-fn rows(a: &[f64; 64], x: &[f64; 8], r: usize, c: usize, group: &[u8; 8616]) -> u64
+fn rows(a: &[f64; 64], x: &[f64; 8], r: usize, c: usize, group: &[u8; GROUP]) -> u64
     requires { (0 < r) × (r ≤ 8) × (c ≤ 8) }
 {
     let n = cells(r, c);
     let t = products::transpose(a, r, c);
     let mut p = *a;
     dense::put_row(&mut p, x, r - 1, c);
-    wrapping_add_u64(apart64(&t, n, group, 2704), apart64(&p, n, group, 6800))
+    count(&[
+        apart_from(&t[..n], group, 2704),
+        apart_from(&p[..n], group, 6800),
+    ])
 }
 
-fn loaded(s: &[f64], n: usize) -> [f64; 64]
-    requires { (n ≤ 64) × (n ≤ length s.now) }
-{
-    dense::load64(&s[..n])
-}
-
-fn saved(out: &mut [f64], n: usize, a: &[f64; 64])
-    requires { (n ≤ 64) × (n ≤ length out.old) }
-{
-    dense::save64(&mut out[..n], a);
-}
-
-fn moved(a: &[f64; 64], r: usize, c: usize, group: &[u8; 8616]) -> u64
-    requires { (r ≤ 8) × (c ≤ 8) }
-{
-    let n = cells(r, c);
-    let l = loaded(a, n);
-    let mut out = [0.0; 64];
-    saved(&mut out, n, &l);
-    apart64(&out, 64, group, 7312)
-}
-
-fn by_sizes(group: &[u8; 8616]) -> u64 {
-    let a = doubles64(group, 8);
-    let b = doubles64(group, 520);
+fn by_sizes(group: &[u8; GROUP]) -> u64 {
+    let a = doubles(group, 8);
+    let b = doubles(group, 520);
     products(
         &a,
         &b,
@@ -108,32 +97,37 @@ fn by_sizes(group: &[u8; 8616]) -> u64 {
     )
 }
 
-fn by_size(group: &[u8; 8616]) -> u64 {
-    let a = doubles64(group, 8);
-    let b = doubles64(group, 520);
+fn by_size(group: &[u8; GROUP]) -> u64 {
+    let a = doubles(group, 8);
+    let b = doubles(group, 520);
     let m = size(group, 3);
-    wrapping_add_u64(triples(&a, &b, m, group), in_place(&a, &b, m, group))
+    sum(&[triples(&a, &b, m, group), in_place(&a, &b, m, group)])
 }
 
-fn by_vectors(group: &[u8; 8616]) -> u64 {
-    let a = doubles64(group, 8);
-    let x = doubles8(group, 1032);
-    let y = doubles8(group, 1096);
+fn by_vectors(group: &[u8; GROUP]) -> u64 {
+    let a = doubles(group, 8);
+    let x = doubles(group, 1032);
+    let y = doubles(group, 1096);
     let s = bits::double(word(group, 1160));
     outer(&a, &x, &y, s, size(group, 3), group)
 }
 
-fn by_rows(group: &[u8; 8616]) -> u64 {
-    let a = doubles64(group, 8);
-    let x = doubles8(group, 1032);
+fn by_rows(group: &[u8; GROUP]) -> u64 {
+    let a = doubles(group, 8);
+    let x = doubles(group, 1032);
     let r = size(group, 0);
     let c = size(group, 2);
-    wrapping_add_u64(rows(&a, &x, r, c, group), moved(&a, r, c, group))
+    sum(&[
+        rows(&a, &x, r, c, group),
+        moved(&a, cells(r, c), group, 7312),
+    ])
 }
 
-pub fn differ(group: &[u8; 8616]) -> u64 {
-    wrapping_add_u64(
-        wrapping_add_u64(by_sizes(group), by_size(group)),
-        wrapping_add_u64(by_vectors(group), by_rows(group)),
-    )
+pub fn differ(group: &[u8; GROUP]) -> u64 {
+    sum(&[
+        by_sizes(group),
+        by_size(group),
+        by_vectors(group),
+        by_rows(group),
+    ])
 }

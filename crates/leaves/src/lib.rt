@@ -106,7 +106,7 @@ pub extern "C" fn leaf_product(
     m <= 8 && products::product_into(out, a, b, m, m, m)
 }
 
-// The other ways to a product: A B', A' B, and A B and A' B by the square kernels.
+// The other ways to a product: A B', A' B, and A B and A' B by the square kernels. `way` is a number, since C calls it; any but 0, 1 and 2 is the last.
 #[unsafe(no_mangle)]
 pub extern "C" fn leaf_product_by(
     way: u8,

@@ -39,56 +39,50 @@ module _ (y : Frame) (x : Shift) (s₀ : Mean) (p m n : ℕ) (r : Flat) (ys : Li
   abbrev pub past : ℕ → List MeanPeriod × Mean
   past i = scan (mean_period y x) 0 s₀ (take i es)
 
-  pub record Going (i : ℕ) (w₀ w : Answer) (a pm₀ pm' fm₀ fm' v₀ v' : List Float) : Type 0 where
+  pub record Going (i : ℕ) (s : Mean) (pm₀ pm' fm₀ fm' v₀ v' : List Float) : Type 0 where
     pub low : i ≤ n
-    pub state : mean_in m a w.loglik ≡ (past i).1
-    pub answer : w ≡ with_loglik w₀ w.loglik
+    pub state : s ≡ (past i).1
     pub pm : Wrote (mean_period y x) (mean_block predMean) m es s₀ pm₀ pm' i
     pub fm : Wrote (mean_period y x) (mean_block filtMean) m es s₀ fm₀ fm' i
     pub vs : Wrote (mean_period y x) (mean_block innovations) p es s₀ v₀ v' i
 
-  pub going_none : (w : Answer) (a pm fm v : List Float) → mean_in m a w.loglik ≡ s₀ → Going 0 w w a pm pm fm fm v v
+  pub going_none : (pm fm v : List Float) → Going 0 s₀ pm pm fm fm v v
   unfolding scan
-  going_none w a pm fm v e =
+  going_none pm fm v =
       record {
         low = omega arith;
-        state = e;
-        answer = refl;
+        state = refl;
         pm = wrote_none (mean_period y x) (mean_block predMean) m es s₀ pm;
         fm = wrote_none (mean_period y x) (mean_block filtMean) m es s₀ fm;
         vs = wrote_none (mean_period y x) (mean_block innovations) p es s₀ v;
       }
 
-  module _ {i : ℕ} {w₀ w : Answer} {l : Float} {a a' pm₀ pm' fm₀ fm' v₀ v' : List Float} (pb fb vb : List Float) where
+  module _ {i : ℕ} {s s' : Mean} {pm₀ pm' fm₀ fm' v₀ v' : List Float} (pb fb vb : List Float) where
     -- period i leaves pb, vb and fb, each in its own block
-    pub going_next : Going i w₀ w a pm₀ pm' fm₀ fm' v₀ v' → i < n → Room p m n (length pm₀) (length fm₀) (length v₀) → length pb ≡ m → length fb ≡ m → length vb ≡ p
-        → ◌≡◌ (left_in pb vb fb, mean_in m a' l) (mean_period y x i (mean_in m a w.loglik) (entry_at p m r ys i))
-        → Going (i + 1) w₀ (with_loglik w l) a' pm₀ (over i m pm' pb) fm₀ (over i m fm' fb) v₀ (over i p v' vb)
+    pub going_next : Going i s pm₀ pm' fm₀ fm' v₀ v' → i < n → Room p m n (length pm₀) (length fm₀) (length v₀) → length pb ≡ m → length fb ≡ m → length vb ≡ p → ◌≡◌ (left_in pb vb fb, s') (mean_period y x i s (entry_at p m r ys i))
+        → Going (i + 1) s' pm₀ (over i m pm' pb) fm₀ (over i m fm' fb) v₀ (over i p v' vb)
     unfolding mean_block
     going_next g h room lp lf lv q =
         let k : i < length es = rw entries-length h in
         let bm = block_in i n m h in
         let bp = block_in i n p h in
-        let now : ◌≡◌ (left_in pb vb fb, mean_in m a' l) (mean_period y x i (past i).1 (get_or es i ([], []))) = q ∙ ap₂ (mean_period y x i) g.state (sym (entries_at n p m r ys i h)) in
+        let now : ◌≡◌ (left_in pb vb fb, s') (mean_period y x i (past i).1 (get_or es i ([], []))) = q ∙ ap₂ (mean_period y x i) g.state (sym (entries_at n p m r ys i h)) in
         record {
           low = omega arith;
-          state = state_next (mean_period y x) es s₀ i ([], []) (past i).1 (mean_in m a' l) k refl (ap (λ (b : MeanPeriod × Mean). b.1) now);
-          answer = ap (λ (b : Answer). with_loglik b l) g.answer;
+          state = state_next (mean_period y x) es s₀ i ([], []) (past i).1 s' k refl (ap (λ (b : MeanPeriod × Mean). b.1) now);
           pm = wrote_next (mean_period y x) (mean_block predMean) m es s₀ i ([], []) pm₀ pm' pb k (omega (arith, room.pm)) g.pm lp (ap (λ (b : MeanPeriod × Mean). b.0.pred) now);
           fm = wrote_next (mean_period y x) (mean_block filtMean) m es s₀ i ([], []) fm₀ fm' fb k (omega (arith, room.fm)) g.fm lf (ap (λ (b : MeanPeriod × Mean). b.0.filt) now);
           vs = wrote_next (mean_period y x) (mean_block innovations) p es s₀ i ([], []) v₀ v' vb k (omega (arith, room.vs)) g.vs lv (ap (λ (b : MeanPeriod × Mean). b.0.vs) now);
         }
 
-  module _ {i : ℕ} {w₀ w : Answer} {a pm₀ pm' fm₀ fm' v₀ v' : List Float} where
-    pub going_all : Going i w₀ w a pm₀ pm' fm₀ fm' v₀ v' → n ≤ i → Room p m n (length pm₀) (length fm₀) (length v₀) → Looped p m n (mean_run y x 0 s₀ es) w₀ w a pm₀ pm' fm₀ fm' v₀ v'
+  module _ {i : ℕ} {s : Mean} {pm₀ pm' fm₀ fm' v₀ v' : List Float} where
+    pub going_all : Going i s pm₀ pm' fm₀ fm' v₀ v' → n ≤ i → Room p m n (length pm₀) (length fm₀) (length v₀) → Looped p m n (mean_run y x 0 s₀ es) s pm₀ pm' fm₀ fm' v₀ v'
     unfolding mean_run
     going_all g h room =
         let e : i ≡ n = omega (arith, g.low) in
         let le = entries-length n p m r ys in
-        let st = state_all (mean_period y x) es s₀ n i (mean_in m a w.loglik) le e g.state in
         record {
-          state = st;
-          answer = g.answer ∙ ap (λ (s : Mean). with_loglik w₀ s.loglik) st;
+          state = state_all (mean_period y x) es s₀ n i s le e g.state;
           pm = wrote_all (mean_period y x) (mean_block predMean) m es s₀ n i pm₀ pm' le e room.pm g.pm;
           fm = wrote_all (mean_period y x) (mean_block filtMean) m es s₀ n i fm₀ fm' le e room.fm g.fm;
           vs = wrote_all (mean_period y x) (mean_block innovations) p es s₀ n i v₀ v' le e room.vs g.vs;
@@ -101,11 +95,12 @@ unfolding frame_from
 framed p m t z zs tr trs c d design step s e q k h = h ∙ ap₂ (λ (u l : List Float). mean_period_of m u c d l s e) k q
 
 -- place n written after the loop, through its part, and the state kept
-placed : {p m n k : ℕ} (r : List MeanPeriod × Mean) {w w' : Answer} {a' s s' pm₀ pm' fm₀ fm' v₀ v' : List Float} (b : List Float) → Looped p m n r w w' a' pm₀ pm' fm₀ fm' v₀ v' → k ≡ m → Saved k a' b → s' ≡ mean_kept m s (vec m a') → Passed p m n r w w' s s' pm₀ (over n m pm' b) fm₀ fm' v₀ v'
+placed : {p m n k : ℕ} (r : List MeanPeriod × Mean) (w : Answer) {l : Float} {a' s s' pm₀ pm' fm₀ fm' v₀ v' : List Float} (b : List Float) → Looped p m n r (mean_in m a' l) pm₀ pm' fm₀ fm' v₀ v' → k ≡ m → Saved k a' b → s' ≡ mean_kept m s (vec m a')
+    → Passed p m n r w (with_loglik w l) s s' pm₀ (over n m pm' b) fm₀ fm' v₀ v'
 unfolding mean_written vec
-placed {m = m} {n} r {a' = a'} {s} {s'} {pm₀} {pm'} b g e q h =
+placed {m = m} {n} r w {a' = a'} {s} {s'} {pm₀} {pm'} b g e q h =
     record {
-      answer = g.answer;
+      answer = ap (λ (u : Mean). with_loglik w u.loglik) g.state;
       state = h ∙ ap (λ (u : Mean). mean_kept m s u.a) g.state;
       pm = rw (← ap (λ (s : Mean). s.a) g.state, ← saved e q) (lay_last n m (join (map (mean_block predMean) r.0)) b pm₀ pm' g.pm (q.kept ∙ e));
       fm = g.fm;
@@ -113,7 +108,7 @@ placed {m = m} {n} r {a' = a'} {s} {s'} {pm₀} {pm'} b g e q h =
     }
 
 -- c and the first mean loaded before it
-pub passed : (p m n : ℕ) (z zs t ts c d a1 sh a : List Float) (es : List (List Decision × List Float)) {k : ℕ} {w w' : Answer} {a' s s' pm₀ pm' fm₀ fm' v₀ v' : List Float} (b : List Float)
-    → Looped p m n (mean_run (frame_from p m z zs t ts) (record { c = vec m sh; d = d }) 0 (mean_in m a w.loglik) es) w w' a' pm₀ pm' fm₀ fm' v₀ v' → vec m sh ≡ c → vec m a ≡ a1 → k ≡ m → Saved k a' b → s' ≡ mean_kept m s (vec m a')
-    → Passed p m n (mean_run (frame_from p m z zs t ts) (record { c = c; d = d }) 0 (record { a = a1; loglik = w.loglik }) es) w w' s s' pm₀ (over n m pm' b) fm₀ fm' v₀ v'
-passed p m n z zs t ts c d a1 sh a es b g ec ea e q h = placed _ b (rw (ec, ea) at g) e q h
+pub passed : (p m n : ℕ) (z zs t ts c d a1 sh a : List Float) (es : List (List Decision × List Float)) {k : ℕ} (w : Answer) {l : Float} {a' s s' pm₀ pm' fm₀ fm' v₀ v' : List Float} (b : List Float)
+    → Looped p m n (mean_run (frame_from p m z zs t ts) (record { c = vec m sh; d = d }) 0 (mean_in m a w.loglik) es) (mean_in m a' l) pm₀ pm' fm₀ fm' v₀ v' → vec m sh ≡ c → vec m a ≡ a1 → k ≡ m → Saved k a' b → s' ≡ mean_kept m s (vec m a')
+    → Passed p m n (mean_run (frame_from p m z zs t ts) (record { c = c; d = d }) 0 (record { a = a1; loglik = w.loglik }) es) w (with_loglik w l) s s' pm₀ (over n m pm' b) fm₀ fm' v₀ v'
+passed p m n z zs t ts c d a1 sh a es w b g ec ea e q h = placed _ w b (rw (ec, ea) at g) e q h

@@ -7,16 +7,15 @@ use mathlib.Core.List.{List}
 use lib.ListN.{length, get_or, take, drop, set, length-take, length-drop, length-set}
 use lib.Seq.{get_or-take, get_or-drop, take-suc-set, take_all}
 use lib.Ieee.{Float, nan}
-use Rattle.definition.specs.Num.{0ᶠ, ◌⊕◌, ◌⊗◌, ◌⊘◌, at, tabulate}
-use Rattle.definition.specs.Dense.{axpy, axpy_at, over, over_at, row}
+use Rattle.definition.specs.Num.{0ᶠ, ◌⊕◌, ◌⊗◌, ◌⊘◌, at}
+use Rattle.definition.specs.Dense.{axpy_at, over, over_at, row}
 use Rattle.definition.specs.Run.{scan}
 use Rattle.definition.specs.Cov.{Decision}
 use Rattle.definition.specs.Mean.{Mean, v_of, heed, usual_term, diffuse_term, hear, mean_step, mean_ended, mean_period_of}
-use Rattle.laws.specs.Lists.{tab_cong, vector_at, pairs_at, length_pairs, scan_next}
+use Rattle.laws.specs.Lists.{vector_at, pairs_at, length_pairs, scan_next}
 use Rattle.laws.specs.Flat.{Flat, no_decision, read_back, decisions_at, decisions_long, decision_at, block_at}
 use Rattle.laws.specs.Backward.{part_block, part_row}
 use Rattle.dense.specs.Views.{vec}
-use Rattle.dense.proofs.Laws.{both, vec-at}
 use Rattle.promise.specs.declared.Cause.{Cause}
 use Rattle.promise.specs.declared.Kind.{Kind}
 use Rattle.promise.specs.declared.Kind.TheVariants.{Skipped, Usual, Diffuse}
@@ -29,18 +28,10 @@ use Rattle.mean.specs.View.{mean_in, entry_at, heard_at, left_in, Followed, Reco
 
 -- ---- one element, by its kind
 
--- an entry of the mean moved by v times x / f; and the whole mean
-unfoldable pub moved : Float → Float → Float → Float → Float
-moved v f y x = y ⊕ v ⊗ (x ⊘ f)
-
-pub moved_all : (v f : Float) (m : ℕ) (a gain : List Float) → tabulate m (both (moved v f) (vec m a) (vec m gain)) ≡ axpy m (vec m a) v (over m gain f)
-unfolding both moved axpy axpy_at over over_at
-moved_all v f m a gain =
-    tab_cong m 0 (both (moved v f) (vec m a) (vec m gain)) (axpy_at (vec m a) v (over m gain f)) (λ i low b.
-    let h : i < m = omega arith in
-    let k = vector_at m i (over_at gain f) h in
-    let g = vec-at m i gain h in
-    cc)
+-- an entry of the mean moved by v times the gain's
+pub moved : (v f : Float) (m : ℕ) (a gain : List Float) (i : ℕ) {y : Float} → i < m → y ≡ at (vec m a) i ⊕ v ⊗ (at gain i ⊘ f) → y ≡ axpy_at (vec m a) v (over m gain f) i
+unfolding axpy_at over over_at
+moved v f m a gain i h e = let k = vector_at m i (over_at gain f) h in cc
 
 -- the row and the gain vector as parts of the lists that hold them
 pub followed_at : (i k : ℕ) (design gains : List Float) {m : ℕ} {a a' : List Float} {d x f v : Float} → i * m + m ≤ length design → k * m + m ≤ length gains → Followed m (take (i * m + m - i * m) (drop (i * m) design)) d x (take (k * m + m - k * m) (drop (k * m) gains)) f a a' v → Followed m (row m design i) d x (block_at m gains k) f a a' v

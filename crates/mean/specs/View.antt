@@ -1,9 +1,10 @@
 -- What the mean track's functions read off the lent parts, what they need of them, and what they promise.
 use Rattle.std.specs.Prelude.{◌≡◌, ℕ, ◌+◌, ◌*◌, ◌≤◌, ◌<◌, List, map, length, take, drop, Float}
 use Rattle.definition.specs.Run.{join, pairs, chunks}
+use Rattle.definition.specs.Inputs.{frame_from}
 use Rattle.definition.specs.Cov.{Decision}
 use Rattle.definition.specs.Dense.{axpy, over}
-use Rattle.definition.specs.Mean.{Mean, MeanPeriod, innovation, hear}
+use Rattle.definition.specs.Mean.{Mean, MeanPeriod, Shift, innovation, hear, mean_run}
 use Rattle.definition.specs.Parts.{predMean, filtMean, innovations, mean_block}
 use Rattle.definition.specs.Outcome.{mean_written}
 use Rattle.laws.specs.Flat.{Flat, Holds, decisions_at, decision_rows}
@@ -11,15 +12,26 @@ use Rattle.laws.specs.Passes.{Laid}
 use Rattle.dense.specs.Views.{vec}
 use Rattle.model.specs.Lists.{PartFits}
 use Rattle.carried.specs.State.{mean_kept}
+use Rattle.promise.specs.declared.Model.{Model}
+use Rattle.promise.specs.declared.Offsets.{Offsets}
 use Rattle.promise.specs.declared.Record.{Record}
 use Rattle.promise.specs.Records.{record_of}
 use Rattle.promise.specs.declared.Answer.{Answer}
+use Rattle.mean.specs.declared.Mean as declared
+use Rattle.mean.specs.declared.Shift as offsets
 
 -- ---- what the arrays and the flat parts stand for
 
--- the state of the means
+-- the state of the means, of m states: the places in use of its array
 abbrev pub mean_in : ℕ → List Float → Float → Mean
 mean_in m a l = record { a = vec m a; loglik = l }
+
+abbrev pub mean_of : ℕ → declared.Mean → Mean
+mean_of m s = mean_in m s.a s.loglik
+
+-- the offsets, the states' intercept by the places in use of its array
+abbrev pub shift_of : ℕ → offsets.Shift → Shift
+shift_of m s = record { c = vec m s.c; d = s.d.now }
 
 -- what a period hears: its decisions and its readings, the same element by element, and what n periods hear
 unfoldable pub entry_at : ℕ → ℕ → Flat → List Float → ℕ → List Decision × List Float
@@ -30,6 +42,10 @@ heard_at p m r y t = pairs (entry_at p m r y t).0 (entry_at p m r y t).1
 
 unfoldable pub entries : ℕ → ℕ → ℕ → Flat → List Float → List (List Decision × List Float)
 entries n p m r y = pairs (decision_rows n p m r) (chunks n p y)
+
+-- the run over n periods of the lent model, by what they hear, from the state s on
+abbrev pub run_in : Model → Shift → Mean → Flat → List Float → List MeanPeriod × Mean
+run_in x c s r y = mean_run (frame_from x.p x.m x.z.now x.zs.now x.t.now x.ts.now) c 0 s (entries x.n x.p x.m r y)
 
 -- what a period leaves
 abbrev pub left_in : List Float → List Float → List Float → MeanPeriod
@@ -75,6 +91,9 @@ pub record Periods (p m n : ℕ) (z zs t ts d y : ℕ) (r : Flat) : Type 0 where
   pub readings : n * p ≤ y
   pub holds : Holds m (n * p) r
 
+abbrev pub PeriodsFor : Model → ℕ → ℕ → Flat → Type 0
+PeriodsFor x d y r = Periods x.p x.m x.n (length x.z.now) (length x.zs.now) (length x.t.now) (length x.ts.now) d y r
+
 -- the blocks that they leave
 pub record Room (p m n : ℕ) (pm' fm' v' : ℕ) : Type 0 where
   pub pm : n * m ≤ pm'
@@ -97,6 +116,9 @@ pub record Ready (p m n : ℕ) (z zs t ts c d a1 y : ℕ) (r : Flat) : Type 0 wh
   pub ms : n * (p * m) ≤ length r.m_stars
   pub mi : n * (p * m) ≤ length r.m_infs
 
+abbrev pub ReadyFor : Model → Offsets → ℕ → Flat → Type 0
+ReadyFor x o y r = Ready x.p x.m x.n (length x.z.now) (length x.zs.now) (length x.t.now) (length x.ts.now) (length o.c.now) (length o.d.now) (length o.a1.now) y r
+
 -- and the outputs: one more block of the predicted means
 pub record Rooms (p m n : ℕ) (pm' fm' v' : ℕ) : Type 0 where
   pub pm : n * m + m ≤ pm'
@@ -115,10 +137,9 @@ pub record Recorded (m : ℕ) (design ds : List Float) (i : ℕ) (s : Mean) (d :
   pub is : r ≡ record_of d (hear m design ds i s (d, reading)).0
   pub after : s' ≡ (hear m design ds i s (d, reading)).1
 
--- what the loop leaves, over the run r: the state, the counts as they were, and the periods' blocks laid over the parts
-pub record Looped (p m n : ℕ) (r : List MeanPeriod × Mean) (x x' : Answer) (a' pm₀ pm' fm₀ fm' v₀ v' : List Float) : Type 0 where
-  pub state : mean_in m a' x'.loglik ≡ r.1
-  pub answer : x' ≡ with_loglik x r.1.loglik
+-- what the loop leaves, over the run r: the state, and the periods' blocks laid over the parts
+pub record Looped (p m n : ℕ) (r : List MeanPeriod × Mean) (s : Mean) (pm₀ pm' fm₀ fm' v₀ v' : List Float) : Type 0 where
+  pub state : s ≡ r.1
   pub pm : Laid (n * m) (join (map (mean_block predMean) r.0)) pm₀ pm'
   pub fm : Laid (n * m) (join (map (mean_block filtMean) r.0)) fm₀ fm'
   pub vs : Laid (n * p) (join (map (mean_block innovations) r.0)) v₀ v'

@@ -7,15 +7,15 @@ use mathlib.Core.Bool.{Bool, cond}
 use mathlib.Core.List.{List}
 use lib.ListN.{length, get_or, take, drop}
 use lib.Dec.{ltb}
-use lib.Ieee.{Float, nan, neg}
-use Rattle.definition.specs.Num.{◌⊕◌, ◌⊗◌, 1ᶠ, is_zero, at, sum_but}
+use lib.Ieee.{Float, nan}
+use Rattle.definition.specs.Num.{◌⊕◌, ◌⊗◌, 1ᶠ, is_zero, at, sum_but, matrix}
 use Rattle.definition.specs.Dense.{axpy, scaled, row, mat_vec, mat_tVec, mat_tVec_term, mat_vec_term, zero_at}
 use Rattle.definition.specs.Run.{fold_back, pairs}
 use Rattle.definition.specs.Cov.{Decision, diffuse}
-use Rattle.definition.specs.Smooth.{Rs, l_zero, l_zero_at, l_one, l_one_at, f_one, k_one, l_usual, l_diffuse, usual_r, diffuse_r, back_r, back_mean_element, elements_r, back_a, step_rs, back_mean_of}
+use Rattle.definition.specs.Smooth.{Rs, l_zero, l_one, f_one, k_one, l_usual, l_diffuse, usual_r, diffuse_r, back_r, back_mean_element, elements_r, back_a, step_rs, back_mean_of}
 use Rattle.laws.specs.Lists.{tab_at, length_tab, matrix_at, pairs_at, length_pairs}
 use Rattle.laws.specs.Flat.{Flat, no_decision, read_back, decisions_at, decisions_long, decision_at, block_at, look_at, mean_look_at}
-use Rattle.dense.proofs.Laws.{but_next, loaded_row}
+use Rattle.dense.proofs.Laws.{but_next}
 use Rattle.dense.specs.Views.{vec}
 use Rattle.laws.specs.Backward.{fold_none, fold_step, part_block}
 use Rattle.promise.specs.declared.Cause.{Cause}
@@ -27,14 +27,9 @@ use Rattle.mean_back.specs.View.{looked_at}
 
 -- ---- L' r by the entries of L
 
-module _ (m i j : ℕ) (k z r : List Float) (hi : i < m) (hj : j < m) where
-  pub zero_term : {x y : Float} → x ≡ l_zero_at k z i j → y ≡ at r i → x ⊗ y ≡ mat_tVec_term m (l_zero m k z) r j i
-  unfolding mat_tVec_term l_zero
-  zero_term e g = let q = matrix_at m m i j (l_zero_at k z) hi hj in cc
-
-  pub one_term : {a b y : Float} → a ≡ at k i → b ≡ at z j → y ≡ at r i → neg a ⊗ b ⊗ y ≡ mat_tVec_term m (l_one m k z) r j i
-  unfolding mat_tVec_term l_one l_one_at
-  one_term e h g = let q = matrix_at m m i j (l_one_at k z) hi hj in cc
+pub term : (m i j : ℕ) (l : ℕ → ℕ → Float) (r : List Float) {v : Float} → i < m → j < m → v ≡ l i j ⊗ at r i → v ≡ mat_tVec_term m (matrix m m l) r j i
+unfolding mat_tVec_term
+term m i j l r hi hj e = let q = matrix_at m m i j l hi hj in cc
 
 -- a row of A x: one term more, or none where x is 0
 pub kept_next : (m i j : ℕ) (a x : List Float) {s y r : Float} → s ≡ sum_but j (zero_at x) (mat_vec_term m a x i) → y ≡ at x j → r ≡ cond (is_zero y) s (s ⊕ at a (i * m + j) ⊗ y) → r ≡ sum_but (j + 1) (zero_at x) (mat_vec_term m a x i)
@@ -45,38 +40,29 @@ kept_next m i j a x {s} {y} {r} h e q =
 -- ---- one element, over what each call left
 
 module _ (m : ℕ) (z : List Float) where
-  pub usual_r_lem : (v f g : Float) (gain r k s t : List Float) → g ≡ f_one f → k ≡ scaled m gain (f_one f) → s ≡ mat_tVec m (l_zero m k z) r → t ≡ axpy m s (v ⊗ g) z → t ≡ usual_r m z v (f_one f) (l_usual m z f gain) r
-  unfolding usual_r l_usual
-  usual_r_lem _ _ _ _ _ _ _ _ e1 e2 e3 e4 = cc
-
   -- a and b are r0 and r1 after the element; x0 and x3 before it
-  pub diffuse_r_lem : (v f f∞ g : Float) (m* m∞ a b k0 ms mi k1 x0 x1 c x2 x3 : List Float) → g ≡ f_one f∞ → k0 ≡ scaled m m∞ (f_one f∞) → ms ≡ m* → mi ≡ m∞ → k1 ≡ k_one m f f∞ ms mi → x0 ≡ mat_tVec m (l_zero m k0 z) a → x1 ≡ mat_tVec m (l_zero m k0 z) b
-      → c ≡ mat_tVec m (l_one m k1 z) a → x2 ≡ axpy m x1 1ᶠ c → x3 ≡ axpy m x2 (v ⊗ g) z → ◌≡◌ {A = Rs} (record { r0 = x0; r1 = x3 }) (back_r m z (record { r0 = a; r1 = b }) (diffuse f f∞ m* m∞) v)
+  pub diffuse_r_lem : (v f f∞ g : Float) (m* m∞ a b k0 k1 x0 x1 c x2 x3 : List Float) → g ≡ f_one f∞ → k0 ≡ scaled m m∞ g → k1 ≡ k_one m f f∞ m* m∞ → x0 ≡ mat_tVec m (l_zero m k0 z) a → x1 ≡ mat_tVec m (l_zero m k0 z) b → c ≡ mat_tVec m (l_one m k1 z) a
+      → x2 ≡ axpy m x1 1ᶠ c → x3 ≡ axpy m x2 (v ⊗ g) z → ◌≡◌ {A = Rs} (record { r0 = x0; r1 = x3 }) (back_r m z (record { r0 = a; r1 = b }) (diffuse f f∞ m* m∞) v)
   unfolding back_r diffuse_r l_usual l_diffuse
-  diffuse_r_lem _ _ _ _ _ _ _ _ _ _ _ _ _ _ _ _ _ e1 e2 e3 e4 e5 e6 e7 e8 e9 e10 = cc
+  diffuse_r_lem _ _ _ _ _ _ _ _ _ _ _ _ _ _ _ e1 e2 e3 e4 e5 e6 e7 e8 = cc
 
-  -- by the kind that is told at place k
-  module _ (l : Flat) (vs : List Float) (k : ℕ) {q : Kind} (so : q ≡ kind_from (get_or l.kinds k 0) (at vs k) (at l.f_stars k) (at l.f_infs k)) where
-    pub back_none : (s : Rs) {c : Cause} → q ≡ Skipped c → s ≡ back_r m z s (read_back m l k) (at vs k)
+-- ---- by the kind that is told at place k: the row and the gain vectors are the parts that the definition reads
+
+module _ (m i k : ℕ) (design : List Float) (l : Flat) (vs : List Float) {q : Kind} (so : q ≡ kind_from (get_or l.kinds k 0) (at vs k) (at l.f_stars k) (at l.f_infs k)) where
+  pub back_none : (s : Rs) {c : Cause} → q ≡ Skipped c → s ≡ back_r m (row m design i) s (read_back m l k) (at vs k)
+  unfolding back_r
+  back_none s e = rw (read m l (at vs k) k so e).2 refl
+
+  module _ (z ms : List Float) (ez : vec m z ≡ row m design i) (es : vec m ms ≡ block_at m l.m_stars k) where
+    pub back_usual : (a b a' : List Float) {v f : Float} → q ≡ Usual v f → a' ≡ usual_r m (vec m z) v (f_one f) (l_usual m (vec m z) f (vec m ms)) a
+        → ◌≡◌ {A = Rs} (record { r0 = a'; r1 = b }) (back_r m (row m design i) (record { r0 = a; r1 = b }) (read_back m l k) (at vs k))
     unfolding back_r
-    back_none s e = rw (read m l (at vs k) k so e).2 refl
+    back_usual a b a' e h = let t = read m l (at vs k) k so e in let h' = rw (ez, es) at h in rw (t.1, t.0, h') refl
 
-    pub back_usual : (a b a' : List Float) {v f : Float} → q ≡ Usual v f → a' ≡ usual_r m z v (f_one f) (l_usual m z f (block_at m l.m_stars k)) a
-        → ◌≡◌ {A = Rs} (record { r0 = a'; r1 = b }) (back_r m z (record { r0 = a; r1 = b }) (read_back m l k) (at vs k))
-    unfolding back_r
-    back_usual a b a' e h = let t = read m l (at vs k) k so e in rw (t.1, t.0, h) refl
+    pub back_diffuse : (mi : List Float) → vec m mi ≡ block_at m l.m_infs k → (s s' : Rs) {v f f∞ : Float} → q ≡ Diffuse v f f∞ → s' ≡ back_r m (vec m z) s (diffuse f f∞ (vec m ms) (vec m mi)) v → s' ≡ back_r m (row m design i) s (read_back m l k) (at vs k)
+    back_diffuse mi ei s s' e h = let t = read m l (at vs k) k so e in let h' = rw (ez, es, ei) at h in rw (t.1, t.0) h'
 
-    pub back_diffuse : (s s' : Rs) {v f f∞ : Float} → q ≡ Diffuse v f f∞ → s' ≡ back_r m z s (diffuse f f∞ (block_at m l.m_stars k) (block_at m l.m_infs k)) v → s' ≡ back_r m z s (read_back m l k) (at vs k)
-    back_diffuse s s' e h = let t = read m l (at vs k) k so e in rw (t.1, t.0) h
-
--- ---- the row of the design, loaded, and the parts that an element and a period read
-
-module _ (m i k : ℕ) (v f : Float) (design z : List Float) (hr : i * m + m ≤ length design) (el : vec (length (take (i * m + m - i * m) (drop (i * m) design))) z ≡ take (i * m + m - i * m) (drop (i * m) design)) where
-  pub usual_at : (a a' gains : List Float) → k * m + m ≤ length gains → a' ≡ usual_r m (vec m z) v (f_one f) (l_usual m (vec m z) f (take (k * m + m - k * m) (drop (k * m) gains))) a → a' ≡ usual_r m (row m design i) v (f_one f) (l_usual m (row m design i) f (block_at m gains k)) a
-  usual_at a a' gains hg h = rw (loaded_row i m design z hr el, part_block k m gains hg) at h
-
-  pub diffuse_at : (g : Float) (s s' : Rs) (m* m∞ : List Float) → k * m + m ≤ length m* → k * m + m ≤ length m∞ → s' ≡ back_r m (vec m z) s (diffuse f g (take (k * m + m - k * m) (drop (k * m) m*)) (take (k * m + m - k * m) (drop (k * m) m∞))) v → s' ≡ back_r m (row m design i) s (diffuse f g (block_at m m* k) (block_at m m∞ k)) v
-  diffuse_at g s s' m* m∞ hs hi h = rw (loaded_row i m design z hr el, part_block k m m* hs, part_block k m m∞ hi) at h
+-- ---- the parts that a period reads
 
 pub smooth_at : (m t : ℕ) (live : Bool) (r : Rs) (pm pc pi out : List Float) → t * m + m ≤ length pm → t * (m * m) + m * m ≤ length pc → t * (m * m) + m * m ≤ length pi
     → out ≡ back_a m live (take (t * (m * m) + m * m - t * (m * m)) (drop (t * (m * m)) pc)) (take (t * (m * m) + m * m - t * (m * m)) (drop (t * (m * m)) pi)) (take (t * m + m - t * m) (drop (t * m) pm)) r → out ≡ back_a m live (block_at (m * m) pc t) (block_at (m * m) pi t) (block_at m pm t) r

@@ -3,6 +3,7 @@ use mathlib.Core.Path.{◌≡◌, refl, sym, ap, ◌∙◌}
 use Prim.Native.Nat.{ℕ, ◌+◌, ◌≤◌, ◌<◌}
 use native.Mathlib.Omega.{arith}
 use native.Mathlib.Numerals.{add-one}
+use mir.Val.{bool_byte}
 use mathlib.Core.Bool.{Bool, true, false, cond}
 use mathlib.Core.List.{List, [], ◌∷◌}
 use lib.ListN.{length, get_or, take}
@@ -24,14 +25,18 @@ pub none_before : (flags : List ℕ) → 0 ≡ flags_before flags 0
 unfolding flags_before count
 none_before flags = refl
 
-pub one_further : (flags : List ℕ) (i column next : ℕ) (flagged : Bool) → i < length flags → column ≡ flags_before flags i → flagged ≡ is_flagged flags i → next ≡ cond flagged 1 0 + column → next ≡ flags_before flags (i + 1)
+byte : (b : Bool) → bool_byte b ≡ cond b 1 0
+byte true = refl
+byte false = refl
+
+pub one_further : (flags : List ℕ) (i column : ℕ) (flagged : Bool) → i < length flags → column ≡ flags_before flags i → flagged ≡ is_flagged flags i → column + bool_byte flagged ≡ flags_before flags (i + 1)
 unfolding flags_before count
-one_further flags i column next flagged b e f g =
+one_further flags i column flagged b e f =
     let s : count (eqb 1) (take (i + 1) flags) ≡ count (eqb 1) (take i flags) + (cond (eqb 1 (get_or flags i 0)) 1 0 + 0) =
     ap (λ (k : ℕ). count (eqb 1) (take k flags)) (add-one i) ∙ ap (count (eqb 1)) (take-suc flags i 0 b) ∙ count-append (eqb 1) (take i flags) (get_or flags i 0 ∷ []) in
-    let t : ◌≡◌ {A = ℕ} (cond flagged 1 0) (cond (eqb 1 (get_or flags i 0)) 1 0) = ap (λ (w : Bool). cond {A = ℕ} w 1 0) (f ∙ eqb_swap (get_or flags i 0) 1) in
+    let t : ◌≡◌ {A = ℕ} (bool_byte flagged) (cond (eqb 1 (get_or flags i 0)) 1 0) = byte flagged ∙ ap (λ (w : Bool). cond {A = ℕ} w 1 0) (f ∙ eqb_swap (get_or flags i 0) 1) in
     omega arith
 
-pub one_at_most : (flagged : Bool) (column next : ℕ) → next ≡ cond flagged 1 0 + column → next ≤ column + 1
-one_at_most true column next e = omega arith
-one_at_most false column next e = omega arith
+pub one_at_most : (flagged : Bool) (column : ℕ) → column + bool_byte flagged ≤ column + 1
+one_at_most true column = omega arith
+one_at_most false column = omega arith

@@ -1,13 +1,13 @@
 -- Laws for the leaves: the places of a matrix, products of sizes in range, the start of arrays that hold the inputs.
-use mathlib.Core.Path.{◌≡◌}
-use mathlib.Core.Bool.{Bool, true, false}
+use mathlib.Core.Path.{◌≡◌, refl}
+use mathlib.Core.Bool.{Bool, not}
 use mathlib.Core.List.{List}
 use Prim.Native.Nat.{ℕ, ◌+◌, ◌*◌, ◌≤◌, ◌<◌}
 use native.Mathlib.Omega.{arith}
 use native.Mathlib.Nat.{mul-le-mul}
 use lib.ListN.{length}
 use lib.Dec.{eqb}
-use lib.Ieee.{Float}
+use lib.Ieee.{Float, eq, ne}
 use Rattle.definition.specs.Run.{any_of}
 use Rattle.definition.specs.Inputs.{start_inf, start_root, start_from}
 use Rattle.laws.specs.Lists.{place_lt}
@@ -15,7 +15,7 @@ use Rattle.laws.specs.Accepted.{InRange}
 use Rattle.dense.specs.Views.{vec, rect}
 use Rattle.dense.proofs.Laws.{area, loaded_rect}
 use Rattle.model.specs.Places.{Place, StartFits}
-use Rattle.model.specs.Start.{cov_of}
+use Rattle.track.specs.View.{cov_of}
 
 -- a place lies within its matrix, and is small
 pub place_in : {k size i j : ℕ} → Place k size i j → i * k + j < size
@@ -23,6 +23,11 @@ place_in {k} {size} {i} {j} h = omega (arith, place_lt k k i j h.row h.col, h.wh
 
 pub place_most : {k size i j : ℕ} → Place k size i j → i * k + j < 64
 place_most {k} {size} {i} {j} h = omega (arith, place_lt k k i j h.row h.col, area h.most h.most)
+
+-- `!=` is no `==`
+pub other : (a b : Float) → ne a b ≡ not (eq a b)
+unfolding ne
+other a b = refl
 
 -- sizes in range: their products are small
 pub record Small (p m r n : ℕ) : Type 0 where
@@ -51,9 +56,6 @@ small {p} {m} {r} {n} i =
       npm = mul-le-mul {n₁ = n} {m₁ = p * m} {n₂ = 4096} {m₂ = 64} i.n4096 pm;
       nmm = mul-le-mul {n₁ = n} {m₁ = m * m} {n₂ = 4096} {m₂ = 64} i.n4096 mm;
     }
-
-pub contrary : {A : Type 0} {b : Bool} → b ≡ true → b ≡ false → A
-contrary {A} {b} e f = absurd (let z : ◌≡◌ {A = ℕ} 0 1 = cc in omega arith)
 
 -- the start, of an array that holds P*
 pub started : (m : ℕ) {p* : List Float} (flags : List ℕ) (star p∞ root : List Float) {live : Bool} → StartFits m (length p*) (length flags) → vec (length p*) star ≡ p* → rect m m p∞ ≡ start_inf m flags

@@ -1,21 +1,13 @@
--- Refusal 2 over numbers: the lengths of the lent parts, and that they are the definition's tests.
-use Rattle.std.specs.Prelude.{◌≡◌, ℕ, ◌+◌, ◌*◌, Bool, ◌&&◌, List, length, eqb, leb, Float}
+-- Refusal 2's room over numbers: the lengths of the lent parts, and that they are the definition's tests.
+use Rattle.std.specs.Prelude.{◌≡◌, ℕ, ◌+◌, ◌*◌, Bool, ◌&&◌, List, length, leb, Float}
 use Rattle.std.proofs.Math.Path.{refl, ap}
 use Rattle.std.proofs.Common.{sym, ◌∙◌}
 use Rattle.std.proofs.Math.Bool.{true, false}
 use Rattle.definition.specs.Inputs.{Model, Offsets}
-use Rattle.definition.specs.Refusals.{outside, part_fits, inputs_fit, first_of, tests, refusal}
+use Rattle.definition.specs.Refusals.{outside, first_of, tests, refusal}
 use Rattle.definition.specs.Parts.{predCov, pred_inf, filtCov, fStar, fInf, mStar, mInf, predMean, filtMean, innovations}
 use Rattle.definition.specs.Outcome.{CovParts, MeanParts, kinds_need, cov_need, mean_need, smoothed_cov_need, smoothed_mean_need, roomy, roomy_smoothed}
-
--- of the inputs: Z, Zs, H, T, Ts, R, Q, c, d, a1, P*, the flags and the readings
-unfoldable pub lengths_fit : (p m r n z zs h t ts rr q c d a1 p* flags y : ℕ) → Bool
-lengths_fit p m r n z zs h t ts rr q c d a1 p* flags y =
-    part_fits (p * m) z zs && eqb h (p * p) && part_fits (m * m) t ts && eqb rr (m * r) && eqb q (r * r) && eqb c m && eqb d p
-    && eqb a1 m
-    && eqb p* (m * m)
-    && eqb flags m
-    && eqb y (n * p)
+use Rattle.model.specs.declared.lengths.OutputLengths as code
 
 -- of the filter's outputs, in the order of the call: predicted mean, covariance and diffuse covariance, filtered mean and
 -- covariance, kinds, v, F*, F∞, M*, M∞
@@ -29,18 +21,34 @@ rooms p m n pm pc pi fm fc ks vs fs fi ms mi =
     && leb (n * m) fm
     && leb (n * p) vs
 
+-- as the code has the lengths
+abbrev pub rooms_in : ℕ → ℕ → ℕ → code.OutputLengths → Bool
+rooms_in p m n h =
+    rooms p m n h.pred_mean h.pred_cov h.pred_inf h.filt_mean h.filt_cov h.kinds h.v h.f_star h.f_inf h.m_star h.m_inf
+
+-- the lengths of what is lent, in the same order
+abbrev pub lengths_of : (pred_mean pred_cov pred_inf filt_mean filt_cov : List Float) (kinds : List ℕ)
+    (v f_star f_inf m_star m_inf : List Float) → code.OutputLengths
+lengths_of pm pc pi fm fc ks v fs fi ms mi =
+    record {
+      pred_mean = length pm;
+      pred_cov = length pc;
+      pred_inf = length pi;
+      filt_mean = length fm;
+      filt_cov = length fc;
+      kinds = length ks;
+      v = length v;
+      f_star = length fs;
+      f_inf = length fi;
+      m_star = length ms;
+      m_inf = length mi;
+    }
+
 -- and of the smoother's two, covariance and mean
 unfoldable pub rooms_smoothed : ℕ → ℕ → Bool → ℕ → ℕ → Bool
 rooms_smoothed m n room sm sc = room && leb (n * (m * m)) sc && leb (n * m) sm
 
 -- ---- they are the definition's
-
-pub lengths_fit_lem : (x : Model) (o : Offsets) (y : ℕ)
-    → (inputs_fit x o && eqb y (x.n * x.p))
-    ≡ lengths_fit x.p x.m x.r x.n (length x.z_once) (length x.z_list) (length x.h) (length x.t_once)
-    (length x.t_list) (length x.rr) (length x.q) (length o.c) (length o.d) (length o.a1) (length x.p_star) (length x.flags) y
-unfolding inputs_fit lengths_fit
-lengths_fit_lem x o y = refl
 
 -- the rooms of lent parts
 abbrev pub rooms_of : Model → CovParts → MeanParts → Bool

@@ -2,5 +2,4 @@ pub mod Lengths
 pub mod Lists
 pub mod Places
 pub mod Noise
-pub mod Start
 pub mod Past

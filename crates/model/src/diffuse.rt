@@ -14,23 +14,11 @@ fn one_if(b: bool) -> f64
     if b { 1.0 } else { 0.0 }
 }
 
-// k, and one more where b holds: a count of flags goes on.
-fn one_more_if(b: bool, k: usize) -> usize
-    requires { k < 8 }
-    ensures { result ≡ cond b 1 0 + k }
-{
-    if b { k + 1 } else { k }
-}
-
 // Some state is diffuse.
 pub fn any_flag(flags: &[u8]) -> bool
     ensures { result ≡ any_of (eqb 1) flags.now }
 {
-    let mut found = false;
-    for i in 0..flags.len() {
-        found = found | (1 == flags[i]);
-    }
-    found
+    dense::any_of(flags, |flag| 1 == flag)
 }
 
 // P∞.
@@ -39,12 +27,12 @@ pub fn diffuse_cov(flags: &[u8], m: usize) -> [f64; 64]
     ensures { mat m result ≡ start_inf m flags.now }
 {
     let mut out = [0.0; 64];
-    for i in 0..m {
-        for j in 0..m {
-            let v = one_if((i == j) & entries::is_flagged(flags, i));
-            dense::put(&mut out, m, i, j, v);
-        }
-    }
+    dense::matrix_into(
+        &mut out,
+        m,
+        m,
+        |i, j| one_if((i == j) & entries::is_flagged(flags, i)),
+    );
     out
 }
 
@@ -61,7 +49,7 @@ pub fn diffuse_root(flags: &[u8], m: usize) -> [f64; 64]
             let v = one_if(flagged & (column == j));
             dense::put(&mut out, m, i, j, v);
         }
-        column = one_more_if(flagged, column);
+        column += flagged as usize;
     }
     out
 }

@@ -41,7 +41,7 @@ pub fn transition<'a>(tr: &mut [f64; 64], once: &'a [f64], list: &'a [f64], m: u
     if list.len() == 0 {
         return;
     }
-    dense::fill64(tr, part(once, list, m, m, t));
+    dense::fill(tr, part(once, list, m, m, t));
 }
 
 // The list without the entries that the first `done` periods have used up: what is left begins with the one that the next

@@ -11,11 +11,7 @@ fn column(a: &[f64], m: usize, r: usize, l: usize) -> [f64; 8]
     requires { Column m r l (length a.now) }
     ensures { vec m result ≡ tabulate m (λ i. ent r a.now i l) }
 {
-    let mut out = [0.0; 8];
-    for i in 0..m {
-        out[i] = a[i * r + l];
-    }
-    out
+    dense::vector(m, |i| a[i * r + l])
 }
 
 // P and what disturbance l brings, of variance q. The sum in R Q starts from +0.0, so no entry of it is -0.0.

@@ -1,192 +1,127 @@
 // The arguments of the panel's two programs: which there are, and the files that they name.
 #![tactic(auto)]
 
-ghost use Rattle.std.specs.Prelude.{◌≤◌, length, IfSome};
-
 use std::env::{Env, FillError};
 use std::fs;
 use std::fs::Files;
 use std::io::{Error, ErrorKind, Read};
+use told::Told;
 
-// `svg`, `save`, `from` and `file` are places among the arguments; 0: none.
-#[derive(Clone, Copy)]
+// A file is the place among the arguments that its name has. With none for the sheet it is standard input.
+#[derive(Clone, Copy, Default)]
 pub struct Options {
     pub smooth: bool,
     pub table: bool,
-    pub svg: usize,
-    pub save: usize,
-    pub from: usize,
-    pub file: usize,
-    pub help: bool,
-    pub wrong: bool,
+    pub svg: Option<usize>,
+    pub save: Option<usize>,
+    pub from: Option<usize>,
+    pub sheet: Option<usize>,
+}
+
+impl Options {
+    // Whether the sheet is one stretch of a run, which goes on from a saved one, or is to be saved, or both.
+    pub fn is_stretch(self) -> bool {
+        self.save.is_some() | self.from.is_some()
+    }
+
+    // A picture shows estimates, and before any reading exists there are none. A stretch is not smoothed, since what comes after it is not there yet;
+    // and the picture shows smoothed estimates too. A table is of checks to come, and a saved run is of checks that came.
+    fn go_together(self) -> bool {
+        let picture = self.svg.is_some();
+        !(self.table & picture) & !(self.is_stretch() & (self.smooth | self.table | picture))
+    }
+}
+
+// The files that an argument can name.
+#[derive(Clone, Copy)]
+enum File {
+    Svg,
+    Save,
+    From,
+    Sheet,
+}
+
+// What the arguments say, as far as they are read. A wrong one is kept as a flag and does not end the reading, since --help behind it still counts.
+#[derive(Clone, Copy, Default)]
+struct Said {
+    options: Options,
+    help: bool,
+    wrong: bool,
     // Whose file the next argument is.
-    pub awaits: u8,
+    awaits: Option<File>,
 }
 
-const NOBODY: u8 = 0;
-
-const SVG: u8 = 1;
-
-const SAVE: u8 = 2;
-
-const FROM: u8 = 3;
-
-fn none() -> Options {
-    Options {
-        smooth: false,
-        table: false,
-        svg: 0,
-        save: 0,
-        from: 0,
-        file: 0,
-        help: false,
-        wrong: false,
-        awaits: NOBODY,
+impl Said {
+    // Argument i names this file, which no other does.
+    fn name(&mut self, file: File, i: usize) {
+        let before = match file {
+            File::Svg => self.options.svg.replace(i),
+            File::Save => self.options.save.replace(i),
+            File::From => self.options.from.replace(i),
+            File::Sheet => self.options.sheet.replace(i),
+        };
+        self.wrong |= before.is_some();
     }
-}
 
-// `-` in the place of the sheet's file is standard input.
-fn is_dash(word: &[u8]) -> bool {
-    check::same(word, b"-")
-}
-
-// Whether a word can be a file's name: not empty, and no option.
-fn is_name(word: &[u8]) -> bool {
-    if word.len() == 0 {
-        return false;
-    }
-    word[0] != b'-'
-}
-
-// An argument that is no option: the sheet's file, once.
-fn name(o: Options, i: usize, word: &[u8]) -> Options {
-    let mut o = o;
-    if !(is_name(word) | is_dash(word)) {
-        o.wrong = true;
-        return o;
-    }
-    if o.file > 0 {
-        o.wrong = true;
-    }
-    o.file = i;
-    o
-}
-
-// An option whose file comes next, once; `given` is the file that it has already.
-fn await_file(o: Options, whose: u8, given: usize) -> Options {
-    let mut o = o;
-    if given > 0 {
-        o.wrong = true;
-    }
-    o.awaits = whose;
-    o
-}
-
-// The file that was awaited.
-fn take_file(o: Options, i: usize) -> Options {
-    let mut o = o;
-    let whose = o.awaits;
-    match whose {
-        SVG => {
-            o.svg = i;
+    fn take(&mut self, i: usize, word: &[u8]) {
+        if let Some(file) = self.awaits.take() {
+            return self.name(file, i);
         }
-        SAVE => {
-            o.save = i;
-        }
-        _ => {
-            o.from = i;
+        match word {
+            b"--smooth" => self.options.smooth = true,
+            b"--table" => self.options.table = true,
+            b"--help" => self.help = true,
+            b"--svg" => self.awaits = Some(File::Svg),
+            b"--save" => self.awaits = Some(File::Save),
+            b"--from" => self.awaits = Some(File::From),
+            b"-" => self.name(File::Sheet, i),
+            [] | [b'-', ..] => self.wrong = true,
+            _ => self.name(File::Sheet, i),
         }
     }
-    o.awaits = NOBODY;
-    o
+
+    fn is_wrong(self) -> bool {
+        self.wrong | self.awaits.is_some() | !self.options.go_together()
+    }
 }
 
-// Argument i; the first is the program's own name.
-fn take(o: Options, i: usize, word: &[u8]) -> Options {
-    let mut o = o;
-    if i == 0 {
-        return o;
-    }
-    if o.awaits != NOBODY {
-        return take_file(o, i);
-    }
-    if check::same(word, b"--smooth") {
-        o.smooth = true;
-        return o;
-    }
-    if check::same(word, b"--table") {
-        o.table = true;
-        return o;
-    }
-    if check::same(word, b"--help") {
-        o.help = true;
-        return o;
-    }
-    if check::same(word, b"--svg") {
-        return await_file(o, SVG, o.svg);
-    }
-    if check::same(word, b"--save") {
-        return await_file(o, SAVE, o.save);
-    }
-    if check::same(word, b"--from") {
-        return await_file(o, FROM, o.from);
-    }
-    name(o, i, word)
-}
-
-// Whether the sheet is one stretch of a run, which goes on from a saved one, or is to be saved, or both.
-pub fn is_stretch(o: Options) -> bool {
-    (o.save > 0) | (o.from > 0)
-}
-
-// A picture shows estimates, and before any reading exists there are none. A stretch is not smoothed, since what comes after it is not there yet; and
-// the picture shows smoothed estimates too. A table is of checks to come, and a saved run is of checks that came.
-fn fitting(o: Options) -> Options {
-    let mut o = o;
-    let picture = o.svg > 0;
-    if o.awaits != NOBODY {
-        o.wrong = true;
-    }
-    if o.table & picture {
-        o.wrong = true;
-    }
-    if is_stretch(o) & (o.smooth | o.table | picture) {
-        o.wrong = true;
-    }
-    o
-}
-
-// Puts argument i at the start of the space. Answers its length; nothing where there is no such argument. One that is longer than the space reads as
-// an empty one.
-pub fn argument<E: Env>(env: &E, i: usize, space: &mut [u8]) -> Option<usize>
-    ensures { IfSome result (λ k. k ≤ length space.new) }
-{
+// Argument i, in the space. None: there is no such argument. One that is longer than the space reads as an empty one.
+pub fn argument<'a, E: Env>(env: &E, i: usize, space: &'a mut [u8]) -> Option<&'a [u8]> {
     match env.arg(i, space) {
-        Ok(k) => Some(k),
-        Err(FillError::TooLong) => Some(0),
+        Ok(k) => Some(&space[..k]),
+        Err(FillError::TooLong) => Some(b""),
         Err(FillError::NotPresent) => None,
     }
 }
 
-fn with_argument<E: Env>(env: &E, o: Options, i: usize) -> Option<Options> {
-    let mut space = io::buffer();
-    let k = argument(env, i, &mut space)?;
-    Some(take(o, i, &space[..k]))
+// The name that argument i is, in the space.
+pub fn name<'a, E: Env>(env: &E, i: usize, space: &'a mut [u8]) -> &'a [u8] {
+    argument(env, i, space).unwrap_or(b"")
 }
 
-pub fn given<E: Env>(env: &E) -> Options {
-    let mut o = none();
-    for i in 0..usize::MAX {
-        match with_argument(env, o, i) {
-            Some(more) => {
-                o = more;
-            }
-            None => {
-                break;
-            }
+fn read_all<E: Env>(env: &E) -> Said {
+    let mut said = Said::default();
+    // The first is the program's own name. The list has no length: it ends at the first that is not there.
+    for i in 1..usize::MAX {
+        let mut space = io::buffer();
+        match argument(env, i, &mut space) {
+            Some(word) => said.take(i, word),
+            None => break,
         }
     }
-    fitting(o)
+    said
+}
+
+// The options, where the arguments ask for what the program can do. Else the usage is told.
+pub fn given<E: Env>(env: &E) -> Result<Options, Told> {
+    let said = read_all(env);
+    if said.help {
+        return Err(told::help());
+    }
+    if said.is_wrong() {
+        return Err(told::wrong_arguments());
+    }
+    Ok(said.options)
 }
 
 // ---- files by name
@@ -198,10 +133,7 @@ fn as_text(name: &[u8]) -> std::io::Result<&str> {
     if name.len() > 4095 {
         return Err(Error::from_raw_os_error(NAME_TOO_LONG));
     }
-    match str::from_utf8(name) {
-        Ok(text) => Ok(text),
-        Err(_) => Err(Error::from(ErrorKind::InvalidFilename)),
-    }
+    str::from_utf8(name).map_err(|_| Error::from(ErrorKind::InvalidFilename))
 }
 
 pub fn open_read<R: Files>(files: &R, name: &[u8]) -> std::io::Result<R::File> {
@@ -209,104 +141,79 @@ pub fn open_read<R: Files>(files: &R, name: &[u8]) -> std::io::Result<R::File> {
 }
 
 // A file that is there is emptied.
-pub fn open_overwrite<R: Files>(files: &R, name: &[u8]) -> std::io::Result<R::File> {
+pub fn create<R: Files>(files: &R, name: &[u8]) -> std::io::Result<R::File> {
     fs::create(files, as_text(name)?)
 }
 
-pub fn unlink<R: Files>(files: &R, name: &[u8]) -> std::io::Result<()> {
+pub fn remove_file<R: Files>(files: &R, name: &[u8]) -> std::io::Result<()> {
     fs::remove_file(files, as_text(name)?)
 }
 
 pub fn rename<R: Files>(files: &R, from: &[u8], to: &[u8]) -> std::io::Result<()> {
-    let from = as_text(from)?;
-    let to = as_text(to)?;
-    fs::rename(files, from, to)
+    fs::rename(files, as_text(from)?, as_text(to)?)
 }
 
-// 0 at the end, and where the read fails.
-fn read_some<F: Read>(file: &mut F, space: &mut [u8]) -> usize
-    ensures { result ≤ length space.new }
-{
-    match file.read(space) {
-        Ok(n) => n,
-        Err(_) => 0,
-    }
-}
-
-// Reads until the space is full, the file ends or a read fails. Answers how many bytes stand at the start of the space.
-pub fn read_full<F: Read>(file: &mut F, space: &mut [u8]) -> usize
-    ensures { result ≤ length space.new }
-{
+// Reads until the space is full, the file ends or a read fails: by hand, since std's read_exact does not answer how much there was, and its read_to_end
+// allocates.
+pub fn read_full<'a, F: Read>(file: &mut F, space: &'a mut [u8]) -> &'a [u8] {
     let mut done = 0;
     while done < space.len() {
-        let n = read_some(file, &mut space[done..]);
-        if n == 0 {
-            break;
+        match file.read(&mut space[done..]) {
+            Ok(0) | Err(_) => break,
+            Ok(n) => done += n,
         }
-        done += n;
     }
-    done
+    &space[..done]
+}
+
+// The same of standard input: by io, which does say how much there was, and needs no handle.
+fn read_input(space: &mut [u8]) -> &[u8] {
+    let n = io::read_full(0, space);
+    &space[..n]
 }
 
 // ---- the sheet, and the picture
 
-// What a sheet is read from: standard input, or a file.
-#[derive(Drop)]
-pub enum Source<F> {
-    Input,
-    Named(F),
+// A sheet that fills its space may go on past it.
+pub const SPACE: usize = 262144;
+
+// `-` in the place of the sheet's file is standard input.
+fn read_named<'a, R: Files>(files: &R, name: &[u8], space: &'a mut [u8]) -> Result<&'a [u8], Told> {
+    if matches!(name, b"-") {
+        return Ok(read_input(space));
+    }
+    let mut file = open_read(files, name).map_err(|e| told::unopened(b"the sheet", name, e))?;
+    Ok(read_full(&mut file, space))
 }
 
-// The sheet, open for reading. None: it can't be had, and that is told.
-fn open_named<R: Files>(files: &R, name: &[u8]) -> Option<Source<R::File>> {
-    if is_dash(name) {
-        return Some(Source::Input);
-    }
-    match open_read(files, name) {
-        Ok(file) => Some(Source::Named(file)),
-        Err(e) => {
-            told::unopened(b"the sheet", name, e);
-            None
-        }
-    }
+pub fn read_sheet<'a, R: Env + Files>(
+    rt: &R,
+    sheet: Option<usize>,
+    space: &'a mut [u8],
+) -> Result<&'a [u8], Told> {
+    let Some(i) = sheet else {
+        return Ok(read_input(space));
+    };
+    let mut names = io::buffer();
+    read_named(rt, name(rt, i, &mut names), space)
 }
 
-// The same of the argument that names it; standard input where none does.
-pub fn open<R: Env + Files>(rt: &R, file: usize) -> Option<Source<R::File>> {
-    if file == 0 {
-        return Some(Source::Input);
+// The sheet's text, in the space. Where it can't be had, that is told.
+pub fn text<'a, R: Env + Files>(
+    rt: &R,
+    sheet: Option<usize>,
+    space: &'a mut [u8; SPACE],
+) -> Result<&'a [u8], Told> {
+    let text = read_sheet(rt, sheet, space)?;
+    if text.len() == SPACE {
+        return Err(told::too_long());
     }
+    Ok(text)
+}
+
+// The picture's file, open for writing. Where it can't be had, that is told.
+pub fn create_picture<R: Env + Files>(rt: &R, svg: usize) -> Result<R::File, Told> {
     let mut space = io::buffer();
-    let k = argument(rt, file, &mut space).unwrap_or(0);
-    open_named(rt, &space[..k])
-}
-
-// All of it, as far as the space goes, as read_full says.
-pub fn read_sheet<F: Read + Drop>(source: Source<F>, space: &mut [u8]) -> usize
-    ensures { result ≤ length space.new }
-{
-    match source {
-        Source::Input => io::read_full(0, space),
-        Source::Named(file) => {
-            let mut file = file;
-            read_full(&mut file, space)
-        }
-    }
-}
-
-fn create_named<R: Files>(files: &R, name: &[u8]) -> Option<R::File> {
-    match open_overwrite(files, name) {
-        Ok(file) => Some(file),
-        Err(e) => {
-            told::unopened(b"the picture's file", name, e);
-            None
-        }
-    }
-}
-
-// The picture's file, open for writing. None: it can't be had, and that is told.
-pub fn create<R: Env + Files>(rt: &R, file: usize) -> Option<R::File> {
-    let mut space = io::buffer();
-    let k = argument(rt, file, &mut space).unwrap_or(0);
-    create_named(rt, &space[..k])
+    let name = name(rt, svg, &mut space);
+    create(rt, name).map_err(|e| told::unopened(b"the picture's file", name, e))
 }

@@ -4,235 +4,144 @@
 // built there and kept to the period's end.
 #![tactic(auto)]
 
-ghost use Rattle.std.specs.Prelude.{◌≡◌, true, false, ◌≤◌, ◌<◌, ◌*◌, length};
+ghost use Rattle.std.specs.Prelude.{◌≡◌, ◌≤◌, ◌<◌, length};
 ghost use Rattle.definition.specs.Run.{scan};
 ghost use Rattle.definition.specs.Cov.{element_of, is_live, step_star, step_inf, stepped};
-ghost use Rattle.laws.specs.Flat.{flat_in};
 ghost use Rattle.dense.specs.Views.{mat};
-ghost use Rattle.element.specs.Views.{carried, fixed_of, InPeriod, SdKnown};
-ghost use Rattle.period.specs.Views.{Ran, Begun, state_of, gaps_of, stops_of, past_of, before_first, Sizes, Stretch, TakenAt, RestByRoot, Rest};
+ghost use Rattle.track.specs.View.{cov_in};
+ghost use Rattle.acceptance.specs.Views.{fresh_in};
+ghost use Rattle.element.specs.Views.{flat_of, carried_of, Kept, noise_in, fixed_in, InPeriod, SdKnown};
+ghost use Rattle.period.specs.Views.{Ran, Begun, gaps_of, stop_of, before_first, Sizes, Stretch, TakenAt, RestByRoot, Rest};
 
-// A stretch ends at a doubtful element, and one that began fresh with the first that is taken.
-fn stops(r: element::Step, fresh: bool) -> bool
-    ensures { result ≡ stops_of r fresh }
-{
-    match r {
-        element::Step::Passed => false,
-        element::Step::Taken => fresh,
-        element::Step::Doubtful => true,
-    }
-}
+use element::{Period, Records, Step};
+use star::{StarRoot, Support};
+use track::State;
 
-// Where the next stretch begins: at a doubtful element, else past element i.
-fn past(r: element::Step, i: usize) -> usize
+// Where the next stretch begins, if one ends with element i: at a doubtful element; or past the first that is taken, if it
+// began fresh.
+fn stop(r: Step, fresh: bool, i: usize) -> Option<usize>
     requires { i < 8 }
-    ensures { result ≡ past_of r i }
+    ensures { result ≡ stop_of r fresh i }
 {
     match r {
-        element::Step::Passed => i + 1,
-        element::Step::Taken => i + 1,
-        element::Step::Doubtful => i,
+        Step::Passed => None,
+        Step::Taken => {
+            if fresh {
+                return Some(i + 1);
+            }
+            None
+        }
+        Step::Doubtful => Some(i),
     }
 }
 
 // A stretch without the star root, from element `from` on. How far it came.
 fn stretch(
-    star: &mut [f64; 64],
-    p_inf: &mut [f64; 64],
-    root: &mut [f64; 64],
-    kinds: &mut [u8; 8],
-    fs: &mut [f64; 8],
-    fi: &mut [f64; 8],
-    ms: &mut [f64; 64],
-    mi: &mut [f64; 64],
-    from: usize,
-    fresh: bool,
-    live: bool,
-    pre: &[f64; 64],
-    sd: &[f64; 8],
-    unres: &[f64; 64],
-    design: &[f64; 64],
-    hs: &[f64; 64],
+    s: &mut State,
+    records: &mut Records,
+    x: &Period,
+    sd: Option<&[f64; 8]>,
     ys: &[f64],
-    p: usize,
-    m: usize,
+    from: usize,
 ) -> usize
-    requires { Sizes p m from (length ys.now) × SdKnown m fresh pre.now sd.now }
-    ensures { Stretch p m (mat p hs.now)
-        (fixed_of p m live design.now pre.now unres.now) (gaps_of ys.now)
-        fresh from result
-        (carried star.old p_inf.old root.old
-        (flat_in kinds.old fs.old fi.old ms.old mi.old))
-        (carried star.new p_inf.new root.new
-        (flat_in kinds.new fs.new fi.new ms.new mi.new)) }
+    requires { Sizes x.now from (length ys.now) × SdKnown x.now sd }
+    ensures done { Stretch x.now.p x.now.m (noise_in x.now) (fixed_in x.now s.old) (gaps_of ys.now)
+        (fresh_in sd.entry) from result (carried_of s.old records.old) (carried_of s.new records.new) }
+    ensures kept { Kept s.old s.new }
 {
-    for i in from..p {
+    for i in from..x.p {
         let gap = float::is_nan(ys[i]);
-        let r = element::element(
-            star, p_inf, root, kinds, fs, fi, ms, mi, gap, live, fresh, pre, sd, unres, design, hs,
-            p, m, i,
-        );
-        if stops(r, fresh) {
-            return past(r, i);
+        let r = element::element(s, records, x, sd, gap, i);
+        if let Some(at) = stop(r, sd.is_none(), i) {
+            return at;
         }
     }
-    p
+    x.p
 }
 
 // Whether element i is taken, in a period that is not diffuse and had an update. One before `from` is done, and its
-// record says so; from there on it is done here, with `again`, its F by the star root, at hand.
+// record says so; from there on it is done here, with `again`, its F by the star root, at hand. This and by_root are handed
+// P* alone: they hold whatever the rest of the state is (period Views.RestByRoot).
 fn taken_at(
     star: &mut [f64; 64],
-    kinds: &mut [u8; 8],
-    fs: &mut [f64; 8],
-    fi: &mut [f64; 8],
-    ms: &mut [f64; 64],
-    mi: &mut [f64; 64],
+    records: &mut Records,
+    x: &Period,
+    sd: &[f64; 8],
+    ys: &[f64],
     from: usize,
     again: f64,
-    pre: &[f64; 64],
-    sd: &[f64; 8],
-    design: &[f64; 64],
-    hs: &[f64; 64],
-    ys: &[f64],
-    p: usize,
-    m: usize,
     i: usize,
 ) -> bool
-    requires { InPeriod p m i × ((length ys.now ≡ p) × SdKnown m false pre.now sd.now) }
-    ensures { TakenAt p m (mat p hs.now) design.now pre.now
-        ys.now from i again
-        star.old
-        (flat_in kinds.old fs.old fi.old ms.old mi.old)
-        star.new
-        (flat_in kinds.new fs.new fi.new ms.new mi.new) result }
+    requires { InPeriod x.now i × ((length ys.now ≡ x.now.p) × SdKnown x.now (Some sd)) }
+    ensures { TakenAt x.now ys.now from i again
+        star.old (flat_of records.old) star.new (flat_of records.new) result }
 {
     if i < from {
-        return record::is_news(kinds[i]);
+        return record::is_news(records.kinds[i]);
     }
     let gap = float::is_nan(ys[i]);
-    element::element_by_root(
-        star, kinds, fs, fi, ms, mi, gap, again, pre, sd, design, hs, p, m, i,
-    )
+    element::element_by_root(star, records, x, sd, gap, again, i)
 }
 
 // The last stretch, from element `from` on, with the star root. It begins at the predicted P*, is asked for each element,
 // and follows those that are taken, the ones before `from` too.
 fn by_root(
     star: &mut [f64; 64],
-    kinds: &mut [u8; 8],
-    fs: &mut [f64; 8],
-    fi: &mut [f64; 8],
-    ms: &mut [f64; 64],
-    mi: &mut [f64; 64],
-    from: usize,
-    pre: &[f64; 64],
+    records: &mut Records,
+    x: &Period,
     sd: &[f64; 8],
-    design: &[f64; 64],
-    hs: &[f64; 64],
     ys: &[f64],
-    p: usize,
-    m: usize,
+    from: usize,
 )
-    requires { Sizes p m from (length ys.now) × SdKnown m false pre.now sd.now }
-    ensures { RestByRoot p m (mat p hs.now) design.now pre.now
-        (gaps_of ys.now) from
-        star.old
-        (flat_in kinds.old fs.old fi.old ms.old mi.old)
-        star.new
-        (flat_in kinds.new fs.new fi.new ms.new mi.new) }
+    requires { Sizes x.now from (length ys.now) × SdKnown x.now (Some sd) }
+    ensures { RestByRoot x.now (gaps_of ys.now) from
+        star.old (flat_of records.old) star.new (flat_of records.new) }
 {
-    let mut root = star::StarRoot::build(p, m, design, pre);
-    for i in 0..p {
-        let asked = star::ask(root, p, m, design, hs, i);
-        let taken = taken_at(
-            star, kinds, fs, fi, ms, mi, from, asked.f, pre, sd, design, hs, ys, p, m, i,
-        );
-        root = asked.root;
+    let mut root = StarRoot {
+        support: Support {
+            places: [0; 8],
+            count: 0,
+        },
+        cols: [0.0; 64],
+        rank: 0,
+    };
+    root.build(x.p, x.m, x.design, x.pre);
+    for i in 0..x.p {
+        let again = star::ask(&root, x.p, x.m, x.design, x.hs, i);
+        let taken = taken_at(star, records, x, sd, ys, from, again, i);
         if taken {
-            root = star::follow(root, p, m, design, hs, i);
+            star::follow(&mut root, x.p, x.m, x.design, x.hs, i);
         }
     }
 }
 
 // The elements after the first that was taken: the second stretch, and the last where it stopped.
-fn rest(
-    star: &mut [f64; 64],
-    p_inf: &mut [f64; 64],
-    root: &mut [f64; 64],
-    kinds: &mut [u8; 8],
-    fs: &mut [f64; 8],
-    fi: &mut [f64; 8],
-    ms: &mut [f64; 64],
-    mi: &mut [f64; 64],
-    from: usize,
-    live: bool,
-    pre: &[f64; 64],
-    unres: &[f64; 64],
-    design: &[f64; 64],
-    hs: &[f64; 64],
-    ys: &[f64],
-    p: usize,
-    m: usize,
-)
-    requires { Sizes p m from (length ys.now) }
-    ensures { Rest p m (mat p hs.now)
-        (fixed_of p m live design.now pre.now unres.now) (gaps_of ys.now) from
-        (carried star.old p_inf.old root.old
-        (flat_in kinds.old fs.old fi.old ms.old mi.old))
-        (carried star.new p_inf.new root.new
-        (flat_in kinds.new fs.new fi.new ms.new mi.new)) }
+fn rest(s: &mut State, records: &mut Records, x: &Period, ys: &[f64], from: usize)
+    requires { Sizes x.now from (length ys.now) }
+    ensures done { Rest x.now.p x.now.m (noise_in x.now) (fixed_in x.now s.old) (gaps_of ys.now) from
+        (carried_of s.old records.old) (carried_of s.new records.new) }
+    ensures kept { Kept s.old s.new }
 {
-    let sd = element::deviations(pre, m);
-    let at = stretch(
-        star, p_inf, root, kinds, fs, fi, ms, mi, from, false, live, pre, &sd, unres, design, hs,
-        ys, p, m,
-    );
-    if at < p {
-        by_root(
-            star, kinds, fs, fi, ms, mi, at, pre, &sd, design, hs, ys, p, m,
-        );
+    let sd = element::deviations(x.pre, x.m);
+    let at = stretch(s, records, x, Some(&sd), ys, from);
+    if at < x.p {
+        by_root(&mut s.star, records, x, &sd, ys, at);
     }
 }
 
 // The elements of a period, in order, by its readings `ys`, of which only the gaps are seen. P*, P∞ and B go from
-// predicted to filtered. `live`: the period is diffuse. `pre` is its predicted P*, `unres` P∞ with nothing resolved.
-pub fn elements(
-    star: &mut [f64; 64],
-    p_inf: &mut [f64; 64],
-    root: &mut [f64; 64],
-    kinds: &mut [u8; 8],
-    fs: &mut [f64; 8],
-    fi: &mut [f64; 8],
-    ms: &mut [f64; 64],
-    mi: &mut [f64; 64],
-    live: bool,
-    pre: &[f64; 64],
-    unres: &[f64; 64],
-    design: &[f64; 64],
-    hs: &[f64; 64],
-    ys: &[f64],
-    p: usize,
-    m: usize,
-)
-    requires { (p ≤ 8) × ((m ≤ 8) × (length ys.now ≡ p)) }
-    ensures { Ran p m
-        (scan
-        (element_of p m (mat p hs.now)
-        (fixed_of p m live design.now pre.now unres.now))
-        0 (before_first m star.old p_inf.old root.old) (gaps_of ys.now))
-        kinds.new fs.new fi.new ms.new mi.new
-        star.new p_inf.new root.new }
+// predicted to filtered.
+pub fn elements(s: &mut State, records: &mut Records, x: &Period, ys: &[f64])
+    requires { (x.now.p ≤ 8) × ((x.now.m ≤ 8) × (length ys.now ≡ x.now.p)) }
+    ensures ran { Ran x.now.p x.now.m
+        (scan (element_of x.now.p x.now.m (noise_in x.now) (fixed_in x.now s.old))
+        0 (before_first x.now.m s.old) (gaps_of ys.now))
+        (flat_of records.new) s.new }
+    ensures kept { Kept s.old s.new }
 {
-    let none = [0.0; 8];
-    let at = stretch(
-        star, p_inf, root, kinds, fs, fi, ms, mi, 0, true, live, pre, &none, unres, design, hs, ys,
-        p, m,
-    );
-    if at < p {
-        rest(
-            star, p_inf, root, kinds, fs, fi, ms, mi, at, live, pre, unres, design, hs, ys, p, m,
-        );
+    let at = stretch(s, records, x, None, ys, 0);
+    if at < x.p {
+        rest(s, records, x, ys, at);
     }
 }
 
@@ -247,16 +156,15 @@ fn lasts(p_inf: &[f64; 64], live: bool, m: usize) -> bool
     false
 }
 
-// Whether the period is diffuse; P∞ is set to zeros where it is not.
-pub fn begin(p_inf: &mut [f64; 64], live: bool, m: usize) -> bool
+// The period's test: whether it is diffuse; P∞ is set to zeros where it is not.
+pub fn begin(s: &mut State, m: usize)
     requires { m ≤ 8 }
-    ensures { Begun m live p_inf.old p_inf.new result }
+    ensures { Begun m s.old s.new }
 {
-    if lasts(p_inf, live, m) {
-        return true;
+    s.live = lasts(&s.p_inf, s.live, m);
+    if !s.live {
+        dense::clear(&mut s.p_inf, m);
     }
-    dense::clear(p_inf, m);
-    false
 }
 
 // T P* T' + R Q R', symmetrised, in place. `tp` is room for T P*.
@@ -280,28 +188,17 @@ fn step_inf(p_inf: &mut [f64; 64], t: &[f64; 64], tp: &mut [f64; 64], m: usize)
 }
 
 // P* and P∞ go on by T, and while the diffuse state lasts the root B and the unresolved matrix too.
-pub fn go_on(
-    star: &mut [f64; 64],
-    p_inf: &mut [f64; 64],
-    root: &mut [f64; 64],
-    unres: &mut [f64; 64],
-    t: &[f64; 64],
-    rqr: &[f64; 64],
-    diffuse: bool,
-    m: usize,
-)
+pub fn go_on(s: &mut State, t: &[f64; 64], rqr: &[f64; 64], m: usize)
     requires { m ≤ 8 }
-    ensures { state_of m star.new p_inf.new root.new unres.new diffuse
-        ≡ stepped m (mat m t.now) (mat m rqr.now) diffuse
-        (mat m star.old) (mat m p_inf.old) (mat m root.old)
-        (mat m unres.old) }
+    ensures { let c = cov_in m s.old in cov_in m s.new
+        ≡ stepped m (mat m t.now) (mat m rqr.now) c.live c.star c.pinf c.root c.unres }
 {
     let mut tp = [0.0; 64];
-    step_star(star, t, rqr, &mut tp, m);
-    step_inf(p_inf, t, &mut tp, m);
-    if diffuse {
-        products::mul_into(&mut tp, t, root, m);
-        *root = tp;
-        products::sandwich_in_place(unres, t, &mut tp, m);
+    step_star(&mut s.star, t, rqr, &mut tp, m);
+    step_inf(&mut s.p_inf, t, &mut tp, m);
+    if s.live {
+        products::mul_into(&mut tp, t, &s.root, m);
+        s.root = tp;
+        products::sandwich_in_place(&mut s.unres, t, &mut tp, m);
     }
 }

@@ -7,6 +7,7 @@ mod plot;
 ghost use Rattle.std.specs.Prelude.{◌<◌, ◌≤◌};
 
 use crate::plot::{BOTTOM, Frame, LEFT, RIGHT, TOP};
+use rows::{Check, Estimate, Run};
 use std::io::Write;
 
 fn say<W: Write>(out: &mut W, text: &[u8]) {
@@ -15,14 +16,14 @@ fn say<W: Write>(out: &mut W, text: &[u8]) {
 
 // A number with two decimals, and a blank before it.
 fn number<W: Write>(out: &mut W, x: f64) {
-    let mut text = [32u8; 10];
+    let mut text = [b' '; 10];
     cells::number(&mut text, 0, 10, x, 2);
     say(out, &text);
 }
 
 // A step of a path: its letter and a point.
 fn to<W: Write>(out: &mut W, letter: u8, x: f64, y: f64) {
-    let mut text = [32u8; 22];
+    let mut text = [b' '; 22];
     text[0] = letter;
     cells::number(&mut text, 1, 10, x, 2);
     cells::number(&mut text, 11, 10, y, 2);
@@ -33,103 +34,104 @@ fn to<W: Write>(out: &mut W, letter: u8, x: f64, y: f64) {
 // ---- the bands and the curves
 
 // Whether the estimate of period t can be drawn.
-fn drawn(rows: &[f64], t: usize, c: usize) -> bool
-    requires { (t < 4096) × (c ≤ 4) }
+fn drawn(run: Run, t: usize, estimate: Estimate) -> bool
+    requires { t < 4096 }
 {
-    float::is_finite(plot::edge(rows, t, c, 2.0))
+    float::is_finite(plot::edge(run, t, estimate, 2.0))
 }
 
 // Whether period t is drawn, and the one before it.
-fn joined(rows: &[f64], t: usize, c: usize) -> bool
-    requires { (t < 4096) × (c ≤ 4) }
+fn joined(run: Run, t: usize, estimate: Estimate) -> bool
+    requires { t < 4096 }
 {
-    if 0 < t {
-        return drawn(rows, t - 1, c) & drawn(rows, t, c);
-    }
-    false
+    0 < t && drawn(run, t - 1, estimate) && drawn(run, t, estimate)
 }
 
 // From period t - 1 to period t: the upper edge forwards, the lower one back.
-fn band_piece<W: Write>(out: &mut W, f: Frame, period: u64, rows: &[f64], t: usize, c: usize)
-    requires { (t < 4096) × (c ≤ 4) }
+fn band_piece<W: Write>(out: &mut W, f: Frame, run: Run, t: usize, estimate: Estimate)
+    requires { t < 4096 }
 {
     if 0 < t {
-        let a = plot::x_of(f, rows::time(t - 1, period));
-        let b = plot::x_of(f, rows::time(t, period));
-        to(out, b'M', a, plot::y_of(f, plot::edge(rows, t - 1, c, 2.0)));
-        to(out, b'L', b, plot::y_of(f, plot::edge(rows, t, c, 2.0)));
-        to(out, b'L', b, plot::y_of(f, plot::edge(rows, t, c, -2.0)));
+        let a = plot::x_of(f, run.time(t - 1));
+        let b = plot::x_of(f, run.time(t));
+        to(
+            out,
+            b'M',
+            a,
+            plot::y_of(f, plot::edge(run, t - 1, estimate, 2.0)),
+        );
+        to(
+            out,
+            b'L',
+            b,
+            plot::y_of(f, plot::edge(run, t, estimate, 2.0)),
+        );
+        to(
+            out,
+            b'L',
+            b,
+            plot::y_of(f, plot::edge(run, t, estimate, -2.0)),
+        );
         to(
             out,
             b'L',
             a,
-            plot::y_of(f, plot::edge(rows, t - 1, c, -2.0)),
+            plot::y_of(f, plot::edge(run, t - 1, estimate, -2.0)),
         );
         say(out, b"Z\n");
     }
 }
 
 // Period t's point, joined to the one before it where that is drawn.
-fn curve_piece<W: Write>(out: &mut W, f: Frame, period: u64, rows: &[f64], t: usize, c: usize)
-    requires { (t < 4096) × (c ≤ 4) }
+fn curve_piece<W: Write>(out: &mut W, f: Frame, run: Run, t: usize, estimate: Estimate)
+    requires { t < 4096 }
 {
+    let letter = if joined(run, t, estimate) { b'L' } else { b'M' };
     to(
         out,
-        curve_letter(rows, t, c),
-        plot::x_of(f, rows::time(t, period)),
-        plot::y_of(f, plot::edge(rows, t, c, 0.0)),
+        letter,
+        plot::x_of(f, run.time(t)),
+        plot::y_of(f, plot::edge(run, t, estimate, 0.0)),
     );
 }
 
-fn curve_letter(rows: &[f64], t: usize, c: usize) -> u8
-    requires { (t < 4096) × (c ≤ 4) }
-{
-    if joined(rows, t, c) { b'L' } else { b'M' }
-}
-
-fn band<W: Write>(out: &mut W, f: Frame, n: usize, period: u64, rows: &[f64], c: usize)
-    requires { (n ≤ 4096) × (c ≤ 4) }
-{
-    for t in 0..n {
-        if joined(rows, t, c) {
-            band_piece(out, f, period, rows, t, c);
+fn band<W: Write>(out: &mut W, f: Frame, run: Run, estimate: Estimate) {
+    for t in 0..run.n {
+        if joined(run, t, estimate) {
+            band_piece(out, f, run, t, estimate);
         }
     }
 }
 
-fn curve<W: Write>(out: &mut W, f: Frame, n: usize, period: u64, rows: &[f64], c: usize)
-    requires { (n ≤ 4096) × (c ≤ 4) }
-{
-    for t in 0..n {
-        if drawn(rows, t, c) {
-            curve_piece(out, f, period, rows, t, c);
+fn curve<W: Write>(out: &mut W, f: Frame, run: Run, estimate: Estimate) {
+    for t in 0..run.n {
+        if drawn(run, t, estimate) {
+            curve_piece(out, f, run, t, estimate);
         }
     }
 }
 
-fn estimates<W: Write>(out: &mut W, f: Frame, n: usize, period: u64, rows: &[f64])
-    requires { n ≤ 4096 }
-{
+fn estimates<W: Write>(out: &mut W, f: Frame, run: Run) {
     say(
         out,
         b"<g clip-path=\"url(#plot)\">\n<path fill=\"#6baed6\" fill-opacity=\".35\" d=\"",
     );
-    band(out, f, n, period, rows, 0);
+    band(out, f, run, Estimate::Filtered);
     say(
         out,
         b"\"/>\n<path fill=\"#fd8d3c\" fill-opacity=\".35\" d=\"",
     );
-    band(out, f, n, period, rows, rows::SMOOTHED);
+    band(out, f, run, Estimate::Smoothed);
     say(
         out,
         b"\"/>\n<path fill=\"none\" stroke=\"#08519c\" stroke-width=\"1.6\" d=\"",
     );
-    curve(out, f, n, period, rows, 0);
+    curve(out, f, run, Estimate::Filtered);
     say(
         out,
         b"\"/>\n<path fill=\"none\" stroke=\"#d94801\" stroke-width=\"1.6\" d=\"",
     );
-    curve(out, f, n, period, rows, rows::SMOOTHED);
+    curve(out, f, run, Estimate::Smoothed);
     say(out, b"\"/>\n</g>\n");
 }
 
@@ -177,52 +179,42 @@ fn doubtful<W: Write>(out: &mut W, x: f64, y: f64) {
     );
 }
 
-fn mark<W: Write>(out: &mut W, kind: u8, x: f64, y: f64) {
-    match kind {
-        rows::NO_CHECK => {}
-        rows::TAKEN => taken(out, x, y),
-        rows::FIRST_NEWS => first_news(out, x, y),
-        rows::ADDS_NOTHING | rows::ONLY_ROUNDING => passed_over(out, x, y),
-        rows::DOUBTFUL..=255 => doubtful(out, x, y),
+fn mark<W: Write>(out: &mut W, check: Check, x: f64, y: f64) {
+    match check {
+        Check::Missing => {}
+        Check::Taken => taken(out, x, y),
+        Check::FirstNews => first_news(out, x, y),
+        Check::AddsNothing | Check::OnlyRounding => passed_over(out, x, y),
+        Check::Doubtful => doubtful(out, x, y),
     }
 }
 
 // The checks of the first input, or of the second.
-fn marks<W: Write>(
-    out: &mut W,
-    f: Frame,
-    n: usize,
-    period: u64,
-    y: &[f64],
-    kinds: &[u8],
-    input: usize,
-)
-    requires { (n ≤ 4096) × (input < 2) }
+fn marks<W: Write>(out: &mut W, f: Frame, run: Run, input: usize)
+    requires { input < 2 }
 {
-    for t in 0..n {
+    for t in 0..run.n {
         mark(
             out,
-            rows::byte(kinds, 2 * t + input),
-            plot::x_of(f, rows::time(t, period)),
-            plot::y_of(f, rows::at(y, 2 * t + input)),
+            run.check(2 * t + input),
+            plot::x_of(f, run.time(t)),
+            plot::y_of(f, run.reading(2 * t + input)),
         );
     }
 }
 
-fn is_gap(kinds: &[u8], t: usize) -> bool
+fn is_gap(run: Run, t: usize) -> bool
     requires { t < 4096 }
 {
-    (rows::byte(kinds, 2 * t) == rows::NO_CHECK) & (rows::byte(kinds, 2 * t + 1) == rows::NO_CHECK)
+    run.check(2 * t) == Check::Missing && run.check(2 * t + 1) == Check::Missing
 }
 
 // A tick on the time axis for each period with no check.
-fn gaps<W: Write>(out: &mut W, f: Frame, n: usize, period: u64, kinds: &[u8])
-    requires { n ≤ 4096 }
-{
+fn gaps<W: Write>(out: &mut W, f: Frame, run: Run) {
     say(out, b"<path stroke=\"#888\" d=\"\n");
-    for t in 0..n {
-        if is_gap(kinds, t) {
-            let x = plot::x_of(f, rows::time(t, period));
+    for t in 0..run.n {
+        if is_gap(run, t) {
+            let x = plot::x_of(f, run.time(t));
             to(out, b'M', x, BOTTOM);
             to(out, b'L', x, BOTTOM - 6.0);
         }
@@ -232,77 +224,42 @@ fn gaps<W: Write>(out: &mut W, f: Frame, n: usize, period: u64, kinds: &[u8])
 
 // ---- the axes
 
-// An axis counts in one of these: so many seconds, or microseconds.
-#[derive(Drop)]
+// What an axis counts in: so many seconds, or microseconds, and what that is called.
+#[derive(Clone, Copy)]
 struct Unit {
     size: f64,
-    kind: u8,
+    name: &'static [u8],
+}
+
+impl Unit {
+    fn of(size: f64, name: &'static [u8]) -> Unit {
+        Unit { size, name }
+    }
 }
 
 fn time_unit(last: f64) -> Unit {
     if last < 600.0 {
-        return Unit { size: 1.0, kind: 0 };
-    }
-    if last < 10800.0 {
-        return Unit {
-            size: 60.0,
-            kind: 1,
-        };
-    }
-    if last < 345600.0 {
-        return Unit {
-            size: 3600.0,
-            kind: 2,
-        };
-    }
-    if last < 94672800.0 {
-        return Unit {
-            size: 86400.0,
-            kind: 3,
-        };
-    }
-    Unit {
-        size: 31557600.0,
-        kind: 4,
-    }
-}
-
-fn time_name<W: Write>(out: &mut W, kind: u8) {
-    match kind {
-        0 => say(out, b"seconds"),
-        1 => say(out, b"minutes"),
-        2 => say(out, b"hours"),
-        3 => say(out, b"days"),
-        _ => say(out, b"years"),
+        Unit::of(1.0, b"seconds")
+    } else if last < 10800.0 {
+        Unit::of(60.0, b"minutes")
+    } else if last < 345600.0 {
+        Unit::of(3600.0, b"hours")
+    } else if last < 94672800.0 {
+        Unit::of(86400.0, b"days")
+    } else {
+        Unit::of(31557600.0, b"years")
     }
 }
 
 // The offset axis: microseconds, or thousands or millions of them where their numbers would be long.
 fn offset_unit(f: Frame) -> Unit {
-    let mut most = f.hi;
-    if -f.lo > most {
-        most = -f.lo;
-    }
+    let most = if -f.lo > f.hi { -f.lo } else { f.hi };
     if most < 100000.0 {
-        return Unit { size: 1.0, kind: 0 };
-    }
-    if most < 100000000.0 {
-        return Unit {
-            size: 1000.0,
-            kind: 1,
-        };
-    }
-    Unit {
-        size: 1000000.0,
-        kind: 2,
-    }
-}
-
-fn offset_name<W: Write>(out: &mut W, kind: u8) {
-    match kind {
-        0 => say(out, b"microseconds"),
-        1 => say(out, b"milliseconds"),
-        _ => say(out, b"seconds"),
+        Unit::of(1.0, b"microseconds")
+    } else if most < 100000000.0 {
+        Unit::of(1000.0, b"milliseconds")
+    } else {
+        Unit::of(1000000.0, b"seconds")
     }
 }
 
@@ -316,7 +273,7 @@ fn line<W: Write>(out: &mut W, x: f64, y: f64, to_x: f64, to_y: f64) {
 fn label<W: Write>(out: &mut W, x: f64, y: f64, value: f64, decimals: u8)
     requires { decimals ≤ 6 }
 {
-    let mut text = [32u8; 14];
+    let mut text = [b' '; 14];
     cells::number(&mut text, 0, 14, value, decimals);
     say(out, b"<text x=\"");
     number(out, x);
@@ -363,7 +320,7 @@ fn offset_axis<W: Write>(out: &mut W, f: Frame) {
         out,
         b"</g>\n<text transform=\"translate(14 197) rotate(-90)\" text-anchor=\"middle\">offset, ",
     );
-    offset_name(out, u.kind);
+    say(out, u.name);
     say(out, b"</text>\n");
 }
 
@@ -379,7 +336,7 @@ fn time_axis<W: Write>(out: &mut W, f: Frame) {
         out,
         b"</g>\n<text x=\"430\" y=\"384\" text-anchor=\"middle\">time, ",
     );
-    time_name(out, u.kind);
+    say(out, u.name);
     say(out, b"</text>\n");
 }
 
@@ -420,10 +377,8 @@ fn legend_checks<W: Write>(out: &mut W) {
     );
 }
 
-pub fn draw<W: Write>(out: &mut W, n: usize, period: u64, y: &[f64], kinds: &[u8], rows: &[f64])
-    requires { n ≤ 4096 }
-{
-    let f = plot::around(n, period, y, kinds, rows);
+pub fn draw<W: Write>(out: &mut W, run: Run) {
+    let f = plot::around(run);
     say(
         out,
         b"<svg xmlns=\"http://www.w3.org/2000/svg\" width=\"800\" height=\"400\" viewBox=\"0 0 800 400\" font-family=\"sans-serif\" font-size=\"12\">
@@ -434,10 +389,10 @@ pub fn draw<W: Write>(out: &mut W, n: usize, period: u64, y: &[f64], kinds: &[u8
     );
     offset_axis(out, f);
     time_axis(out, f);
-    estimates(out, f, n, period, rows);
-    gaps(out, f, n, period, kinds);
-    marks(out, f, n, period, y, kinds, 0);
-    marks(out, f, n, period, y, kinds, 1);
+    estimates(out, f, run);
+    gaps(out, f, run);
+    marks(out, f, run, 0);
+    marks(out, f, run, 1);
     say(
         out,
         b"<path fill=\"none\" stroke=\"#444\" d=\"M72 52H788V342H72Z\"/>\n",

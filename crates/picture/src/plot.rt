@@ -2,6 +2,9 @@
 
 ghost use Rattle.std.specs.Prelude.{◌<◌, ◌≤◌};
 
+use decimal::answers::Units;
+use rows::{Check, Estimate, Run};
+
 // The part of the picture, 800 by 400, that has the curves.
 pub const LEFT: f64 = 72.0;
 
@@ -19,11 +22,20 @@ pub struct Frame {
     pub last: f64,
 }
 
+// The band's edge: so many standard deviations from the mean.
+pub fn edge(run: Run, t: usize, estimate: Estimate, deviations: f64) -> f64
+    requires { t < 4096 }
+{
+    let c = estimate.first();
+    rows::of(run.rows, t, c + rows::OFFSET)
+        + deviations * rows::of(run.rows, t, c + rows::OFFSET_SD)
+}
+
 pub fn double(n: usize) -> f64 {
     std::num::nearest_u64_to_f64(n as u64)
 }
 
-// A place far outside is as good as any other there, and its number stays short.
+// A place far outside is as good as any other there, and its number stays short. Not `clamp`: what is no number goes outside too.
 fn clamped(x: f64) -> f64 {
     if x < -9999.0 {
         return -9999.0;
@@ -42,6 +54,7 @@ pub fn y_of(f: Frame, offset: f64) -> f64 {
     clamped(TOP + (BOTTOM - TOP) * ((f.hi - offset) / (f.hi - f.lo)))
 }
 
+// Not `min`, and below not `max`: of a zero and a minus zero they may give either.
 fn lower(f: Frame, x: f64) -> Frame {
     let mut f = f;
     if x < f.lo {
@@ -62,18 +75,11 @@ fn with(f: Frame, x: f64) -> Frame {
     f
 }
 
-fn with_check(f: Frame, y: &[f64], kinds: &[u8], i: usize) -> Frame {
-    if rows::byte(kinds, i) == rows::NO_CHECK {
+fn with_check(f: Frame, run: Run, i: usize) -> Frame {
+    if run.check(i) == Check::Missing {
         return f;
     }
-    with(f, rows::at(y, i))
-}
-
-// The band's edge: so many standard deviations from the mean.
-pub fn edge(rows: &[f64], t: usize, c: usize, deviations: f64) -> f64
-    requires { (t < 4096) × (c ≤ 4) }
-{
-    rows::of(rows, t, c + rows::OFFSET) + deviations * rows::of(rows, t, c + rows::OFFSET_SD)
+    with(f, run.reading(i))
 }
 
 // Five hundredths more on either side; and some room where all is one number, or nothing is.
@@ -82,39 +88,31 @@ fn padded(f: Frame) -> Frame {
         return Frame {
             lo: -1.0,
             hi: 1.0,
-            last: f.last,
+            ..f
         };
     }
     let span = f.hi - f.lo;
-    if span > 0.0 {
-        return Frame {
-            lo: f.lo - span * 0.05,
-            hi: f.hi + span * 0.05,
-            last: f.last,
-        };
-    }
+    let room = if span > 0.0 { span * 0.05 } else { 1.0 };
     Frame {
-        lo: f.lo - 1.0,
-        hi: f.hi + 1.0,
-        last: f.last,
+        lo: f.lo - room,
+        hi: f.hi + room,
+        ..f
     }
 }
 
 // Room for all checks and for the smoothed band. What else is outside is cut off: before the rate is known well the filtered band is wide.
-pub fn around(n: usize, period: u64, y: &[f64], kinds: &[u8], rows: &[f64]) -> Frame
-    requires { n ≤ 4096 }
-{
+pub fn around(run: Run) -> Frame {
     let mut f = Frame {
-        lo: 1.0 / 0.0,
-        hi: -1.0 / 0.0,
+        lo: f64::INFINITY,
+        hi: f64::NEG_INFINITY,
         last: 0.0,
     };
-    for t in 0..n {
-        f = with_check(f, y, kinds, 2 * t);
-        f = with_check(f, y, kinds, 2 * t + 1);
-        f = with(f, edge(rows, t, rows::SMOOTHED, -2.0));
-        f = with(f, edge(rows, t, rows::SMOOTHED, 2.0));
-        f.last = rows::time(t, period);
+    for t in 0..run.n {
+        f = with_check(f, run, 2 * t);
+        f = with_check(f, run, 2 * t + 1);
+        f = with(f, edge(run, t, Estimate::Smoothed, -2.0));
+        f = with(f, edge(run, t, Estimate::Smoothed, 2.0));
+        f.last = run.time(t);
     }
     padded(f)
 }
@@ -130,7 +128,7 @@ pub fn step(least: f64) -> f64 {
     let mut s = 0.001;
     for i in 0..90 {
         if s < least {
-            s = s * factor(i);
+            s *= factor(i);
         }
     }
     s
@@ -138,11 +136,10 @@ pub fn step(least: f64) -> f64 {
 
 // The whole number nearest to x; 0 where there is none of 18 digits.
 pub fn rounded(x: f64) -> f64 {
-    let u = decimal::units(x, 0);
-    match u {
-        decimal::answers::Units::Whole(minus, size) => {
-            let d = std::num::nearest_u64_to_f64(size);
-            if minus { -d } else { d }
+    match decimal::units(x, 0) {
+        Units::Whole(n) => {
+            let d = std::num::nearest_u64_to_f64(n.size);
+            if n.minus { -d } else { d }
         }
         _ => 0.0,
     }

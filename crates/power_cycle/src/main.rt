@@ -6,124 +6,65 @@ mod saved_run;
 
 ghost use Rattle.std.specs.Prelude.{◌≤◌};
 
+use options::Options;
+use rows::Run;
+use sheet::answers::Sheet;
 use std::env::Env;
 use std::fs::Files;
+use table::Shown;
+use told::Told;
 
-// A sheet that fills the buffer may go on past it.
-const LONGEST: usize = 262144;
-
-fn longest() -> [u8; 262144] {
-    [0; 262144]
-}
-
-// The run is saved before anything is printed: where that fails, nothing is.
-fn go_on<R: Env + Files>(
-    rt: &R,
-    s: sheet::answers::Settings,
-    n: usize,
-    y: &[f64],
-    from: usize,
-    save: usize,
-    before: &[u8],
-)
-    requires { n ≤ 4096 }
+// The estimates of a sheet that is well. The saved run is read whole before anything is written, so that it may be saved under its own name. The run is
+// saved before anything is printed: where that fails, nothing is.
+fn show<R: Env + Files>(rt: &R, sheet: Sheet, y: &[f64], o: Options) -> Result<(), Told>
+    requires { sheet.periods ≤ 4096 }
 {
-    let mut rows = rows::rows();
-    let mut kinds = rows::kinds();
-    let mut after = resumed::bytes();
-    let inputs = s.inputs;
-    let period = s.period;
-    let outcome = resumed::estimate(
-        s,
-        n,
+    let mut space = [0; saved_run::ROOM];
+    let before = saved_run::read(rt, o.from, &mut space)?;
+    let mut rows = [0.0; rows::NUMBERS];
+    let mut kinds = [0; rows::KINDS];
+    let mut after = [0; resumed::BYTES];
+    let a = resumed::estimate(
+        sheet,
         y,
-        from == 0,
         before,
-        save == 0,
+        o.save.is_none(),
         &mut rows,
         &mut kinds,
         &mut after,
+    )
+    .map_err(told::refusal)?;
+    if let Some(save) = o.save {
+        saved_run::write(rt, save, &after)?;
+    }
+    table::print(
+        Shown {
+            inputs: sheet.settings.noise.inputs(),
+            smooth: false,
+            table: false,
+        },
+        resumed::done(before),
+        Run {
+            n: sheet.periods,
+            period: sheet.settings.period,
+            y,
+            kinds: &kinds,
+            rows: &rows,
+        },
     );
-    match outcome {
-        goxundar::Outcome::Refused(k) => told::refusal(k),
-        goxundar::Outcome::Answered(a) => {
-            if save > 0 {
-                if !saved_run::write(rt, save, &after) {
-                    return;
-                }
-            }
-            table::print(
-                table::Shown {
-                    period,
-                    inputs,
-                    smooth: false,
-                    table: false,
-                },
-                resumed::done(before),
-                n,
-                y,
-                &kinds,
-                &rows,
-            );
-            table::totals(
-                a.loglik,
-                a.d_diffuse,
-                a.heard,
-                a.news,
-                a.cov_off,
-                a.mean_off,
-                false,
-            );
-        }
-    }
+    table::totals(a, false);
+    Ok(())
 }
 
-// `from` and `save` are places among the program's arguments; 0: none. The saved run is read whole before anything is written, so that it may be
-// saved under its own name.
-fn show<R: Env + Files>(
-    rt: &R,
-    s: sheet::answers::Settings,
-    n: usize,
-    y: &[f64],
-    from: usize,
-    save: usize,
-)
-    requires { n ≤ 4096 }
-{
-    if from == 0 {
-        return go_on(rt, s, n, y, from, save, &[]);
-    }
-    let mut bytes = saved_run::room();
-    let Some(k) = saved_run::read(rt, from, &mut bytes) else {
-        return;
-    };
-    go_on(rt, s, n, y, from, save, &bytes[..k]);
-}
-
-fn read<R: Env + Files>(rt: &R, text: &[u8], o: options::Options) {
-    let mut y = rows::readings();
-    let found = sheet::read(text, o.table, &mut y);
-    match found {
-        sheet::answers::Sheet::Good(s, n) => show(rt, s, n, &y, o.from, o.save),
-        sheet::answers::Sheet::Bad(w) => told::wrong(text, w),
-    }
+fn run<R: Env + Files>(rt: &R) -> Result<(), Told> {
+    let o = options::given(rt)?;
+    let mut space = [0; options::SPACE];
+    let text = options::text(rt, o.sheet, &mut space)?;
+    let mut y = [0.0; rows::READINGS];
+    let sheet = sheet::read(text, o.table, &mut y).map_err(|w| told::wrong(text, w))?;
+    show(rt, sheet, &y, o)
 }
 
 fn main(rt: HostRuntime) {
-    let o = options::given(&rt);
-    if o.help {
-        return told::usage(1);
-    }
-    if o.wrong {
-        return told::usage(2);
-    }
-    let Some(sheet) = options::open(&rt, o.file) else {
-        return;
-    };
-    let mut text = longest();
-    let n = options::read_sheet(sheet, &mut text);
-    if n >= LONGEST {
-        return told::too_long();
-    }
-    read(&rt, &text[..n], o);
+    let _ = run(&rt);
 }

@@ -1,125 +1,72 @@
 // The file of a saved run: it is read, and it is replaced whole, so that whenever the power goes it is the old one or the new one.
-
-ghost use Rattle.std.specs.Prelude.{◌≤◌, length, IfSome};
-
 use std::env::Env;
 use std::fs::{Files, OpenFile};
 use std::io::{Error, Write};
+use told::Told;
 
-fn tell(name: &[u8], e: Error) {
-    told::unopened(b"the saved run", name, e);
+fn failed(name: &[u8], e: Error) -> Told {
+    told::unopened(b"the saved run", name, e)
 }
 
 // One byte more than a saved run has, so that a file that is too long is not taken for one.
-pub fn room() -> [u8; 433] {
-    [0; 433]
+pub const ROOM: usize = resumed::BYTES + 1;
+
+// The bytes of the file that the argument names, as many as there is room for. None: a run begins. Where the file can't be had, that is told.
+pub fn read<'a, R: Env + Files>(
+    rt: &R,
+    from: Option<usize>,
+    space: &'a mut [u8],
+) -> Result<Option<&'a [u8]>, Told> {
+    let Some(from) = from else {
+        return Ok(None);
+    };
+    let mut names = io::buffer();
+    let name = options::name(rt, from, &mut names);
+    let mut file = options::open_read(rt, name).map_err(|e| failed(name, e))?;
+    Ok(Some(options::read_full(&mut file, space)))
 }
 
-fn open_named<R: Files>(files: &R, name: &[u8]) -> Option<R::File> {
-    match options::open_read(files, name) {
-        Ok(file) => Some(file),
-        Err(e) => {
-            tell(name, e);
-            None
-        }
-    }
-}
+// The longest name that '.new' fits behind, since a path has at most 4095 bytes.
+const LONGEST: usize = 4091;
 
-// Open for reading. None: it can't be had, and that is told.
-fn open<R: Env + Files>(rt: &R, file: usize) -> Option<R::File> {
-    let mut space = io::buffer();
-    let k = options::argument(rt, file, &mut space).unwrap_or(0);
-    open_named(rt, &space[..k])
-}
-
-// The file's bytes, as many as there is room for. Answers how many; nothing where it can't be had, and that is told.
-pub fn read<R: Env + Files>(rt: &R, file: usize, bytes: &mut [u8]) -> Option<usize>
-    ensures { IfSome result (λ k. k ≤ length bytes.new) }
-{
-    let mut from = open(rt, file)?;
-    Some(options::read_full(&mut from, bytes))
-}
-
-fn put_byte(space: &mut [u8], i: usize, x: u8) {
-    if i < space.len() {
-        space[i] = x;
-    }
-}
-
-// Puts '.new' behind the name of k bytes. Answers where that ends: at 0 of no name, and at the end of the space where there is no room; no file can be
-// opened by either.
-fn lengthened(space: &mut [u8], k: usize) -> isize {
+// The name of k bytes with '.new' put behind it. No name stays none, and one that is too long gives all of the space: no file can be opened by either.
+fn lengthened(space: &mut [u8; 4096], k: usize) -> &[u8] {
     if k == 0 {
-        return 0;
+        return b"";
     }
-    if k > 4091 {
-        return 4096;
+    if k > LONGEST {
+        return space;
     }
-    put_byte(space, k, b'.');
-    put_byte(space, k + 1, b'n');
-    put_byte(space, k + 2, b'e');
-    put_byte(space, k + 3, b'w');
-    (k + 4) as isize
+    space[k..k + 4].copy_from_slice(b".new");
+    &space[..k + 4]
 }
 
-// The file has taken all, and its device too.
-fn put<F: Write + OpenFile>(file: &mut F, bytes: &[u8]) -> std::io::Result<()> {
+// The file takes all, and its device too, and is closed.
+fn put<F: Write + OpenFile + Drop>(file: F, bytes: &[u8]) -> std::io::Result<()> {
+    let mut file = file;
     file.write_all(bytes)?;
     file.sync_all()
 }
 
-// The bytes into the new file, which is closed. Where it fails that is told, and nothing stays.
-fn fill<R: Files>(files: &R, file: R::File, name: &[u8], bytes: &[u8]) -> bool {
-    let mut file = file;
-    let done = put(&mut file, bytes);
-    drop(file);
-    match done {
-        Ok(()) => true,
-        Err(e) => {
-            tell(name, e);
-            let _ = options::unlink(files, name);
-            false
-        }
-    }
+// A step has failed, of the file of this name, once the new file was there: nothing of that stays.
+fn undone<R: Files>(files: &R, new: &[u8], name: &[u8], e: Error) -> Told {
+    let told = failed(name, e);
+    let _ = options::remove_file(files, new);
+    told
 }
 
-// A file of this name, with these bytes. Where it fails that is told, and nothing stays.
-fn make<R: Files>(files: &R, name: &[u8], bytes: &[u8]) -> bool {
-    match options::open_overwrite(files, name) {
-        Ok(file) => fill(files, file, name, bytes),
-        Err(e) => {
-            tell(name, e);
-            false
-        }
-    }
+fn replace<R: Files>(files: &R, name: &[u8], new: &[u8], bytes: &[u8]) -> Result<(), Told> {
+    let file = options::create(files, new).map_err(|e| failed(new, e))?;
+    put(file, bytes).map_err(|e| undone(files, new, new, e))?;
+    options::rename(files, new, name).map_err(|e| undone(files, new, name, e))
 }
 
-fn replace<R: Files>(files: &R, name: &[u8], new: &[u8], bytes: &[u8]) -> bool {
-    if !make(files, new, bytes) {
-        return false;
-    }
-    match options::rename(files, new, name) {
-        Ok(()) => true,
-        Err(e) => {
-            tell(name, e);
-            let _ = options::unlink(files, new);
-            false
-        }
-    }
-}
-
-// Saves a run to the file that the argument names. The name is fetched once more, since the new file's is made of it in its place.
-fn write_named<R: Env + Files>(rt: &R, file: usize, name: &[u8], bytes: &[u8]) -> bool {
+// Saves a run to the file that the argument names. Where it can't be saved that is told, and the file is as it was. The name is fetched twice, since the
+// new file's is made of it in its place.
+pub fn write<R: Env + Files>(rt: &R, save: usize, bytes: &[u8]) -> Result<(), Told> {
+    let mut names = io::buffer();
+    let name = options::name(rt, save, &mut names);
     let mut space = io::buffer();
-    let k = options::argument(rt, file, &mut space).unwrap_or(0);
-    let to = lengthened(&mut space, k);
-    let to = io::count(to, &space);
-    replace(rt, name, &space[..to], bytes)
-}
-
-// The same. False: it can't be saved, and that is told; the file is as it was.
-pub fn write<R: Env + Files>(rt: &R, file: usize, bytes: &[u8]) -> bool {
-    let mut space = io::buffer();
-    let k = options::argument(rt, file, &mut space).unwrap_or(0);
-    write_named(rt, file, &space[..k], bytes)
+    let k = options::name(rt, save, &mut space).len();
+    replace(rt, name, lengthened(&mut space, k), bytes)
 }

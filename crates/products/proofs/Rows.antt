@@ -1,17 +1,16 @@
 -- A B row by row: from what one row of B adds to the first l, to all, and to the matrix.
 use Prim.Native.Nat.{ℕ, ◌+◌, ◌≤◌, ◌<◌}
-use mathlib.Core.Path.{◌≡◌, sym, ap, ◌∙◌}
+use mathlib.Core.Path.{◌≡◌, ap, ◌∙◌}
 use mathlib.Core.List.{List}
 use native.Mathlib.Omega.{arith}
 use native.Mathlib.Numerals.{add-one}
 use lib.Ieee.{Float}
 use lib.ListN.{replicate}
 use Rattle.definition.specs.Num.{0ᶠ, tabulate, at, ent, sum_to}
-use Rattle.definition.specs.Dense.{product_term, product_at, transposed}
+use Rattle.definition.specs.Dense.{product_term, product_at}
 use Rattle.laws.specs.Lists.{replicate_tab, vector_at, tab_cong}
 use Rattle.dense.specs.Views.{vec}
 use Rattle.products.specs.Rows.{row_more_at, row_to}
-use Rattle.laws.specs.Transposes.{transpose_at_lem}
 use Rattle.dense.proofs.Laws.{vec-zeros}
 
 module _ (m : ℕ) (a b : List Float) (i : ℕ) where
@@ -33,6 +32,3 @@ module _ (m : ℕ) (a b : List Float) (i : ℕ) where
   -- an entry of the row
   pub row_entry : (j : ℕ) (r : List Float) {v : Float} → j < m → vec m r ≡ tabulate m (product_at m m a b i) → v ≡ at (vec m r) j → v ≡ product_at m m a b i j
   row_entry j r h e q = q ∙ ap (λ (y : List Float). at y j) e ∙ vector_at m j (product_at m m a b i) h
-
-pub turned : (m i l : ℕ) (a : List Float) {x : Float} → i < m → l < m → x ≡ ent m a l i → x ≡ ent m (transposed m a) i l
-turned m i l a hi hl e = e ∙ sym (transpose_at_lem m m i l a hi hl)

@@ -2,23 +2,77 @@
 // Each product of two also tells whether all of it is finite; a transpose and a product of three do not.
 #![tactic(auto)]
 
-ghost use Rattle.std.specs.Prelude.{◌≡◌, ◌≤◌, ◌<◌};
-ghost use Rattle.definition.specs.Num.{tabulate};
+ghost use Rattle.std.specs.Prelude.{◌≡◌, ℕ, List, Float, ◌≤◌, ◌<◌};
+ghost use Rattle.definition.specs.Num.{tabulate, ent};
 ghost use Rattle.definition.specs.Dense.{product, product_at, mul, transposed, transpose, sandwich, quad};
 ghost use Rattle.dense.specs.Views.{vec, mat, rect};
-ghost use Rattle.dense.specs.Places.{Sizes, Entry};
+ghost use Rattle.dense.specs.Places.{Sizes, Entry, Cell};
 ghost use Rattle.dense.specs.Told.{Told};
-ghost use Rattle.products.specs.Rows.{row_more_at};
+ghost use Rattle.products.specs.Rows.{row_more_at, turned};
 
-fn product_at(a: &[f64; 64], b: &[f64; 64], r: usize, k: usize, c: usize, i: usize, j: usize) -> f64
-    requires { Entry r k c i j }
-    ensures { result ≡ product_at k c (rect r k a.now) (rect k c b.now) i j }
-{
-    let mut s = dense::EMPTY;
-    for l in 0..k {
-        s = s + dense::cell(a, r, k, i, l) * dense::cell(b, k, c, l, j);
+// How a product reads a factor of r rows and c columns: as it lies, or turned.
+trait Seen {
+    ghost view: { ℕ → ℕ → List Float → List Float };
+
+    fn at(a: &[f64; 64], r: usize, c: usize, i: usize, j: usize) -> f64
+        requires { Cell r c i j }
+        ensures { result ≡ ent c (view r c a.now) i j };
+}
+
+struct Plain;
+
+impl Seen for Plain {
+    ghost view = { rect };
+
+    fn at(a: &[f64; 64], r: usize, c: usize, i: usize, j: usize) -> f64 {
+        dense::cell(a, r, c, i, j)
     }
-    s
+}
+
+// It lies with c rows and r columns.
+struct Turned;
+
+impl Seen for Turned {
+    ghost view = { turned };
+
+    fn at(a: &[f64; 64], r: usize, c: usize, i: usize, j: usize) -> f64 {
+        dense::cell(a, c, r, j, i)
+    }
+}
+
+fn entry<A: Seen, B: Seen>(
+    a: &[f64; 64],
+    b: &[f64; 64],
+    r: usize,
+    k: usize,
+    c: usize,
+    i: usize,
+    j: usize,
+) -> f64
+    requires { Entry r k c i j }
+    ensures { result ≡ product_at k c (A.view r k a.now) (B.view k c b.now) i j }
+{
+    dense::sum(
+        k,
+        |l|
+            requires { Entry r k c i j × (l < k) }
+        { A::at(a, r, k, i, l) * B::at(b, k, c, l, j) },
+    )
+}
+
+fn product<A: Seen, B: Seen>(
+    out: &mut [f64; 64],
+    a: &[f64; 64],
+    b: &[f64; 64],
+    r: usize,
+    k: usize,
+    c: usize,
+) -> bool
+    requires { Sizes r k c }
+    ensures { Told (product r k c (A.view r k a.now) (B.view k c b.now)) (rect r c out.new) result }
+{
+    dense::matrix_into(out, r, c, |i, j| entry::<A, B>(a, b, r, k, c, i, j));
+    !dense::rect_not_finite(out, r, c)
 }
 
 // A B, of r rows, k inner places and c columns.
@@ -34,33 +88,7 @@ pub fn product_into(
     ensures { Told (product r k c (rect r k a.now) (rect k c b.now))
         (rect r c out.new) result }
 {
-    dense::sized(out);
-    for i in 0..r {
-        for j in 0..c {
-            let v = product_at(a, b, r, k, c, i, j);
-            dense::set_cell(out, r, c, i, j, v);
-        }
-    }
-    !dense::rect_not_finite(out, r, c)
-}
-
-fn product_t_at(
-    a: &[f64; 64],
-    b: &[f64; 64],
-    r: usize,
-    k: usize,
-    c: usize,
-    i: usize,
-    j: usize,
-) -> f64
-    requires { Entry r k c i j }
-    ensures { result ≡ product_at k c (rect r k a.now) (transpose c k (rect c k b.now)) i j }
-{
-    let mut s = dense::EMPTY;
-    for l in 0..k {
-        s = s + dense::cell(a, r, k, i, l) * dense::cell(b, c, k, j, l);
-    }
-    s
+    product::<Plain, Plain>(out, a, b, r, k, c)
 }
 
 // A B', of r rows, k inner places and c columns: B has c rows and k columns.
@@ -76,33 +104,7 @@ pub fn product_t_into(
     ensures { Told (product r k c (rect r k a.now) (transpose c k (rect c k b.now)))
         (rect r c out.new) result }
 {
-    dense::sized(out);
-    for i in 0..r {
-        for j in 0..c {
-            let v = product_t_at(a, b, r, k, c, i, j);
-            dense::set_cell(out, r, c, i, j, v);
-        }
-    }
-    !dense::rect_not_finite(out, r, c)
-}
-
-fn t_product_at(
-    a: &[f64; 64],
-    b: &[f64; 64],
-    r: usize,
-    k: usize,
-    c: usize,
-    i: usize,
-    j: usize,
-) -> f64
-    requires { Entry r k c i j }
-    ensures { result ≡ product_at k c (transpose k r (rect k r a.now)) (rect k c b.now) i j }
-{
-    let mut s = dense::EMPTY;
-    for l in 0..k {
-        s = s + dense::cell(a, k, r, l, i) * dense::cell(b, k, c, l, j);
-    }
-    s
+    product::<Plain, Turned>(out, a, b, r, k, c)
 }
 
 // A' B, of r rows, k inner places and c columns: A has k rows and r columns.
@@ -118,14 +120,7 @@ pub fn t_product_into(
     ensures { Told (product r k c (transpose k r (rect k r a.now)) (rect k c b.now))
         (rect r c out.new) result }
 {
-    dense::sized(out);
-    for i in 0..r {
-        for j in 0..c {
-            let v = t_product_at(a, b, r, k, c, i, j);
-            dense::set_cell(out, r, c, i, j, v);
-        }
-    }
-    !dense::rect_not_finite(out, r, c)
+    product::<Turned, Plain>(out, a, b, r, k, c)
 }
 
 // A', of an A of r rows and c columns.
@@ -134,12 +129,7 @@ pub fn transpose(a: &[f64; 64], r: usize, c: usize) -> [f64; 64]
     ensures { rect c r result ≡ transpose r c (rect r c a.now) }
 {
     let mut out = [0.0; 64];
-    for i in 0..c {
-        for j in 0..r {
-            let v = dense::cell(a, r, c, j, i);
-            dense::set_cell(&mut out, c, r, i, j, v);
-        }
-    }
+    dense::matrix_into(&mut out, c, r, |i, j| dense::cell(a, r, c, j, i));
     out
 }
 
@@ -150,87 +140,46 @@ fn add_row(r: &mut [f64; 8], x: f64, b: &[f64; 64], m: usize, l: usize)
     requires { (m ≤ 8) × (l < m) }
     ensures { vec m r.new ≡ tabulate m (row_more_at m x (mat m b.now) l (vec m r.old)) }
 {
-    dense::sized8(r);
     for j in 0..m {
         r[j] = r[j] + x * dense::get(b, m, l, j);
     }
 }
 
-// Row i of A B.
-fn product_row(a: &[f64; 64], b: &[f64; 64], m: usize, i: usize) -> [f64; 8]
+// Row i of the product.
+fn product_row<A: Seen>(a: &[f64; 64], b: &[f64; 64], m: usize, i: usize) -> [f64; 8]
     requires { (m ≤ 8) × (i < m) }
-    ensures { vec m result ≡ tabulate m (product_at m m (mat m a.now) (mat m b.now) i) }
+    ensures { vec m result ≡ tabulate m (product_at m m (A.view m m a.now) (mat m b.now) i) }
 {
     let mut r = [0.0; 8];
     for l in 0..m {
-        add_row(&mut r, dense::get(a, m, i, l), b, m, l);
+        add_row(&mut r, A::at(a, m, m, i, l), b, m, l);
     }
     r
 }
 
-// Row i of A' B.
-fn t_product_row(a: &[f64; 64], b: &[f64; 64], m: usize, i: usize) -> [f64; 8]
-    requires { (m ≤ 8) × (i < m) }
-    ensures { vec m result ≡ tabulate m (product_at m m (transposed m (mat m a.now)) (mat m b.now) i) }
-{
-    let mut r = [0.0; 8];
-    for l in 0..m {
-        add_row(&mut r, dense::get(a, m, l, i), b, m, l);
-    }
-    r
-}
-
-fn product_rows(out: &mut [f64; 64], a: &[f64; 64], b: &[f64; 64], m: usize)
+fn product_rows<A: Seen>(out: &mut [f64; 64], a: &[f64; 64], b: &[f64; 64], m: usize)
     requires { m ≤ 8 }
-    ensures { mat m out.new ≡ mul m (mat m a.now) (mat m b.now) }
+    ensures { mat m out.new ≡ mul m (A.view m m a.now) (mat m b.now) }
 {
-    dense::sized(out);
     for i in 0..m {
-        let r = product_row(a, b, m, i);
+        let r = product_row::<A>(a, b, m, i);
         for j in 0..m {
             dense::put(out, m, i, j, dense::nth(&r, m, j));
         }
     }
 }
 
-fn t_product_rows(out: &mut [f64; 64], a: &[f64; 64], b: &[f64; 64], m: usize)
+// A B of m by m, or A' B. In the frequent sizes the compiler knows the size.
+fn mul_sized<A: Seen>(out: &mut [f64; 64], a: &[f64; 64], b: &[f64; 64], m: usize)
     requires { m ≤ 8 }
-    ensures { mat m out.new ≡ mul m (transposed m (mat m a.now)) (mat m b.now) }
-{
-    dense::sized(out);
-    for i in 0..m {
-        let r = t_product_row(a, b, m, i);
-        for j in 0..m {
-            dense::put(out, m, i, j, dense::nth(&r, m, j));
-        }
-    }
-}
-
-// A B of m by m. In the frequent sizes the compiler knows the size.
-fn mul_sized(out: &mut [f64; 64], a: &[f64; 64], b: &[f64; 64], m: usize)
-    requires { m ≤ 8 }
-    ensures { mat m out.new ≡ mul m (mat m a.now) (mat m b.now) }
+    ensures { mat m out.new ≡ mul m (A.view m m a.now) (mat m b.now) }
 {
     match m {
-        1 => product_rows(out, a, b, 1),
-        2 => product_rows(out, a, b, 2),
-        4 => product_rows(out, a, b, 4),
-        8 => product_rows(out, a, b, 8),
-        _ => product_rows(out, a, b, m),
-    }
-}
-
-// A' B of m by m.
-fn t_mul_sized(out: &mut [f64; 64], a: &[f64; 64], b: &[f64; 64], m: usize)
-    requires { m ≤ 8 }
-    ensures { mat m out.new ≡ mul m (transposed m (mat m a.now)) (mat m b.now) }
-{
-    match m {
-        1 => t_product_rows(out, a, b, 1),
-        2 => t_product_rows(out, a, b, 2),
-        4 => t_product_rows(out, a, b, 4),
-        8 => t_product_rows(out, a, b, 8),
-        _ => t_product_rows(out, a, b, m),
+        1 => product_rows::<A>(out, a, b, 1),
+        2 => product_rows::<A>(out, a, b, 2),
+        4 => product_rows::<A>(out, a, b, 4),
+        8 => product_rows::<A>(out, a, b, 8),
+        _ => product_rows::<A>(out, a, b, m),
     }
 }
 
@@ -240,7 +189,7 @@ pub fn mul_into(out: &mut [f64; 64], a: &[f64; 64], b: &[f64; 64], m: usize) -> 
     requires { m ≤ 8 }
     ensures { Told (mul m (mat m a.now) (mat m b.now)) (mat m out.new) result }
 {
-    mul_sized(out, a, b, m);
+    mul_sized::<Plain>(out, a, b, m);
     !dense::matrix_not_finite(out, m)
 }
 
@@ -249,7 +198,7 @@ pub fn t_mul_into(out: &mut [f64; 64], a: &[f64; 64], b: &[f64; 64], m: usize) -
     ensures { Told (mul m (transposed m (mat m a.now)) (mat m b.now))
         (mat m out.new) result }
 {
-    t_mul_sized(out, a, b, m);
+    mul_sized::<Turned>(out, a, b, m);
     !dense::matrix_not_finite(out, m)
 }
 
@@ -268,7 +217,7 @@ pub fn sandwich_in_place(p: &mut [f64; 64], t: &[f64; 64], tp: &mut [f64; 64], m
     requires { m ≤ 8 }
     ensures { mat m p.new ≡ sandwich m (mat m t.now) (mat m p.old) }
 {
-    mul_sized(tp, t, p, m);
+    mul_sized::<Plain>(tp, t, p, m);
     product_t_into(p, tp, t, m, m, m);
 }
 
@@ -287,8 +236,8 @@ pub fn quad_into(out: &mut [f64; 64], a: &[f64; 64], n: &[f64; 64], b: &[f64; 64
     ensures { mat m out.new ≡ quad m (mat m a.now) (mat m n.now) (mat m b.now) }
 {
     let mut an = [0.0; 64];
-    t_mul_sized(&mut an, a, n, m);
-    mul_sized(out, &an, b, m);
+    mul_sized::<Turned>(&mut an, a, n, m);
+    mul_sized::<Plain>(out, &an, b, m);
 }
 
 pub fn quad(a: &[f64; 64], n: &[f64; 64], b: &[f64; 64], m: usize) -> [f64; 64]

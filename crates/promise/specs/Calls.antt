@@ -1,30 +1,30 @@
 -- What the filter's call, the smoother's and a stretch's promise: the answer and every lent part afterwards, tails included, by the definition's outcome.
-use Rattle.std.specs.Prelude.{◌≡◌, ℕ, zero, suc, List, Float}
+use Rattle.std.specs.Prelude.{◌≡◌, ℕ, List, Float, Result, Ok, Err, IfOk}
 use Rattle.definition.specs.Parts.{CovPart, MeanPart}
 use Rattle.definition.specs.Outcome.{CovParts, MeanParts, Counts, CovOutcome, MeanOutcome, SmoothedCov, SmoothedMean, outcome, smooth_outcome}
 use Rattle.definition.specs.Stretch.{StretchOutcome, stretch_outcome}
 use Rattle.promise.specs.Lent.{Given, Lent, LentSmooth, GivenStretch, LentStretch}
 use Rattle.promise.specs.declared.Answer.{Answer}
-use Rattle.promise.specs.declared.Outcome.{Outcome}
-use Rattle.promise.specs.declared.Outcome.TheVariants.{Refused, Answered}
+use Rattle.promise.specs.declared.Refusal.{Refusal}
+use Rattle.promise.specs.Refusals.{number}
 
 -- from the counts, the report on the covariances, the log-likelihood and the report on the means
 abbrev pub answer_in : Counts → ℕ → Float → ℕ → Answer
 answer_in k t l u = record { loglik = l; d_diffuse = k.d_diffuse; heard = k.heard; news = k.news; cov_off = t; mean_off = u }
 
--- by the refusal's number, 0 for none
-unfoldable pub answer_by : ℕ → Answer → Outcome
-answer_by zero a = Answered a
-answer_by (suc r) a = Refused (suc r)
+-- what a call comes back with
+abbrev pub Outcome : Type 0
+Outcome = Result Answer Refusal
 
--- and back: the number, 0 for an answer
-abbrev pub refusal_of : Outcome → ℕ
-refusal_of (Refused k) = k
-refusal_of (Answered a) = 0
+-- the refusal's number, 0 for an answer; and of checks, 0 where none refuses
+abbrev pub refusal_of : {A : Type 0} → Result A Refusal → ℕ
+refusal_of (Ok a) = 0
+refusal_of (Err e) = number e
 
 -- u is the definition's outcome; r the call's answer, b and b' the parts afterwards
 pub record Promise (u : CovOutcome × MeanOutcome) (r : Outcome) (b : CovParts) (b' : MeanParts) : Type 0 where
-  pub answer : r ≡ answer_by u.0.refused (answer_in u.0.counts u.0.cov_off u.1.loglik u.1.mean_off)
+  pub refusal : refusal_of r ≡ u.0.refused
+  pub answer : IfOk r (λ a. a ≡ answer_in u.0.counts u.0.cov_off u.1.loglik u.1.mean_off)
   pub kinds : b.kinds ≡ u.0.parts.kinds
   pub cov : (q : CovPart) → b.part q ≡ u.0.parts.part q
   pub mean : (q : MeanPart) → b' q ≡ u.1.parts q

@@ -1,10 +1,8 @@
 -- What an exported call promises: the call's own promise, and how its outcome is told: 0 and the answer's six numbers, or the refusal's number
 -- and the six as they were.
-use Rattle.std.specs.Prelude.{◌≡◌, ℕ, Bool, not, eqb, Float}
+use Rattle.std.specs.Prelude.{◌≡◌, ℕ, Bool, not, eqb, Float, Ok, Err}
 use Rattle.promise.specs.Lent.{Given, Lent, LentSmooth, GivenStretch, LentStretch}
-use Rattle.promise.specs.Calls.{refusal_of, Filtered, Smoothed, Stretched}
-use Rattle.promise.specs.declared.Outcome.{Outcome}
-use Rattle.promise.specs.declared.Outcome.TheVariants.{Refused, Answered}
+use Rattle.promise.specs.Calls.{Outcome, refusal_of, Filtered, Smoothed, Stretched}
 
 -- the places for the answer: log-likelihood, d_diffuse, heard, news, cov_off, mean_off
 pub record Places : Type 0 where
@@ -20,8 +18,8 @@ places l d h w c m = record { loglik = l; diffuse = d; heard = h; news = w; cov_
 
 -- the places afterwards
 abbrev pub places_of : Outcome → Places → Places
-places_of (Refused k) old = old
-places_of (Answered a) old = places a.loglik a.d_diffuse a.heard a.news a.cov_off a.mean_off
+places_of (Err e) old = old
+places_of (Ok a) old = places a.loglik a.d_diffuse a.heard a.news a.cov_off a.mean_off
 
 pub record Told (o : Outcome) (k : ℕ) (old new : Places) : Type 0 where
   pub number : k ≡ refusal_of o

@@ -1,9 +1,11 @@
 -- What a call is given and lent, as the definition's: `given` and `lent` take the parameters in the order in which every call has them.
 use Rattle.std.specs.Prelude.{ℕ, Bool, List, Float}
 use Rattle.definition.specs.Inputs.{Model, Offsets}
-use Rattle.definition.specs.Parts.{CovPart, predCov, pred_inf, filtCov, fStar, fInf, mStar, mInf, MeanPart, predMean, filtMean, innovations}
+use Rattle.definition.specs.Parts.{CovPart, predCov, pred_inf, filtCov, fStar, fInf, mStar, mInf, predMean, filtMean, innovations}
 use Rattle.definition.specs.Outcome.{CovParts, MeanParts}
 use Rattle.definition.specs.Stretch.{From}
+use Rattle.promise.specs.declared.Model as system
+use Rattle.promise.specs.declared.Offsets as shift
 
 -- ---- the inputs, in the order of the calls' parameters
 
@@ -11,8 +13,15 @@ abbrev pub model_of : ℕ → ℕ → ℕ → ℕ → List Float → List Float 
 model_of p m r n z zs repeats h t ts rr q p* flags =
     record { p = p; m = m; r = r; n = n; z_once = z; z_list = zs; repeats = repeats; h = h; t_once = t; t_list = ts; rr = rr; q = q; flags = flags; p_star = p* }
 
+-- as a call in Rattle is given them
+abbrev pub model_in : system.Model → Model
+model_in x = model_of x.p x.m x.r x.n x.z.now x.zs.now x.repeats x.h.now x.t.now x.ts.now x.rr.now x.q.now x.p_star.now x.flags.now
+
 abbrev pub offsets_of : List Float → List Float → List Float → Offsets
 offsets_of c d a1 = record { c = c; d = d; a1 = a1 }
+
+abbrev pub offsets_in : shift.Offsets → Offsets
+offsets_in o = offsets_of o.c.now o.d.now o.a1.now
 
 -- ---- the outputs, in that order too: those that only the covariances reach, and those that the means reach
 
@@ -43,6 +52,9 @@ pub record Given : Type 0 where
 abbrev pub given : ℕ → ℕ → ℕ → ℕ → List Float → List Float → Bool → List Float → List Float → List Float → List Float → List Float → List Float → List Float → List Float → List Float → List ℕ → List Float → Given
 given p m r n z zs repeats h t ts rr q c d a1 p* flags y =
     record { model = model_of p m r n z zs repeats h t ts rr q p* flags; offsets = offsets_of c d a1; readings = y }
+
+abbrev pub given_in : system.Model → shift.Offsets → List Float → Given
+given_in x o y = record { model = model_in x; offsets = offsets_in o; readings = y }
 
 pub record Lent : Type 0 where
   pub cov : CovParts

@@ -1,13 +1,12 @@
 -- What the calls with a list of records promise: the flat call's outcome, where refusal 2 asks for the list's room too, and the list afterwards.
-use Rattle.std.specs.Prelude.{◌≡◌, ℕ, ◌*◌, Bool, ◌&&◌, cond, List, map, length, replicate, leb, eqb, Float}
+use Rattle.std.specs.Prelude.{◌≡◌, ℕ, ◌*◌, Bool, ◌&&◌, cond, List, map, length, replicate, leb, eqb, Float, Ok, Err}
 use Rattle.definition.specs.Run.{join}
 use Rattle.definition.specs.Inputs.{Model, Offsets, class_of}
 use Rattle.definition.specs.Parts.{fStar, fInf, innovations}
 use Rattle.definition.specs.Outcome.{CovParts, MeanParts, CovOutcome, MeanOutcome, SmoothedCov, SmoothedMean, Ending, kinds_need, roomy, roomy_smoothed, decisions_of, cov_of, mean_of, mean_written, ending, after, cov_outcome, mean_outcome, smoothed_cov, smoothed_mean}
 use Rattle.promise.specs.Lent.{Given, Lent, LentSmooth}
-use Rattle.promise.specs.declared.Outcome.{Outcome}
-use Rattle.promise.specs.declared.Outcome.TheVariants.{Refused, Answered}
-use Rattle.promise.specs.Calls.{Promise, PromiseSmooth}
+use Rattle.promise.specs.Refusals.{number}
+use Rattle.promise.specs.Calls.{Outcome, Promise, PromiseSmooth}
 use Rattle.promise.specs.declared.Record.{Record}
 use Rattle.promise.specs.Records.{gap_record, filled, records_by}
 
@@ -40,8 +39,8 @@ list_after x o y f old = after f (records_run x o y) (replicate (kinds_need x) g
 -- ---- the same list by the flat parts as they stand afterwards: k records of an answer and on refusal 12, else none
 
 abbrev pub to_tell : Outcome → ℕ → ℕ
-to_tell (Refused c) k = cond (eqb c 12) k 0
-to_tell (Answered a) k = k
+to_tell (Err e) k = cond (eqb (number e) 12) k 0
+to_tell (Ok a) k = k
 
 abbrev pub told_by : ℕ → Outcome → CovParts → MeanParts → List Record → List Record
 told_by k r b b' old = filled (to_tell r k) b.kinds (b' innovations) (b.part fStar) (b.part fInf) old

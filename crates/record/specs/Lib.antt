@@ -1,3 +1,4 @@
 pub mod RoundTrip
 pub mod Written
 pub mod Read
+pub mod Decisions

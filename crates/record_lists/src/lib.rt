@@ -1,55 +1,37 @@
 // The calls with a list of records, for a program: the list goes in by value and comes back.
 #![tactic(auto)]
 
-ghost use Rattle.promise.specs.Lent.{given, lent, lent_smooth};
+ghost use Rattle.promise.specs.Lent.{given_in, lent, lent_smooth};
 ghost use Rattle.promise.specs.WithRecords.{FilteredRecords, SmoothedRecords};
 
-use goxundar::{Outcome, Record};
+use goxundar::{Answer, Model, Offsets, Record, Refusal};
 
-// A call's outcome, and its list afterwards.
+// A call's outcome, and its list afterwards. The other outputs are lent one by one, as to the library's own call: its promise speaks of them so.
 #[derive(Drop)]
 pub struct Listed {
-    pub outcome: Outcome,
+    pub outcome: Result<Answer, Refusal>,
     pub records: [Record; 1024],
 }
 
 // The filter's call.
-pub fn filter<'a, 'o>(
-    p: usize,
-    m: usize,
-    r: usize,
-    n: usize,
-    z: &'a [f64],
-    zs: &'a [f64],
-    repeats: bool,
-    h: &'a [f64],
-    t: &'a [f64],
-    ts: &'a [f64],
-    rr: &'a [f64],
-    q: &'a [f64],
-    c: &'a [f64],
-    d: &'a [f64],
-    a1: &'a [f64],
-    p_star: &'a [f64],
-    flags: &'a [u8],
-    y: &'a [f64],
-    pred_mean: &'o mut [f64],
-    pred_cov: &'o mut [f64],
-    pred_inf: &'o mut [f64],
-    filt_mean: &'o mut [f64],
-    filt_cov: &'o mut [f64],
+pub fn filter(
+    x: &Model,
+    o: &Offsets,
+    y: &[f64],
+    pred_mean: &mut [f64],
+    pred_cov: &mut [f64],
+    pred_inf: &mut [f64],
+    filt_mean: &mut [f64],
+    filt_cov: &mut [f64],
     kinds: &mut [u8],
     v: &mut [f64],
     f_star: &mut [f64],
     f_inf: &mut [f64],
-    m_star: &'o mut [f64],
-    m_inf: &'o mut [f64],
+    m_star: &mut [f64],
+    m_inf: &mut [f64],
     list: [Record; 1024],
 ) -> Listed
-    ensures { FilteredRecords
-        (given p m r n
-        z.now zs.now repeats h.now t.now ts.now rr.now q.now
-        c.now d.now a1.now p_star.now flags.now y.now)
+    ensures { FilteredRecords (given_in x.now o.now y.now)
         (lent
         pred_mean.old pred_cov.old pred_inf.old
         filt_mean.old filt_cov.old
@@ -66,23 +48,8 @@ pub fn filter<'a, 'o>(
 {
     let mut records = list;
     let outcome = goxundar::filter_records(
-        p,
-        m,
-        r,
-        n,
-        z,
-        zs,
-        repeats,
-        h,
-        t,
-        ts,
-        rr,
-        q,
-        c,
-        d,
-        a1,
-        p_star,
-        flags,
+        x,
+        o,
         y,
         pred_mean,
         pred_cov,
@@ -101,44 +68,26 @@ pub fn filter<'a, 'o>(
 }
 
 // The smoother's call.
-pub fn smooth<'a, 'o>(
-    p: usize,
-    m: usize,
-    r: usize,
-    n: usize,
-    z: &'a [f64],
-    zs: &'a [f64],
-    repeats: bool,
-    h: &'a [f64],
-    t: &'a [f64],
-    ts: &'a [f64],
-    rr: &'a [f64],
-    q: &'a [f64],
-    c: &'a [f64],
-    d: &'a [f64],
-    a1: &'a [f64],
-    p_star: &'a [f64],
-    flags: &'a [u8],
-    y: &'a [f64],
-    pred_mean: &'o mut [f64],
-    pred_cov: &'o mut [f64],
-    pred_inf: &'o mut [f64],
-    filt_mean: &'o mut [f64],
-    filt_cov: &'o mut [f64],
+pub fn smooth(
+    x: &Model,
+    o: &Offsets,
+    y: &[f64],
+    pred_mean: &mut [f64],
+    pred_cov: &mut [f64],
+    pred_inf: &mut [f64],
+    filt_mean: &mut [f64],
+    filt_cov: &mut [f64],
     kinds: &mut [u8],
     v: &mut [f64],
     f_star: &mut [f64],
     f_inf: &mut [f64],
-    m_star: &'o mut [f64],
-    m_inf: &'o mut [f64],
-    sm_mean: &'o mut [f64],
-    sm_cov: &'o mut [f64],
+    m_star: &mut [f64],
+    m_inf: &mut [f64],
+    sm_mean: &mut [f64],
+    sm_cov: &mut [f64],
     list: [Record; 1024],
 ) -> Listed
-    ensures { SmoothedRecords
-        (given p m r n
-        z.now zs.now repeats h.now t.now ts.now rr.now q.now
-        c.now d.now a1.now p_star.now flags.now y.now)
+    ensures { SmoothedRecords (given_in x.now o.now y.now)
         (lent_smooth
         pred_mean.old pred_cov.old pred_inf.old
         filt_mean.old filt_cov.old
@@ -157,23 +106,8 @@ pub fn smooth<'a, 'o>(
 {
     let mut records = list;
     let outcome = goxundar::smooth_records(
-        p,
-        m,
-        r,
-        n,
-        z,
-        zs,
-        repeats,
-        h,
-        t,
-        ts,
-        rr,
-        q,
-        c,
-        d,
-        a1,
-        p_star,
-        flags,
+        x,
+        o,
         y,
         pred_mean,
         pred_cov,

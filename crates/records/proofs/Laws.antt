@@ -6,8 +6,9 @@ use native.Mathlib.Nat.{mul-le-mul}
 use mathlib.Core.Bool.{Bool, true, false, not, ◌&&◌, and-true, and-false, cond}
 use mathlib.Core.List.{List, map}
 use lib.ListN.{length}
-use lib.Dec.{leb, ltb}
+use lib.Dec.{leb, ltb, eqb}
 use lib.Ieee.{Float}
+use Rattle.std.specs.Prelude.{Ok, Err}
 use borrow.Author.Tests.{not-true, ltb-true, ltb-false, lt-ltb, le-ltb, lt-leb, le-leb, ne_eqb}
 use Rattle.definition.specs.Run.{any_of}
 use Rattle.definition.specs.Inputs.{Model, Offsets, class_of, is_infinity}
@@ -15,10 +16,10 @@ use Rattle.definition.specs.Refusals.{outside, bad_length, refusal, tests, first
 use Rattle.definition.specs.Outcome.{CovParts, MeanParts, CovOutcome, MeanOutcome, SmoothedCov, SmoothedMean, Ending, kinds_need, roomy, roomy_smoothed, ending, after, cov_outcome, mean_outcome, outcome, outcome_at, smoothed_cov, smoothed_mean, smooth_outcome, smooth_outcome_at}
 use Rattle.laws.specs.Any.{both_true}
 use Rattle.model.specs.Lengths.{rooms_are, rooms_smoothed_are, by_room, by_room_smoothed}
-use Rattle.promise.specs.declared.Answer.{Answer}
-use Rattle.promise.specs.declared.Outcome.{Outcome}
-use Rattle.promise.specs.declared.Outcome.TheVariants.{Refused, Answered}
-use Rattle.promise.specs.Calls.{Promise, PromiseSmooth}
+use Rattle.promise.specs.declared.Refusal.TheVariants.{Length}
+use Rattle.promise.specs.Refusals.{number}
+use Rattle.promise.specs.Numbers.{numbered}
+use Rattle.promise.specs.Calls.{Outcome, refusal_of, Promise, PromiseSmooth}
 use Rattle.filter.specs.Ends as ends
 use Rattle.promise.specs.WithRecords.{ending_with_records, outcome_with_records, smooth_outcome_with_records, to_tell}
 use Rattle.records.specs.Few.{too_few, capped}
@@ -42,14 +43,17 @@ all_of p n h g = rw (le-ltb 8 p h, le-ltb 4096 n g) refl
 
 -- ---- how many records there are to tell
 
-pub tells_twelve : (o : Outcome) (c k all : ℕ) → o ≡ Refused c → c ≡ 12 → k ≡ all → k ≡ to_tell o all
-tells_twelve o c k all e h g = g ∙ ap (λ (d : ℕ). to_tell (Refused d) all) (sym h) ∙ ap (λ (r : Outcome). to_tell r all) (sym e)
+pub tells_answer : (r : Outcome) (k : ℕ) → refusal_of r ≡ 0 → to_tell r k ≡ k
+tells_answer (Ok a) k h = refl
+tells_answer (Err e) k h = absurd (numbered e h)
 
-pub tells_none : (o : Outcome) (c all : ℕ) → o ≡ Refused c → (c ≡ 12 → ⊥) → 0 ≡ to_tell o all
-tells_none o c all e h = ap (λ (t : Bool). cond t all 0) (sym (ne_eqb c 12 h)) ∙ ap (λ (r : Outcome). to_tell r all) (sym e)
+pub tells_twelve : (r : Outcome) (k : ℕ) → refusal_of r ≡ 12 → to_tell r k ≡ k
+tells_twelve (Ok a) k h = refl
+tells_twelve (Err e) k h = ap (λ (n : ℕ). cond (eqb n 12) k 0) h
 
-pub tells_answer : (o : Outcome) (a : Answer) (k all : ℕ) → o ≡ Answered a → k ≡ all → k ≡ to_tell o all
-tells_answer o a k all e g = g ∙ ap (λ (r : Outcome). to_tell r all) (sym e)
+pub tells_none : (r : Outcome) (k : ℕ) → (refusal_of r ≡ 0 → ⊥) → (refusal_of r ≡ 12 → ⊥) → to_tell r k ≡ 0
+tells_none (Ok a) k some h = absurd (some refl)
+tells_none (Err e) k some h = ap (λ (t : Bool). cond t k 0) (ne_eqb (number e) 12 h)
 
 -- ---- too few places: refusal 2, past refusal 1
 
@@ -86,11 +90,11 @@ module _ (x : Model) (o : Offsets) (y : List Float) (have : ℕ) where
       rw l (and-true room)
 
   module _ (w : CovParts) (w' : MeanParts) where
-    pub few_so : few ≡ true → Promise (outcome_with_records x o y w w' have) (Refused 2) w w'
+    pub few_so : few ≡ true → Promise (outcome_with_records x o y w w' have) (Err Length) w w'
     unfolding outcome_with_records ending_with_records
     few_so e =
-        subst (λ (f : Ending). Promise (ends.End x o y w w' f) (Refused 2) w w')
-        (sym (ends.is_turned x o y (roomy x w w' && leb (kinds_need x) have) 1 (two (roomy x w w') e))) (ends.turned_away x o y w w' 1)
+        subst (λ (f : Ending). Promise (ends.End x o y w w' f) (Err Length) w w')
+        (sym (ends.is_turned x o y (roomy x w w' && leb (kinds_need x) have) Length (two (roomy x w w') e))) (ends.turned_away x o y w w' Length)
 
     same : few ≡ false → outcome x o y w w' ≡ outcome_with_records x o y w w' have
     unfolding outcome_with_records ending_with_records outcome outcome_at ending
@@ -109,12 +113,12 @@ module _ (x : Model) (o : Offsets) (y : List Float) (have : ℕ) where
         record { filter = mean_outcome x f o (map class_of y) y w'; smoothed = smoothed_mean x f o (map class_of y) y sm },
       )
 
-      pub few_smooth_so : few ≡ true → PromiseSmooth (smooth_outcome_with_records x o y w w' sm sc have) (Refused 2) w w' sm sc
+      pub few_smooth_so : few ≡ true → PromiseSmooth (smooth_outcome_with_records x o y w w' sm sc have) (Err Length) w w' sm sc
       unfolding smooth_outcome_with_records ending_with_records smoothed_cov smoothed_mean after
       few_smooth_so e =
           let room = roomy_smoothed x w w' sm sc in
-          subst (λ (f : Ending). PromiseSmooth (SmoothEnd f) (Refused 2) w w' sm sc)
-          (sym (ends.is_turned x o y (room && leb (kinds_need x) have) 1 (two room e))) (record { filter = ends.turned_away x o y w w' 1; mean = refl; cov = refl })
+          subst (λ (f : Ending). PromiseSmooth (SmoothEnd f) (Err Length) w w' sm sc)
+          (sym (ends.is_turned x o y (room && leb (kinds_need x) have) Length (two room e))) (record { filter = ends.turned_away x o y w w' Length; mean = refl; cov = refl })
 
       same_smooth : few ≡ false → smooth_outcome x o y w w' sm sc ≡ smooth_outcome_with_records x o y w w' sm sc have
       unfolding smooth_outcome_with_records ending_with_records smooth_outcome smooth_outcome_at ending

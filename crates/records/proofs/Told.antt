@@ -2,12 +2,12 @@
 use mathlib.Core.Path.{◌≡◌, refl, sym, ap, ap₂, subst, ◌∙◌}
 use Prim.Native.Nat.{ℕ, zero, suc, ◌*◌, ◌≤◌}
 use native.Mathlib.Omega.{arith}
-use mathlib.Core.Bool.{Bool, true, false, ◌&&◌, cond}
+use mathlib.Core.Bool.{Bool, true, false, ◌&&◌}
 use mathlib.Core.List.{List, map}
 use lib.ListN.{length, replicate, length-map}
 use lib.Dec.{leb}
 use lib.Ieee.{Float}
-use borrow.Author.Tests.{leb-true, ne_eqb}
+use borrow.Author.Tests.{leb-true}
 use Rattle.definition.specs.Num.{tab_from}
 use Rattle.definition.specs.Run.{any_of, lay, join}
 use Rattle.definition.specs.Cov.{Decision, CovPeriod}
@@ -24,16 +24,15 @@ use Rattle.laws.specs.Numbered.{not_twelve}
 use Rattle.laws.specs.Accepted.{accepted, in_range}
 use Rattle.mean_back.specs.Looked.{mean_long, mean_sized}
 use Rattle.promise.specs.Lent.{cov_parts, mean_parts}
-use Rattle.promise.specs.declared.Outcome.{Outcome}
-use Rattle.promise.specs.declared.Outcome.TheVariants.{Refused}
-use Rattle.promise.specs.Calls.{Promise, answer_by, PromiseSmooth}
+use Rattle.promise.specs.declared.Refusal.TheVariants.{Dimension}
+use Rattle.promise.specs.Calls.{Outcome, refusal_of, Promise, PromiseSmooth}
 use Rattle.filter.specs.Ends as ends
 use Rattle.promise.specs.declared.Record.{Record}
 use Rattle.promise.specs.Records.{gap_record, records_of, filled, records_by}
 use Rattle.record.specs.Written.{records_written, records_blank, filled_all}
 use Rattle.promise.specs.WithRecords.{ending_with_records, outcome_with_records, smooth_outcome_with_records, records_run, list_after, to_tell, told_by, WithRecords, WithRecordsSmooth}
 use Rattle.records.specs.Few.{capped}
-use Rattle.records.proofs.Laws.{all_of}
+use Rattle.records.proofs.Laws.{all_of, tells_answer, tells_twelve, tells_none}
 
 -- ---- a run's numbers: n·p decisions, and as many v
 
@@ -81,28 +80,27 @@ module _ (x : Model) (o : Offsets) (y : List Float) (w : CovParts) (w' : MeanPar
   all_filled k e l = ap (λ (j : ℕ). filled j b.kinds (b' innovations) (b.part fStar) (b.part fInf) old) e ∙ filled_all k b.kinds (b' innovations) (b.part fStar) (b.part fInf) old l
 
   when_turned : (k : ℕ) → (suc k ≡ 12 → ⊥) → Had (turned (suc k)) → Told (turned (suc k))
-  unfolding cov_outcome mean_outcome number_of answer_by list_after after
+  unfolding cov_outcome mean_outcome number_of list_after after
   when_turned k q h =
-      let e : r ≡ Refused (suc k) = h.answer in
-      let z : to_tell r (x.n * x.p) ≡ 0 = ap (λ (s : Outcome). to_tell s (x.n * x.p)) e ∙ ap (λ (t : Bool). cond t (x.n * x.p) 0) (ne_eqb (suc k) 12 q) in
+      let e : refusal_of r ≡ suc k = h.refusal in
+      let z : to_tell r (x.n * x.p) ≡ 0 = tells_none r _ (λ t. omega arith) (λ t. q (sym e ∙ t)) in
       ap (λ (j : ℕ). filled j b.kinds (b' innovations) (b.part fStar) (b.part fInf) old) z ∙ filled_none b.kinds (b' innovations) (b.part fStar) (b.part fInf) old
 
   when_silent : x.n * x.p ≤ length old → Had silent → Told silent
-  unfolding cov_outcome mean_outcome number_of answer_by list_after after kinds_need
+  unfolding cov_outcome mean_outcome number_of list_after after kinds_need
   when_silent l h =
-      let e : r ≡ Refused 12 = h.answer in
-      let z : to_tell r (x.n * x.p) ≡ x.n * x.p = ap (λ (s : Outcome). to_tell s (x.n * x.p)) e in
+      let z : to_tell r (x.n * x.p) ≡ x.n * x.p = tells_twelve r _ h.refusal in
       let q : records_of (x.n * x.p) b.kinds (b' innovations) (b.part fStar) (b.part fInf) ≡ replicate (x.n * x.p) gap_record =
       ap (λ (l : List ℕ). records_of (x.n * x.p) l (b' innovations) (b.part fStar) (b.part fInf)) h.kinds ∙ records_blank (x.n * x.p) _ (b' innovations) (b.part fStar) (b.part fInf) in
       all_filled (x.n * x.p) z l ∙ ap (λ (t : List Record). lay t old) q
 
   when_answered : length (map class_of y) ≡ x.n * x.p → length o.a1 ≡ x.m → x.n * x.p ≤ length old → Had answered → Told answered
-  unfolding cov_outcome mean_outcome number_of answer_by list_after after records_run kinds_written cov_written cov_block
+  unfolding cov_outcome mean_outcome number_of list_after after records_run kinds_written cov_written cov_block
   when_answered fit start l h =
       let cs = (cov_of x (map class_of y)).0 in
       let ds = join (decisions_of cs) in
       let vs = mean_written (mean_of x o cs y) innovations in
-      let z : to_tell r (x.n * x.p) ≡ length ds = ap (λ (s : Outcome). to_tell s (x.n * x.p)) h.answer ∙ sym (ds_long x o y fit) in
+      let z : to_tell r (x.n * x.p) ≡ length ds = tells_answer r _ h.refusal ∙ sym (ds_long x o y fit) in
       let q : records_of (length ds) b.kinds (b' innovations) (b.part fStar) (b.part fInf) ≡ records_by ds vs =
       rw (h.kinds, h.mean innovations, h.cov fStar, h.cov fInf, kinds_join cs, flat_of_lem f_star_of cs, flat_of_lem f_inf_of cs) (records_written ds vs _ _ _ _ (vs_long x o y fit start ∙ sym (ds_long x o y fit))) in
       all_filled (length ds) z (rw (ds_long x o y fit) l) ∙ ap (λ (t : List Record). lay t old) q
@@ -122,15 +120,18 @@ module _ (x : Model) (o : Offsets) (y : List Float) (w : CovParts) (w' : MeanPar
             at (suc k) q e g = when_turned k (λ t. not_twelve x o _ _ room (e ∙ t)) g
 
     -- out of range nothing is told, so n·p fits where it is asked
-    refused_one : outside x.p x.m x.r x.n ≡ true → r ≡ Refused 1
-    unfolding cov_outcome mean_outcome number_of answer_by refusal tests first_of
-    refused_one e = (subst Had (ends.is_turned x o y room 0 (rw e refl)) h).answer
+    refused_one : outside x.p x.m x.r x.n ≡ true → refusal_of r ≡ 1
+    unfolding cov_outcome mean_outcome number_of refusal tests first_of
+    refused_one e = (subst Had (ends.is_turned x o y room Dimension (rw e refl)) h).refusal
 
     all_told : to_tell r (capped x.p x.n) ≡ to_tell r (x.n * x.p)
     all_told = by (outside x.p x.m x.r x.n) refl
       where
         by : (t : Bool) → outside x.p x.m x.r x.n ≡ t → to_tell r (capped x.p x.n) ≡ to_tell r (x.n * x.p)
-        by true e = rw (refused_one e) refl
+        by true e =
+            let h = refused_one e in
+            let none : (k : ℕ) → to_tell r k ≡ 0 = λ k. tells_none r k (λ t. omega arith) (λ t. omega arith) in
+            none _ ∙ sym (none _)
         by false e = let i = in_range _ _ _ _ e in ap (to_tell r) (sym (all_of x.p x.n i.p8 i.n4096))
 
 -- ---- the promises, from the flat call's and from what `fill` leaves

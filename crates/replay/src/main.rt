@@ -7,30 +7,22 @@ mod found;
 mod sides;
 mod words;
 
-// "GOXCASE4".
-const MAGIC: u64 = 0x474F_5843_4153_4534;
+use found::Difference;
 
-// Reads from byte `from` up to byte `to`, if the buffer has them.
+const MAGIC: &[u8] = b"GOXCASE4";
+
+// Reads from byte `from` up to byte `to`, if the buffer has them. A bool: a file that ends early is told by the counts alone.
 fn read(case: &mut [u8], from: usize, to: usize) -> bool {
-    if to > case.len() {
-        return false;
-    }
-    if from > to {
-        return false;
-    }
-    let n = io::read_full(0, &mut case[from..to]);
-    n == to - from
+    from <= to && to <= case.len() && io::read_full(0, &mut case[from..to]) == to - from
 }
 
 // How many cases the file says it has; none if it is no case file.
 fn header(case: &mut [u8]) -> usize {
-    if !read(case, 0, 40) {
-        return 0;
+    if read(case, 0, 40) && case.starts_with(MAGIC) {
+        words::size(case, 1)
+    } else {
+        0
     }
-    if words::word(case, 0) != MAGIC {
-        return 0;
-    }
-    words::size(case, 1)
 }
 
 // The next case, whole: its first word says how many it has.
@@ -39,46 +31,38 @@ fn next(case: &mut [u8]) -> bool {
         return false;
     }
     let k = words::size(case, 0);
-    if k < 54 {
-        return false;
-    }
-    if k > 8192 {
-        return false;
-    }
-    read(case, 8, 8 * k)
+    (words::HEAD..=words::WORDS).contains(&k) && read(case, 8, 8 * k)
 }
 
-// How many cases were replayed and how many differ, with the first that does.
+// How many cases were replayed and how many differ, and the first that does, by its number.
 #[derive(Drop)]
 struct Tally {
     cases: u64,
     differ: u64,
-    at: u64,
-    first: found::Found,
+    first: Option<(u64, Difference)>,
 }
 
-fn add(t: Tally, f: found::Found) -> Tally {
-    let mut t = t;
-    if f.differs {
-        if t.differ == 0 {
-            t.at = t.cases;
-            t.first = f;
+impl Tally {
+    fn add(&mut self, case: Result<(), Difference>) {
+        if let Err(d) = case {
+            if self.first.is_none() {
+                self.first = Some((self.cases, d));
+            }
+            self.differ = self.differ.wrapping_add(1);
         }
-        t.differ = std::num::wrapping_add_u64(t.differ, 1);
+        self.cases = self.cases.wrapping_add(1);
     }
-    t.cases = std::num::wrapping_add_u64(t.cases, 1);
-    t
 }
 
+// By io, and no handle's print!: each function here would take the handle and throw a Result away.
 // `said`: how many cases the file says it has.
-fn print(t: Tally, said: usize) {
+fn print(t: &Tally, said: usize) {
     io::print_decimal(1, t.cases);
     io::write_all(1, b" cases, ");
     io::print_decimal(1, t.differ);
     io::write_all(1, b" differ\n");
-    if t.differ > 0 {
-        let f = t.first;
-        found::print(t.at, f);
+    if let Some((case, d)) = t.first {
+        found::print(case, d);
     }
     if t.cases != said as u64 {
         io::write_all(1, b"the file ends before its last case\n");
@@ -86,13 +70,10 @@ fn print(t: Tally, said: usize) {
 }
 
 // The first difference of the two calls, the filter's before the smoother's.
-fn both(case: &[u8]) -> found::Found {
+fn both(case: &[u8]) -> Result<(), Difference> {
     let numbers = words::doubles(case);
     let low = words::bytes(case);
-    let f = sides::filtered(case, &numbers, &low);
-    if f.differs {
-        return f;
-    }
+    sides::filtered(case, &numbers, &low)?;
     sides::smoothed(case, &numbers, &low)
 }
 
@@ -102,14 +83,13 @@ fn main() {
     let mut t = Tally {
         cases: 0,
         differ: 0,
-        at: 0,
-        first: found::nothing(),
+        first: None,
     };
-    for k in 0..n {
+    for _ in 0..n {
         if !next(&mut case) {
             break;
         }
-        t = add(t, both(&case));
+        t.add(both(&case));
     }
-    print(t, n);
+    print(&t, n);
 }

@@ -20,7 +20,8 @@ fn block_off(a: &[f64], k: usize, t: usize) -> bool
     dense::not_finite(&a[from..to])
 }
 
-// Some number of three lists of one length is not finite. One loop and not three, for its size: the search stands in each call twice.
+// Some number of three lists of one length is not finite. One loop and not three, for its size: the search stands in each call twice. By the index: std's
+// lemmas place the items of a zip of two alone.
 fn some_off(a: &[f64], b: &[f64], c: &[f64]) -> bool
     requires { (length b.now ≡ length a.now) × (length c.now ≡ length a.now) }
     ensures { result ≡ (not_finite a.now || not_finite b.now || not_finite c.now) }
@@ -42,7 +43,8 @@ fn off_at(a: &[f64], b: &[f64], c: &[f64], k: usize, t: usize) -> bool
     some_off(&a[from..to], &b[from..to], &c[from..to])
 }
 
-// The first of n such blocks, plus 1, where block 0 is that of period `done`; 0: none.
+// The first of n such blocks, plus 1, where block 0 is that of period `done`; 0: none. That is the number that a caller reads (the definition's first_from);
+// an Option here would be turned into it in the next line.
 fn first_off(a: &[f64], b: &[f64], c: &[f64], k: usize, n: usize, done: usize) -> usize
     requires { Blocks k n done (length a.now) (length b.now) (length c.now) }
     ensures { result ≡ first_from done (tabulate n (off_at k a.now b.now c.now)) }
@@ -88,7 +90,7 @@ pub fn covs(
     )
 }
 
-// The means, as the mean pass left them.
+// The means, as the mean pass left them. The filtered ones stand twice, for the search goes through three parts.
 pub fn means(pred_mean: &[f64], filt_mean: &[f64], m: usize, n: usize, done: usize) -> usize
     requires { MeanRooms m n done (length pred_mean.now) (length filt_mean.now) }
     ensures { result ≡ first_from done (tabulate (cond (not_finite (block_at m pred_mean.now n)) n 0)

@@ -5,35 +5,41 @@
 
 ghost use Rattle.std.specs.Prelude.{◌≤◌};
 
-use sheet::answers::Settings;
+use clock::Clock;
+use goxundar::{Answer, Refusal};
+use sheet::answers::Sheet;
 
-// What a saved run of three states has: 120 + 8 m + 32 m² bytes.
-pub fn bytes() -> [u8; 432] {
-    [0; 432]
-}
+// How many bytes a saved run of three states has: 120 + 8 m + 32 m².
+pub const BYTES: usize = 432;
 
-// How many periods a saved run has done: bytes 28 to 35, most significant first. Where the library takes it they are at most 4096, so that the last
-// two bytes say it. A run that has just begun has no bytes, and has done none.
-pub fn done(saved: &[u8]) -> usize
+// How many periods the run before has done: bytes 28 to 35, most significant first. Where the library takes it they are at most 4096, so that the last
+// two bytes say it. None: the run begins.
+pub fn done(before: Option<&[u8]>) -> usize
     ensures { result ≤ 65535 }
 {
-    rows::byte(saved, 34) as usize * 256 + rows::byte(saved, 35) as usize
+    let saved = before.unwrap_or(&[]);
+    match saved.get(34..36) {
+        Some([high, low]) => u16::from_be_bytes([*high, *low]) as usize,
+        _ => 0,
+    }
 }
 
 // A stretch has no smoothed numbers: the places for them are filled from empty parts, and nobody shows them.
 pub fn estimate(
-    s: Settings,
-    n: usize,
+    sheet: Sheet,
     y: &[f64],
-    begins: bool,
-    saved: &[u8],
+    before: Option<&[u8]>,
     last: bool,
     rows: &mut [f64],
     kinds: &mut [u8],
     save: &mut [u8],
-) -> goxundar::Outcome
-    requires { n ≤ 4096 }
+) -> Result<Answer, Refusal>
+    requires { sheet.periods ≤ 4096 }
 {
+    let Sheet {
+        settings,
+        periods: n,
+    } = sheet;
     let mut pred_mean = [0.0; 12291];
     let mut pred_cov = [0.0; 36873];
     let mut pred_inf = [0.0; 36873];
@@ -44,30 +50,16 @@ pub fn estimate(
     let mut f_inf = [0.0; 8192];
     let mut m_star = [0.0; 24576];
     let mut m_inf = [0.0; 24576];
-    let t = clock::transition(s);
     let mut list = [0.0; 36864];
-    clock::transitions(s, &mut list);
+    clock::transitions(settings, &mut list);
+    let clock = Clock::of(settings, &list);
+    // `begins` and `last` are flags, since the call, which C makes too, has them so.
     let outcome = goxundar::stretch(
-        2,
-        3,
-        3,
-        n,
-        &clock::design(),
-        &[],
-        false,
-        &clock::noise(s),
-        clock::once(s, &t),
-        clock::listed(s, &list),
-        &clock::identity(),
-        &clock::disturbances(s),
-        &[0.0; 3],
-        &[0.0; 2],
-        &clock::start_mean(s),
-        &clock::start_cov(s),
-        &clock::flags(s),
+        &clock.model(n),
+        &clock.offsets(),
         clock::first(y, 2 * n),
-        begins,
-        saved,
+        before.is_none(),
+        before.unwrap_or(&[]),
         last,
         &mut pred_mean,
         &mut pred_cov,

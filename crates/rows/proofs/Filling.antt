@@ -1,15 +1,12 @@
 -- A list that is filled from its start: by one place, by a run of places, by a period's eight numbers.
-use Rattle.std.proofs.Common.{◌≡◌, ℕ, suc, ◌+◌, ◌*◌, ◌/◌, ◌%◌, ◌<◌, Bool, ◌&&◌, List, [], ◌∷◌, length, get_or, set, sym, refl, ap, ◌∙◌, subst, ap₂, ⊎_elim, le_of_suc-le-suc, eq-or-lt_of_le, arith, length-set, get_or-set_other, get_or-set_same}
+use Rattle.std.proofs.Common.{◌≡◌, ℕ, suc, ◌+◌, ◌*◌, ◌/◌, ◌%◌, ◌<◌, Bool, ◌&&◌, List, [], ◌∷◌, length, get_or, set, sym, ap, ◌∙◌, subst, ap₂, ⊎_elim, le_of_suc-le-suc, eq-or-lt_of_le, arith, length-set, get_or-set_other, get_or-set_same}
 use lib.Ieee.{Float}
 use lib.Seq.{sets}
 use Rattle.definition.specs.Num.{0ᶠ}
 use Rattle.rows.specs.Rows.{num_at, open_of, offset_open_of, rate_open_of, deviation_of, half_of, numbers_of, number_of}
-use Rattle.rows.specs.Filled.{Filled, RowsFilled}
+use Rattle.rows.specs.Filled.{Filled}
 
 module _ {A : Type 0} (d : A) (f : ℕ → A) (old : List A) where
-  pub none_yet : Filled d f 0 old old
-  none_yet = record { long = refl; told = λ i h g. absurd (omega arith); kept = λ i h. refl }
-
   pub next : (l : List A) (k : ℕ) {x : A} → x ≡ f k → Filled d f k old l → Filled d f (suc k) old (set l k x)
   next l k {x} e w =
       let n = w.long in
@@ -63,11 +60,3 @@ module _ (n : ℕ) (pinf : List Float) (kinds : List ℕ) (fm fc sm sc : List Fl
       let s : sets l (8 * t) vs ≡ l₂ = cc in
       let z : 8 * t + 8 ≡ 8 * (t + 1) = omega arith in
       subst (λ (j : ℕ). Filled 0ᶠ flat j old l₂) z (subst (λ (m : List Float). Filled 0ᶠ flat (8 * t + 8) old m) s (run 0ᶠ flat old vs l (8 * t) (λ c h. sym (flat-at t c h)) w))
-
-  pub all : (old new : List Float) (t : ℕ) → t ≡ n → Filled 0ᶠ flat (8 * t) old new → RowsFilled n pinf kinds fm fc sm sc old new
-  all old new t e w =
-      record {
-        long = w.long;
-        told = λ u c h g k. w.told (8 * u + c) (omega arith) k ∙ flat-at u c g;
-        kept = λ i h. w.kept i (omega arith);
-      }

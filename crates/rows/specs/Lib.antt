@@ -1,3 +1,4 @@
+pub mod Checks
 pub mod Rows
 pub mod Filled
 pub mod Library

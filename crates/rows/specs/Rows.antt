@@ -6,6 +6,8 @@ use Rattle.std.specs.Float.{inf, binary64}
 use Rattle.std.specs.Float.Ieee.{of_int}
 use Rattle.definition.specs.Num.{◌⊗◌, ◌>ᶠ◌, 0ᶠ, rank_tol, is_zero, max0, sum_to}
 use Rattle.definition.specs.Root.{sqrt_of}
+use Rattle.rows.specs.declared.Estimate.{Estimate}
+use Rattle.rows.specs.declared.Estimate.TheVariants.{Filtered, Smoothed}
 
 -- ---- a place of a list, 0 past its end
 abbrev pub byte_at : List ℕ → ℕ → ℕ
@@ -51,6 +53,11 @@ half_of means covs t offset-open rate-open =
 unfoldable pub numbers_of : (n : ℕ) (pinf : List Float) (kinds : List ℕ) (filt_mean filt_cov sm_mean sm_cov : List Float) (t : ℕ) → List Float
 numbers_of n pinf kinds filt_mean filt_cov sm_mean sm_cov t =
     half_of filt_mean filt_cov t (offset_open_of pinf kinds t) (rate_open_of pinf (t + 1)) ++ half_of sm_mean sm_cov t (offset_open_of pinf kinds t && open_of pinf n) (rate_open_of pinf n)
+
+-- the first number of an estimate
+abbrev pub first_of : Estimate → ℕ
+first_of Filtered = 0
+first_of Smoothed = 4
 
 -- number c of period t
 abbrev pub number_of : (n : ℕ) (pinf : List Float) (kinds : List ℕ) (filt_mean filt_cov sm_mean sm_cov : List Float) (t c : ℕ) → Float

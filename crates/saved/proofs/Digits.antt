@@ -1,81 +1,41 @@
 -- One number: its bytes read and written, four and eight.
-use mathlib.Core.Path.{◌≡◌, sym, ap, ap₂, ◌∙◌}
-use Prim.Native.Nat.{ℕ, zero, suc, ◌+◌, ◌*◌, ◌/◌, ◌%◌, ◌^◌, ◌≤◌, ◌<◌}
-use native.Mathlib.Nat.{zero-add, add-zero, suc-add, add_comm, add-mul, mul_assoc, mod-lt, mod-eq_of_lt, one-le-pow, div-div-eq-div-mul}
+use mathlib.Core.Path.{◌≡◌, refl, sym, ap, ap₂, ◌∙◌}
+use Prim.Native.Nat.{ℕ, zero, suc, ◌+◌, ◌*◌, ◌/◌, ◌%◌, ◌^◌, ◌<◌}
+use native.Mathlib.Nat.{mod-lt, mod-eq_of_lt, one-le-pow}
 use native.Mathlib.Omega.{arith}
-use native.Mathlib.Numerals.{add-one, add-two, add-three}
-use mathlib.Core.List.{List, [], ◌∷◌, ◌++◌}
-use lib.ListN.{length, get_or, take, drop, set, length-append, length-drop, length-take}
+use mathlib.Core.List.{List, [], ◌∷◌}
+use lib.ListN.{length, get_or}
 use lib.Arith.{mod-mul, digits_div, digits_mod}
 use lib.Pow.{pow-add}
-use lib.Seq.{get_or-drop, sets-eq, take-add, drop-drop}
+use Rattle.std.specs.Int.{w32, w64, byte_at, bytes_low_first, bytes_high_first, from_be_bytes, to_be_bytes, to_le_bytes, swap_bytes}
+use Rattle.std.proofs.lemmas.Nat.{be_bytes_4, be_bytes_8}
 use Rattle.definition.specs.Saved.{bytes_of, from_bytes}
-use Rattle.saved.specs.Places.{bytes_at, least_first, put_at}
 
 -- ---- read
 
-first_four : (l : List ℕ) → 4 ≤ length l → get_or l 0 0 * 0x1000000 + get_or l 1 0 * 0x10000 + get_or l 2 0 * 0x100 + get_or l 3 0 ≡ from_bytes (take 4 l)
+pub from_four : (l : List ℕ) → length l ≡ 4 → from_be_bytes w32 l ≡ from_bytes l
 unfolding from_bytes
-first_four [] h = absurd (omega arith)
-first_four (a ∷ []) h = absurd (omega arith)
-first_four (a ∷ b ∷ []) h = absurd (omega arith)
-first_four (a ∷ b ∷ c ∷ []) h = absurd (omega arith)
-first_four (a ∷ b ∷ c ∷ d ∷ l) h = omega arith
+from_four [] h = absurd (omega arith)
+from_four (a ∷ []) h = absurd (omega arith)
+from_four (a ∷ b ∷ []) h = absurd (omega arith)
+from_four (a ∷ b ∷ c ∷ []) h = absurd (omega arith)
+from_four (a ∷ b ∷ c ∷ d ∷ []) h = omega arith
+from_four (a ∷ b ∷ c ∷ d ∷ x ∷ l) h = absurd (omega arith)
 
-pub four_at : (at : ℕ) (s : List ℕ) → at + 4 ≤ length s → get_or s at 0 * 0x1000000 + get_or s (at + 1) 0 * 0x10000 + get_or s (at + 2) 0 * 0x100 + get_or s (at + 3) 0 ≡ bytes_at 4 at s
-four_at at s h =
-    let l : 4 ≤ length (drop at s) = simp length-drop (omega arith) in
-    let e : get_or (drop at s) 0 0 ≡ get_or s at 0 = get_or-drop at s 0 0 ∙ ap (λ (i : ℕ). get_or s i 0) (add-zero at) in
-    omega (arith, first_four (drop at s) l, get_or-drop at s 1 0, get_or-drop at s 2 0, get_or-drop at s 3 0)
-
-from_append : (a b : List ℕ) → from_bytes a * 256 ^ length b + from_bytes b ≡ from_bytes (a ++ b)
+pub from_eight : (l : List ℕ) → length l ≡ 8 → from_be_bytes w64 l ≡ from_bytes l
 unfolding from_bytes
-from_append [] b = omega arith
-from_append (x ∷ a) b =
-    let k = 256 ^ length b in
-    let j = 256 ^ length a in
-    let e : 256 ^ length (a ++ b) ≡ j * k = ap (λ (i : ℕ). 256 ^ i) (length-append a b) ∙ pow-add 256 (length a) (length b) in
-    let f : x * 256 ^ length (a ++ b) ≡ x * j * k = ap (λ (i : ℕ). x * i) e ∙ sym (mul_assoc x j k) in
-    omega (arith, from_append a b, add-mul (x * j) (from_bytes a) k)
-
-pub eight_at : (at : ℕ) (s : List ℕ) → at + 8 ≤ length s → bytes_at 4 at s * 0x100000000 + bytes_at 4 (at + 4) s ≡ bytes_at 8 at s
-eight_at at s h =
-    let rest = take 4 (drop 4 (drop at s)) in
-    let l : length rest ≡ 4 = simp (length-take, length-drop) (omega arith) in
-    let e : from_bytes (take 4 (drop at s)) * 256 ^ 4 + from_bytes rest ≡ bytes_at 8 at s =
-    ap (λ (i : ℕ). from_bytes (take 4 (drop at s)) * 256 ^ i + from_bytes rest) (sym l) ∙ from_append (take 4 (drop at s)) rest ∙ ap from_bytes (sym (take-add 4 4 (drop at s))) in
-    ap (λ (l : List ℕ). bytes_at 4 at s * 0x100000000 + from_bytes (take 4 l)) (sym (drop-drop 4 at s)) ∙ e
+from_eight [] h = absurd (omega arith)
+from_eight (a ∷ []) h = absurd (omega arith)
+from_eight (a ∷ b ∷ []) h = absurd (omega arith)
+from_eight (a ∷ b ∷ c ∷ []) h = absurd (omega arith)
+from_eight (a ∷ b ∷ c ∷ d ∷ []) h = absurd (omega arith)
+from_eight (a ∷ b ∷ c ∷ d ∷ e ∷ []) h = absurd (omega arith)
+from_eight (a ∷ b ∷ c ∷ d ∷ e ∷ f ∷ []) h = absurd (omega arith)
+from_eight (a ∷ b ∷ c ∷ d ∷ e ∷ f ∷ g ∷ []) h = absurd (omega arith)
+from_eight (a ∷ b ∷ c ∷ d ∷ e ∷ f ∷ g ∷ i ∷ []) h = omega arith
+from_eight (a ∷ b ∷ c ∷ d ∷ e ∷ f ∷ g ∷ i ∷ x ∷ l) h = absurd (omega arith)
 
 -- ---- written
-
-bytes_four : (v : ℕ) → (v / 0x1000000 ∷ v / 0x10000 % 256 ∷ v / 0x100 % 256 ∷ v % 256 ∷ []) ≡ bytes_of 4 v
-unfolding bytes_of
-bytes_four v =
-    let a : v / 0x10000 % 256 ≡ v % 256 ^ 3 / 256 ^ 2 = omega arith in
-    let b : v / 0x100 % 256 ≡ v % 256 ^ 3 % 256 ^ 2 / 256 ^ 1 = omega arith in
-    let c : v % 256 ≡ v % 256 ^ 3 % 256 ^ 2 % 256 ^ 1 / 256 ^ 0 = omega arith in
-    cc
-
--- a number made of four bytes, read from the least on
-least_digits : (a b c d : ℕ) → a < 256 → b < 256 → c < 256 → d < 256 → least_first (a * 0x1000000 + b * 0x10000 + c * 0x100 + d) ≡ (d ∷ c ∷ b ∷ a ∷ [])
-least_digits a b c d ha hb hc hd =
-    let v = a * 0x1000000 + b * 0x10000 + c * 0x100 + d in
-    let low : ℕ → ℕ = λ i. i % 256 in
-    let w : v % 256 ≡ d = omega arith in
-    let x : v / 0x100 ≡ a * 0x10000 + b * 0x100 + c = omega arith in
-    let y : v / 0x10000 ≡ a * 0x100 + b = omega arith in
-    let z : v / 0x1000000 ≡ a = omega arith in
-    let x' : v / 0x100 % 256 ≡ c = ap low x ∙ omega arith in
-    let y' : v / 0x10000 % 256 ≡ b = ap low y ∙ omega arith in
-    let z' : v / 0x1000000 % 256 ≡ a = ap low z ∙ omega arith in
-    cc
-
--- of v's own bytes in the other order
-pub turned_bytes : (v : ℕ) → v < 256 ^ 4 → least_first (v % 256 * 0x1000000 + v / 0x100 % 256 * 0x10000 + v / 0x10000 % 256 * 0x100 + v / 0x1000000) ≡ bytes_of 4 v
-turned_bytes v h = least_digits (v % 256) (v / 0x100 % 256) (v / 0x10000 % 256) (v / 0x1000000) (omega arith) (omega arith) (omega arith) (omega arith) ∙ bytes_four v
-
-pub least_put : (at w : ℕ) (old : List ℕ) → at + 4 ≤ length old → set (set (set (set old at (w % 256)) (at + 1) (w / 0x100 % 256)) (at + 2) (w / 0x10000 % 256)) (at + 3) (w / 0x1000000 % 256) ≡ put_at at (least_first w) old
-least_put at w old h = rw (add-one, add-two, add-three) (sets-eq (least_first w) old at h)
 
 positive : (k : ℕ) → 0 < 256 ^ k
 positive k = one-le-pow k 256 (omega arith)
@@ -88,22 +48,36 @@ module _ (v a b : ℕ) (some : 0 < a) (pos : 0 < b) where
   high : v % (a * b) / b ≡ v / b % a
   high = ap (λ (i : ℕ). i / b) (mod-mul v some pos) ∙ digits_div (v / b % a) (mod-lt v pos)
 
-bytes_split : (j k v : ℕ) → v < 256 ^ (j + k) → bytes_of (j + k) v ≡ bytes_of j (v / 256 ^ k) ++ bytes_of k (v % 256 ^ k)
-unfolding bytes_of
-bytes_split zero k v h = let e : v < 256 ^ k = rw zero-add at h in rw zero-add (ap (bytes_of k) (sym (mod-eq_of_lt e)))
-bytes_split (suc j) k v h =
-    let a = 256 ^ j in
-    let b = 256 ^ k in
-    let e : 256 ^ (j + k) ≡ a * b = pow-add 256 j k in
-    let first : v / 256 ^ (j + k) ≡ v / b / a =
-    ap (λ (i : ℕ). v / 256 ^ i) (add_comm j k) ∙ ap (λ (i : ℕ). v / i) (pow-add 256 k j) ∙ sym (div-div-eq-div-mul v b a) in
-    let hi : v % 256 ^ (j + k) / b ≡ v / b % a = ap (λ (i : ℕ). v % i / b) e ∙ high v a b (positive j) (positive k) in
-    let lo : v % 256 ^ (j + k) % b ≡ v % b = ap (λ (i : ℕ). v % i % b) e ∙ low v a b (positive j) (positive k) in
-    ap (λ (i : ℕ). bytes_of i v) (suc-add j k) ∙ ap₂ (λ (x : ℕ) (l : List ℕ). x ∷ l) first (bytes_split j k (v % 256 ^ (j + k)) (mod-lt v (positive (j + k))) ∙ ap₂ (λ (x : ℕ) (y : ℕ). bytes_of j x ++ bytes_of k y) hi lo)
+power : (k : ℕ) → 256 ^ suc k ≡ 256 * 256 ^ k
+power k = let e : suc k ≡ 1 + k = omega arith in ap (λ (i : ℕ). 256 ^ i) e ∙ pow-add 256 1 k
 
-pub turned_eight_bytes : (v hi lo : ℕ) → v < 256 ^ 8 → least_first hi ≡ bytes_of 4 (v / 256 ^ 4) → hi < 256 ^ 4 → least_first lo ≡ bytes_of 4 (v % 256 ^ 4) → least_first ((lo * 0x100000000 + hi) % 256 ^ 4) ++ least_first ((lo * 0x100000000 + hi) / 256 ^ 4) ≡ bytes_of 8 v
-turned_eight_bytes v hi lo h e small f =
-    let w = lo * 0x100000000 + hi in
-    let a : w % 256 ^ 4 ≡ hi = omega arith in
-    let b : w / 256 ^ 4 ≡ lo = omega arith in
-    ap₂ (λ (x : ℕ) (y : ℕ). least_first x ++ least_first y) a b ∙ ap₂ ◌++◌ e f ∙ sym (bytes_split 4 4 v h)
+byte_is : (k v : ℕ) → byte_at k v ≡ v % 256 ^ suc k / 256 ^ k
+byte_is zero v = omega arith
+byte_is (suc k) v = sym (ap (λ (i : ℕ). v % i / 256 ^ suc k) (power (suc k)) ∙ high v 256 (256 ^ suc k) (omega arith) (positive (suc k)))
+
+high_first : (k v : ℕ) → bytes_high_first k v ≡ bytes_of k (v % 256 ^ k)
+unfolding bytes_of
+high_first zero v = refl
+high_first (suc k) v =
+    let rest : v % 256 ^ suc k % 256 ^ k ≡ v % 256 ^ k = ap (λ (i : ℕ). v % i % 256 ^ k) (power k) ∙ low v 256 (256 ^ k) (omega arith) (positive k) in
+    ap₂ (λ (x : ℕ) (l : List ℕ). x ∷ l) (byte_is k v) (high_first k v ∙ ap (bytes_of k) (sym rest))
+
+-- the bytes that std writes are the definition's
+pub bytes_are : (k v : ℕ) → v < 256 ^ k → bytes_high_first k v ≡ bytes_of k v
+bytes_are k v h = high_first k v ∙ ap (bytes_of k) (mod-eq_of_lt h)
+
+-- turned in a register, and written from the least on
+low_byte : (k v : ℕ) → byte_at k v < 256
+low_byte zero v = omega arith
+low_byte (suc k) v = omega arith
+
+low_bytes : (j k v i : ℕ) → get_or (bytes_low_first j k v) i 0 < 256
+low_bytes j zero v i = omega arith
+low_bytes j (suc k) v zero = low_byte j v
+low_bytes j (suc k) v (suc i) = low_bytes (suc j) k v i
+
+pub turned_four : (v w : ℕ) → w ≡ swap_bytes w32 v → to_le_bytes w32 w ≡ bytes_high_first 4 v
+turned_four v w e = let f : to_be_bytes w32 w ≡ to_le_bytes w32 v = be_bytes_4 (to_le_bytes w32 v) w refl (low_bytes 0 4 v) e in cc
+
+pub turned_eight : (v w : ℕ) → w ≡ swap_bytes w64 v → to_le_bytes w64 w ≡ bytes_high_first 8 v
+turned_eight v w e = let f : to_be_bytes w64 w ≡ to_le_bytes w64 v = be_bytes_8 (to_le_bytes w64 v) w refl (low_bytes 0 8 v) e in cc

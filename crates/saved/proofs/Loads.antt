@@ -2,16 +2,15 @@
 use mathlib.Core.Path.{◌≡◌, refl, sym, ap, ◌∙◌}
 use Prim.Native.Nat.{ℕ, ◌+◌, ◌*◌, ◌≤◌}
 use native.Mathlib.Omega.{arith}
-use mathlib.Core.Bool.{true, true≢false}
 use mathlib.Core.List.{List, ◌++◌, map, append_assoc}
 use lib.ListN.{length, take, drop, length-map}
 use lib.Seq.{take_at, drop_at, drop-drop}
 use lib.Ieee.{Float}
-use Rattle.definition.specs.Saved.{float, widths, numbers_in, bad_saved, loaded_past, loaded_mean}
+use Rattle.definition.specs.Saved.{float, widths, numbers_in, loaded_past, loaded_mean}
 use Rattle.laws.specs.SavedBack.{loaded}
-use Rattle.saved.specs.declared.Tallies.{Tallies}
+use Rattle.carried.specs.declared.Tallies.{Tallies}
 use Rattle.saved.specs.Places.{numbers_at, put_at, Starts}
-use Rattle.saved.specs.Loaded.{carried_of, Parts, LoadedState, LoadedTallies, Loaded}
+use Rattle.saved.specs.Loaded.{carried_of, Parts, LoadedState, LoadedTallies}
 use Rattle.saved.proofs.Put.{Put, put_first, put_next, put_all}
 use Rattle.saved.proofs.Rows as rows
 
@@ -70,10 +69,6 @@ module _ {m star pinf root unres loglik tallies end : ℕ} (s : Starts m star pi
       let u5 : Put 0 (m + q + q + q + q) (a ++ b ++ c ++ d ++ e) s0 s5 = put_next e (m + q + q + q + q) (m + q + q + q) u4 (omega arith) (omega arith) e5 (ap (λ (i : ℕ). m + q + q + q + i) le) in
       let w = put_all (a ++ b ++ c ++ d ++ e) u5 refl in
       rw (rows.mean_row m bs, rows.star_row s bs, rows.pinf_row s bs, rows.root_row s bs, rows.unres_row s bs) (parts m q a b c d e _ la lb lc ld le s5 w)
-
--- refused before a float is loaded
-pub none_loaded : {p m r n : ℕ} {bs : List ℕ} {s : List Float} → true ≡ bad_saved p m r n bs → Loaded p m r n bs s true
-none_loaded e = record { refused = e; state = λ f. absurd (true≢false f) }
 
 -- with the tallies, what is carried
 pub carried_loaded : (m : ℕ) (bs : List ℕ) (s : List Float) (t : Tallies) → LoadedState m bs s → LoadedTallies (numbers_in (widths m) bs) t → carried_of m s t ≡ loaded m bs

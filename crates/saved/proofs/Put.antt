@@ -1,19 +1,20 @@
 -- Lists put one after the other are put as one.
 use mathlib.Core.Path.{◌≡◌, refl, sym, ap, ap₂, ◌∙◌}
-use Prim.Native.Nat.{ℕ, zero, suc, ◌+◌, ◌*◌, ◌/◌, ◌%◌, ◌^◌, ◌≤◌, ◌<◌}
+use Prim.Native.Nat.{ℕ, ◌+◌, ◌-◌, ◌*◌, ◌^◌, ◌≤◌, ◌<◌}
 use native.Mathlib.Nat.{zero-add}
 use native.Mathlib.Omega.{arith}
 use native.Mathlib.Numerals.{add-one}
 use mathlib.Core.List.{List, [], ◌∷◌, ◌++◌, map, append_assoc, append-nil}
-use lib.ListN.{length, get_or, take, drop, set, length-append, length-map, length-drop}
-use lib.Seq.{take_at, drop_at, drop-drop, take_all, take-suc, get_or-drop, length-take-le, paste, paste-zero, paste-suc}
-use lib.Ieee.{Float, nan}
+use lib.ListN.{length, get_or, take, drop, set, length-append}
+use lib.Seq.{take_at, drop_at, drop-drop, take_all, take-suc, length-take-le, paste, paste-zero, paste-suc}
+use borrow.Rule.Slice.PartMut.{put_mid, Post-is}
+use Rattle.std.specs.Int.{bytes_high_first}
 use Rattle.definition.specs.Run.{join, lay}
-use Rattle.definition.specs.Saved.{bytes_of, bits, section}
+use Rattle.definition.specs.Saved.{bytes_of, section}
 use Rattle.laws.specs.Bytes.{bytes_length}
 use Rattle.laws.specs.Passes.{map-append, join-append}
-use Rattle.laws.specs.ReadBack.{get_d_map_in}
-use Rattle.saved.specs.Places.{least_first, put_at}
+use Rattle.saved.specs.Places.{put_at}
+use Rattle.saved.proofs.Digits.{bytes_are}
 
 -- w, of k places, put at a place
 pub record Put {A : Type 0} (at k : ℕ) (w old new : List A) : Type 0 where
@@ -80,36 +81,17 @@ numbers_more at i l old out new k u h room e q =
 pub numbers_all : (at i : ℕ) (l old out : List ℕ) → length l ≤ i → Put at (i * 8) (written (take i l)) old out → out ≡ put_at at (written l) old
 numbers_all at i l old out e u = put_is (written l) u (ap written (take_all i l e))
 
--- floats go by their bits
-take-bits : (k : ℕ) (l : List Float) → take k (map bits l) ≡ map bits (take k l)
-take-bits zero l = refl
-take-bits (suc k) [] = refl
-take-bits (suc k) (v ∷ l) = ap (λ (z : List ℕ). bits v ∷ z) (take-bits k l)
-
-pub float_at : (x : List Float) (from i : ℕ) → from + i < length x → bits (get_or x (from + i) nan) ≡ get_or (map bits (drop from x)) i 0
-float_at x from i h = ap bits (sym (get_or-drop from x i nan)) ∙ sym (get_d_map_in bits (drop from x) i nan 0 (simp length-drop (omega arith)))
-
-pub floats_all : (at from i k : ℕ) (x : List Float) (old out : List ℕ) → i ≡ k → Put at (i * 8) (written (take i (map bits (drop from x)))) old out → out ≡ put_at at (written (map bits (take k (drop from x)))) old
-floats_all at from i k x old out e u = put_is (written (map bits (take k (drop from x)))) u (ap (λ (j : ℕ). written (take j (map bits (drop from x)))) e ∙ ap written (take-bits k (drop from x)))
-
 -- ---- what each function puts
 
-pub eight_put : (at v w : ℕ) (old mid new : List ℕ) → at + 8 ≤ length old → least_first (w % 256 ^ 4) ++ least_first (w / 256 ^ 4) ≡ bytes_of 8 v → mid ≡ put_at at (least_first (w % 256 ^ 4)) old → new ≡ put_at (at + 4) (least_first (w / 256 ^ 4)) mid → new ≡ put_at at (bytes_of 8 v) old
-eight_put at v w old mid new room h e q =
-    put_is (bytes_of 8 v) (put_next (least_first (w / 256 ^ 4)) 8 (at + 4) (put_first at (least_first (w % 256 ^ 4)) old 4 refl e) (omega arith) refl q refl) h
+-- the bytes of a number, copied over k places
+pub bytes_put : (at k e v : ℕ) (old bytes new : List ℕ) → v < 256 ^ k → e ≡ at + k → bytes ≡ bytes_high_first k v → new ≡ bytes → put_mid at (e - at) old new ≡ put_at at (bytes_of k v) old
+bytes_put at k e v old bytes new h f g q =
+    let end : e ≡ at + length (bytes_of k v) = f ∙ ap (λ (i : ℕ). at + i) (sym (bytes_length k v)) in
+    let rest = Post-is at e old (omega arith) ∙ ap (λ (i : ℕ). drop i old) end in
+    sym (append_assoc (take at old) new _) ∙ ap₂ (λ (x : List ℕ) (y : List ℕ). (take at old ++ x) ++ y) (q ∙ g ∙ bytes_are k v h) rest
 
 -- a count, and the numbers after it
 pub counted_put : (at k : ℕ) (l old mid new : List ℕ) → length l ≡ k → at + (4 + k * 8) ≤ length old → mid ≡ put_at at (bytes_of 4 k) old → new ≡ put_at (at + 4) (written l) mid → new ≡ put_at at (section l) old
 unfolding section
 counted_put at k l old mid new n room e q =
     put_is (section l) (put_next (written l) (4 + length (written l)) (at + 4) (put_first at (bytes_of 4 k) old 4 (bytes_length 4 k) e) (omega arith) refl q refl) (ap (λ (i : ℕ). bytes_of 4 i ++ written l) (sym n))
-
-pub section_put : (at from k : ℕ) (x : List Float) (old mid new : List ℕ) → at + (4 + k * 8) ≤ length old → from + k ≤ length x → mid ≡ put_at at (bytes_of 4 k) old → new ≡ put_at (at + 4) (written (map bits (take k (drop from x)))) mid → new ≡ put_at at (section (map bits (take k (drop from x)))) old
-section_put at from k x old mid new room h e q =
-    let l = take k (drop from x) in
-    counted_put at k (map bits l) old mid new (length-map l bits ∙ length-take-le k (drop from x) (simp length-drop (omega arith))) room e q
-
-pub single_put : (at : ℕ) (v : Float) (k : ℕ) (old mid new : List ℕ) → at + 12 ≤ length old → mid ≡ put_at at (bytes_of 4 1) old → k ≡ bits v → new ≡ put_at (at + 4) (bytes_of 8 k) mid → new ≡ put_at at (section (bits v ∷ [])) old
-unfolding section join
-single_put at v k old mid new room e f q =
-    put_is (section (bits v ∷ [])) (put_next (bytes_of 8 k) 12 (at + 4) (put_first at (bytes_of 4 1) old 4 (bytes_length 4 1) e) (omega arith) refl q (ap (λ (i : ℕ). 4 + i) (bytes_length 8 k))) (ap (λ (i : ℕ). bytes_of 4 1 ++ bytes_of 8 i) f ∙ ap (λ (l : List ℕ). bytes_of 4 1 ++ l) (sym (append-nil (bytes_of 8 (bits v)))))

@@ -1,6 +1,6 @@
 -- What is saved, section after section, is all of it.
 use mathlib.Core.Path.{◌≡◌, refl, ap, ◌∙◌}
-use Prim.Native.Nat.{ℕ, ◌+◌, ◌*◌, ◌≤◌}
+use Prim.Native.Nat.{ℕ, ◌+◌, ◌-◌, ◌*◌, ◌≤◌}
 use native.Mathlib.Omega.{arith}
 use mathlib.Core.Bool.{Bool, true, false, cond}
 use mathlib.Core.List.{List, [], ◌∷◌, ◌++◌, map, append_assoc, append-nil}
@@ -11,7 +11,7 @@ use mir.Val.{bool_byte}
 use Rattle.definition.specs.Run.{join, lay}
 use Rattle.definition.specs.Saved.{bits, section, sections, saved_of}
 use Rattle.laws.specs.Bytes.{section-length}
-use Rattle.saved.specs.declared.Tallies.{Tallies}
+use Rattle.carried.specs.declared.Tallies.{Tallies}
 use Rattle.saved.specs.Places.{put_at, whole, Starts}
 use Rattle.saved.specs.Loaded.{carried_of}
 use Rattle.saved.proofs.Put.{Put, put_first, put_next, put_all}
@@ -23,6 +23,10 @@ float_section from k x = section (map bits (take k (drop from x)))
 float_section_lem : (from k : ℕ) (x : List Float) → from + k ≤ length x → length (float_section from k x) ≡ 4 + k * 8
 float_section_lem from k x h =
     section-length (map bits (take k (drop from x))) ∙ ap (λ (i : ℕ). 4 + i * 8) (length-map (take k (drop from x)) bits ∙ length-take-le k (drop from x) (simp length-drop (omega arith)))
+
+-- the numbers of x up to a place
+pub cut : (from to k at : ℕ) (x : List Float) (old : List ℕ) {new : List ℕ} → to - from ≡ k → new ≡ put_at at (float_section from (to - from) x) old → new ≡ put_at at (float_section from k x) old
+cut from to k at x old e h = h ∙ ap (λ (i : ℕ). put_at at (float_section from i x) old) e
 
 -- a bool as a number
 pub bit_is : (b : Bool) → bool_byte b ≡ cond b 1 0

@@ -1,8 +1,8 @@
 -- What is carried, as it is lent: a state's numbers in the file's order, and tallies.
-use Rattle.std.specs.Prelude.{◌≡◌, ℕ, ◌+◌, ◌*◌, Bool, false, List, map, take, drop, eqb, Float}
+use Rattle.std.specs.Prelude.{◌≡◌, ℕ, ◌+◌, ◌*◌, List, map, take, drop, eqb, Float}
 use Rattle.definition.specs.Carried.{Past, Carried}
-use Rattle.definition.specs.Saved.{float, widths, numbers_in, section_at, number_at, done_in, diffuse_in, heard_in, news_in, state_in, cov_off_in, mean_off_in, bad_saved}
-use Rattle.saved.specs.declared.Tallies.{Tallies}
+use Rattle.definition.specs.Saved.{float, widths, numbers_in, section_at, number_at, done_in, diffuse_in, heard_in, news_in, state_in, cov_off_in, mean_off_in}
+use Rattle.carried.specs.declared.Tallies.{Tallies}
 
 abbrev pub past_of : ℕ → List Float → Tallies → Past
 past_of m s t =
@@ -46,8 +46,3 @@ pub record LoadedTallies (ns : List (List ℕ)) (t : Tallies) : Type 0 where
   pub news : t.answer.news ≡ news_in ns
   pub cov_off : t.answer.cov_off ≡ cov_off_in ns
   pub mean_off : t.answer.mean_off ≡ mean_off_in ns
-
--- the bytes bs are bad, or their floats are the state's
-pub record Loaded (p m r n : ℕ) (bs : List ℕ) (s : List Float) (bad : Bool) : Type 0 where
-  pub refused : bad ≡ bad_saved p m r n bs
-  pub state : bad ≡ false → LoadedState m bs s

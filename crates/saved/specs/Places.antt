@@ -1,5 +1,5 @@
--- Bytes by their places: a number read at one, numbers in a row, a number's bytes, a list put at one; where each section of a saved run begins.
-use Rattle.std.specs.Prelude.{◌≡◌, ℕ, ◌+◌, ◌*◌, ◌/◌, ◌%◌, ◌≤◌, List, [], ◌∷◌, ◌++◌, map, length, take, drop}
+-- Bytes by their places: a number read at one, numbers in a row, a list put at one; where each section of a saved run begins.
+use Rattle.std.specs.Prelude.{◌≡◌, ℕ, ◌+◌, ◌*◌, ◌≤◌, List, ◌++◌, map, length, take, drop, Float}
 use Rattle.definition.specs.Run.{chunks}
 use Rattle.definition.specs.Saved.{from_bytes}
 
@@ -11,10 +11,6 @@ bytes_at k at bs = from_bytes (take k (drop at bs))
 abbrev pub numbers_at : ℕ → ℕ → List ℕ → List ℕ
 numbers_at w at bs = map from_bytes (chunks w 8 (drop at bs))
 
--- the four low bytes of a number, the least first
-abbrev pub least_first : ℕ → List ℕ
-least_first w = w % 256 ∷ w / 0x100 % 256 ∷ w / 0x10000 % 256 ∷ w / 0x1000000 % 256 ∷ []
-
 -- w in place of what stood from a place on
 abbrev pub put_at : {A : Type 0} → ℕ → List A → List A → List A
 put_at at w old = take at old ++ w ++ drop (at + length w) old
@@ -22,6 +18,14 @@ put_at at w old = take at old ++ w ++ drop (at + length w) old
 -- what all take, for m states
 abbrev pub whole : ℕ → ℕ
 whole m = 120 + m * 8 + m * m * 32
+
+-- the bytes of a run of m states
+abbrev pub WholeRun : ℕ → List ℕ → Type 0
+WholeRun m bs = length bs ≡ whole m
+
+-- room for a state: the mean, P*, P∞, its root, the unresolved matrix
+abbrev pub Room : ℕ → List Float → Type 0
+Room m s = m + m * m + m * m + m * m + m * m ≤ length s
 
 -- for m of at most 8 states: where each section after the mean's begins, and where the last one ends
 pub record Starts (m star pinf root unres loglik tallies end : ℕ) : Type 0 where

@@ -3,10 +3,9 @@
 
 mod numbers;
 
-ghost use Rattle.std.specs.Prelude.{◌≡◌, not, ◌∷◌, [], map, ◌+◌, ◌*◌, ◌≤◌, length, take, drop, eqb};
-ghost use Rattle.definition.specs.Run.{any_of, join, lay};
+ghost use Rattle.std.specs.Prelude.{◌≡◌, ℕ, not, ◌∷◌, [], map, ◌+◌, ◌*◌, ◌≤◌, length, eqb};
+ghost use Rattle.definition.specs.Run.{any_of, lay};
 ghost use Rattle.definition.specs.Saved.{
-  bytes_of,
   bits,
   float,
   section,
@@ -19,23 +18,19 @@ ghost use Rattle.definition.specs.Saved.{
   bad_sizes,
   bad_tallies,
   bad_floats,
+  bad_saved,
 };
-ghost use Rattle.saved.specs.Places.{bytes_at, numbers_at, put_at, whole, Starts};
-ghost use Rattle.saved.specs.Loaded.{carried_of, LoadedState, LoadedTallies, Loaded};
+ghost use Rattle.definition.specs.Refusals.{first_of};
+ghost use Rattle.promise.specs.Calls.{refusal_of};
+ghost use Rattle.saved.specs.Places.{bytes_at, numbers_at, put_at, whole, WholeRun, Room, Starts};
+ghost use Rattle.saved.specs.Loaded.{carried_of, LoadedState, LoadedTallies};
 
+use carried::Tallies;
 use numbers::{eight, four, put_eight, put_four};
-use promise::Answer;
-
-// How far a run has come: the periods done, whether the diffuse state lasts, and the answer so far.
-#[derive(Drop)]
-pub struct Tallies {
-    pub done: usize,
-    pub live: bool,
-    pub answer: Answer,
-}
+use promise::{Answer, Refusal};
 
 // Where the sections after the mean's begin, and the length of all.
-#[derive(Drop)]
+#[derive(Clone, Copy)]
 struct Places {
     star: usize,
     p_inf: usize,
@@ -46,6 +41,7 @@ struct Places {
     end: usize,
 }
 
+#[tactic(auto, using(laws::specs::Sizes::square_le))]
 fn places_of(m: usize) -> Places
     requires { m ≤ 8 }
     ensures { Starts m result.star result.p_inf result.root result.unres result.loglik result.tallies result.end }
@@ -74,11 +70,11 @@ fn miscounted(saved: &[u8], at: usize, w: usize) -> bool
     requires { at + 4 ≤ length saved.now }
     ensures { result ≡ not (eqb (bytes_at 4 at saved.now) w) }
 {
-    four(saved, at) != w as u64
+    four(saved, at) as usize != w
 }
 
 fn wrong_count(saved: &[u8], m: usize) -> bool
-    requires { (m ≤ 8) × (length saved.now ≡ whole m) }
+    requires { (m ≤ 8) × WholeRun m saved.now }
     ensures { result ≡ wrong_count (widths m) saved.now }
 {
     let at = places_of(m);
@@ -95,7 +91,7 @@ fn wrong_count(saved: &[u8], m: usize) -> bool
 
 // p, m or r is another, or done plus n is above 4096.
 fn bad_sizes(saved: &[u8], p: usize, m: usize, r: usize, n: usize) -> bool
-    requires { (m ≤ 8) × (length saved.now ≡ whole m) }
+    requires { (m ≤ 8) × WholeRun m saved.now }
     ensures { result ≡ bad_sizes p m r n (numbers_in (widths m) saved.now) }
 {
     let done = eight(saved, 28);
@@ -110,7 +106,7 @@ fn bad_sizes(saved: &[u8], p: usize, m: usize, r: usize, n: usize) -> bool
 
 // A tally is out of its range.
 fn bad_tallies(saved: &[u8], p: usize, m: usize) -> bool
-    requires { (p ≤ 8) × (m ≤ 8) × (length saved.now ≡ whole m) × (bytes_at 8 28 saved.now ≤ 4096) }
+    requires { (p ≤ 8) × (m ≤ 8) × WholeRun m saved.now × (bytes_at 8 28 saved.now ≤ 4096) }
     ensures { result ≡ bad_tallies p (numbers_in (widths m) saved.now) }
 {
     let at = places_of(m).tallies;
@@ -133,7 +129,7 @@ fn other_nan(k: u64) -> bool
 
 // ---- loading
 
-// The k numbers from a place on, as floats, into the state from a place on; whether other NaNs' bits are among them.
+// The k numbers from a place on, as floats, into the state from a place on; whether other NaNs' bits are among them. The index tells both places.
 fn load_floats(saved: &[u8], at: usize, k: usize, state: &mut [f64], to: usize) -> bool
     requires { (at + k * 8 ≤ length saved.now) × (to + k ≤ length state.old) }
     ensures { (result ≡ any_of other_nan (numbers_at k at saved.now))
@@ -150,7 +146,7 @@ fn load_floats(saved: &[u8], at: usize, k: usize, state: &mut [f64], to: usize) 
 
 // The state's sections; whether other NaNs' bits are among the floats, the log-likelihood's too.
 fn load_state(saved: &[u8], m: usize, state: &mut [f64]) -> bool
-    requires { (m ≤ 8) × (length saved.now ≡ whole m) × (m + m * m + m * m + m * m + m * m ≤ length state.old) }
+    requires { (m ≤ 8) × WholeRun m saved.now × Room m state.old }
     ensures { (result ≡ bad_floats (numbers_in (widths m) saved.now))
         × LoadedState m saved.now state.new }
 {
@@ -165,27 +161,36 @@ fn load_state(saved: &[u8], m: usize, state: &mut [f64]) -> bool
     mean | star | p_inf | root | unres | loglik
 }
 
-// Whether the bytes are refused for a model of these sizes and a stretch of n periods. They are gone through once: where
-// they are not refused, the state holds what was saved, the mean, P*, P∞, its root, the unresolved matrix.
-pub fn load(saved: &[u8], p: usize, m: usize, r: usize, n: usize, state: &mut [f64]) -> bool
-    requires { (p ≤ 8) × (m ≤ 8) × (m + m * m + m * m + m * m + m * m ≤ length state.old) }
-    ensures { Loaded p m r n saved.now state.new result }
+// Refused where the bytes are none of a run of these sizes that may go on by n periods. They are gone through once: where they are not refused, the state
+// holds what was saved, the mean, P*, P∞, its root, the unresolved matrix.
+pub fn load(
+    saved: &[u8],
+    p: usize,
+    m: usize,
+    r: usize,
+    n: usize,
+    state: &mut [f64],
+) -> Result<(), Refusal>
+    requires { (p ≤ 8) × (m ≤ 8) × Room m state.old }
+    ensures number { refusal_of result ≡ first_of ((15, bad_saved p m r n saved.now) ∷ []) }
+    ensures state { refusal_of result ≡ 0 → LoadedState m saved.now state.new }
 {
-    let long = saved.len();
-    let end = places_of(m).end;
-    if long != end {
-        return true;
+    if saved.len() != places_of(m).end {
+        return Err(Refusal::BadSaved);
     }
     if bad_sizes(saved, p, m, r, n) {
-        return true;
+        return Err(Refusal::BadSaved);
     }
     let floats = load_state(saved, m, state);
-    wrong_count(saved, m) | bad_tallies(saved, p, m) | floats
+    if wrong_count(saved, m) | bad_tallies(saved, p, m) | floats {
+        return Err(Refusal::BadSaved);
+    }
+    Ok(())
 }
 
 // How many periods the saved run had done.
 pub fn done(saved: &[u8], m: usize) -> usize
-    requires { (m ≤ 8) × (length saved.now ≡ whole m) }
+    requires { (m ≤ 8) × WholeRun m saved.now }
     ensures { result ≡ done_in (numbers_in (widths m) saved.now) }
 {
     eight(saved, 28) as usize
@@ -193,7 +198,7 @@ pub fn done(saved: &[u8], m: usize) -> usize
 
 // How far it had come.
 pub fn load_tallies(saved: &[u8], m: usize) -> Tallies
-    requires { (m ≤ 8) × (length saved.now ≡ whole m) }
+    requires { (m ≤ 8) × WholeRun m saved.now }
     ensures { LoadedTallies (numbers_in (widths m) saved.now) result }
 {
     let places = places_of(m);
@@ -215,68 +220,54 @@ pub fn load_tallies(saved: &[u8], m: usize) -> Tallies
 
 // ---- saving
 
-// The k floats of x from a place on, as numbers.
-fn put_floats(out: &mut [u8], at: usize, x: &[f64], from: usize, k: usize)
-    requires { (at + k * 8 ≤ length out.old) × (from + k ≤ length x.now) }
-    ensures { out.new ≡ put_at at (join (map (bytes_of 8) (map bits (take k (drop from x.now))))) out.old }
+// x as a section: its count, then each entry by its number. The index tells the place in `out` too.
+fn put_section<T: Copy, F: Fn(T) -> u64>(out: &mut [u8], at: usize, x: &[T], number: F)
+    requires callable { F.IsAlwaysCallable number }
+    requires few { length x.now ≤ 64 }
+    requires room { at + (4 + length x.now * 8) ≤ length out.old }
+    ensures { (q : T → ℕ) → ((v : T) (k : ℕ) → F.post number v k → k ≡ q v) → out.new ≡ put_at at (section (map q x.now)) out.old }
 {
-    for i in 0..k {
-        put_eight(out, at + i * 8, bits::pattern(x[from + i]));
+    put_four(out, at, x.len() as u32);
+    for (i, &v) in x.iter().enumerate() {
+        put_eight(out, at + 4 + i * 8, number(v));
     }
 }
 
-// As a section.
-fn put_section(out: &mut [u8], at: usize, x: &[f64], from: usize, k: usize)
-    requires { (k ≤ 64) × (at + (4 + k * 8) ≤ length out.old) × (from + k ≤ length x.now) }
-    ensures { out.new ≡ put_at at (section (map bits (take k (drop from x.now)))) out.old }
+// Floats as one.
+fn put_floats(out: &mut [u8], at: usize, x: &[f64])
+    requires { (length x.now ≤ 64) × (at + (4 + length x.now * 8) ≤ length out.old) }
+    ensures { out.new ≡ put_at at (section (map bits x.now)) out.old }
 {
-    put_four(out, at, k as u64);
-    put_floats(out, at + 4, x, from, k);
+    put_section(out, at, x, |v| bits::pattern(v));
 }
 
-// One float as a section.
-fn put_single(out: &mut [u8], at: usize, v: f64)
-    requires { at + 12 ≤ length out.old }
-    ensures { out.new ≡ put_at at (section (bits v ∷ [])) out.old }
-{
-    put_four(out, at, 1);
-    put_eight(out, at + 4, bits::pattern(v));
-}
-
-// The numbers of x from a place on.
-fn put_eights(out: &mut [u8], at: usize, x: &[usize])
-    requires { at + length x.now * 8 ≤ length out.old }
-    ensures { out.new ≡ put_at at (join (map (bytes_of 8) x.now)) out.old }
-{
-    for i in 0..x.len() {
-        put_eight(out, at + i * 8, x[i] as u64);
-    }
-}
-
-// As a section.
+// And whole numbers.
 fn put_numbers(out: &mut [u8], at: usize, x: &[usize])
     requires { (length x.now ≤ 64) × (at + (4 + length x.now * 8) ≤ length out.old) }
     ensures { out.new ≡ put_at at (section x.now) out.old }
 {
-    put_four(out, at, x.len() as u64);
-    put_eights(out, at + 4, x);
+    put_section(out, at, x, |k| k as u64);
 }
 
 // A run is saved: the state as `load` leaves it, and how far the run has come.
 pub fn save(out: &mut [u8], p: usize, m: usize, r: usize, state: &[f64], t: Tallies)
-    requires { (m ≤ 8) × (whole m ≤ length out.old) × (m + m * m + m * m + m * m + m * m ≤ length state.now) }
+    requires { (m ≤ 8) × (whole m ≤ length out.old) × Room m state.now }
     ensures { out.new ≡ lay (saved_of p m r (carried_of m state.now t)) out.old }
 {
     let at = places_of(m);
     let mm = m * m;
     let answer = t.answer;
     put_numbers(out, 0, &[p, m, r, t.done]);
-    put_section(out, 36, state, 0, m);
-    put_section(out, at.star, state, m, mm);
-    put_section(out, at.p_inf, state, m + mm, mm);
-    put_section(out, at.root, state, m + mm + mm, mm);
-    put_section(out, at.unres, state, m + mm + mm + mm, mm);
-    put_single(out, at.loglik, answer.loglik);
+    put_floats(out, 36, &state[..m]);
+    put_floats(out, at.star, &state[m..m + mm]);
+    put_floats(out, at.p_inf, &state[m + mm..m + mm + mm]);
+    put_floats(out, at.root, &state[m + mm + mm..m + mm + mm + mm]);
+    put_floats(
+        out,
+        at.unres,
+        &state[m + mm + mm + mm..m + mm + mm + mm + mm],
+    );
+    put_floats(out, at.loglik, &[answer.loglik]);
     put_numbers(
         out,
         at.tallies,

@@ -1,10 +1,10 @@
 -- The lines with a newline between each two are the text.
 use Rattle.std.specs.Prelude.{◌≡◌, ℕ, Bool, true, false, cond, List, [], ◌∷◌, ◌==◌, refl}
 use Rattle.std.proofs.Common.{sym, ap, ◌∙◌, eqb-true}
-use Rattle.sheet.specs.Lines.{is_end, onto, lines_of, after_lines, joined, after_some, lines_some, joined-onto}
+use Rattle.sheet.specs.Lines.{onto, lines_of, after_lines, joined, after_some, lines_some, joined-onto}
 
 pub split : (s : List ℕ) → joined (lines_of s) ≡ s
-unfolding lines_of joined after_lines is_end
+unfolding lines_of joined after_lines
 split [] = refl
 split (b ∷ bs) = go (split bs) (b == 10) refl
   where

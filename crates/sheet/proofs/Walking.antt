@@ -1,14 +1,16 @@
 -- Laws of the walk over the lines: a line cut off, its readings stored, and what is known between two lines. Assumes nothing.
-use Rattle.std.proofs.Common.{◌≡◌, ℕ, suc, ◌+◌, ◌-◌, ◌*◌, ◌<◌, ◌≤◌, Bool, true, false, cond, ltb, List, [], ◌∷◌, ◌++◌, length, take, drop, set, sym, refl, ap, ◌∙◌, subst, append_assoc, append-nil, not-suc-le-zero, add-zero, add-one, arith, length-drop, length-set, take-append-drop, length-take-le, drop-drop, take-suc-set, drop-set-lt, ltb-false, ltb-true, le-ltb, lt-ltb}
+use Rattle.std.specs.Prelude.{Ok, Err, None}
+use Rattle.std.proofs.Common.{◌≡◌, ℕ, suc, ◌+◌, ◌-◌, ◌*◌, ◌<◌, ◌≤◌, Bool, true, false, cond, ltb, List, [], ◌∷◌, ◌++◌, length, take, drop, set, sym, refl, ap, ◌∙◌, subst, append_assoc, append-nil, not-suc-le-zero, add-zero, add-one, arith, length-drop, length-set, take-append-drop, take_all, length-take-le, drop-drop, take-suc-set, drop-set-lt, ltb-false, ltb-true}
 use lib.Ieee.{Float}
-use Rattle.sheet.specs.declared.answers.Settings.{Settings}
 use Rattle.sheet.specs.declared.parts.Tokens.{Tokens}
 use Rattle.sheet.specs.declared.parts.Fault.{Fault}
+use Rattle.sheet.specs.declared.parts.Given.{Given}
+use Rattle.sheet.specs.Kinds.{has_checks}
 use Rattle.sheet.specs.Lines.{is_end, run_to, onto, lines_of}
 use Rattle.sheet.specs.Effects.{fresh, settled, reading_of, line_readings, Laid}
-use Rattle.sheet.specs.Faults.{fault_of}
+use Rattle.sheet.specs.Faults.{Found, right, fault_of}
 use Rattle.sheet.specs.Good.{few_periods, counted_few, counted-length}
-use Rattle.sheet.specs.Sheets.{line_tokens, line_fault, counted, wrong_line, end_of, sheet_from, readings_from, sheet_of, readings_of}
+use Rattle.sheet.specs.Sheets.{line_tokens, line_fault, counted, wrong_line, unless_wrong, end_of, sheet_from, readings_from, sheet_of, readings_of}
 
 -- ---- the first line of what is left
 pub lines_more : (s : List ℕ) → run_to true s < length s → lines_of s ≡ take (run_to true s) s ∷ lines_of (drop (suc (run_to true s)) s)
@@ -49,17 +51,17 @@ laid_two a y u v h =
       long = length-set (set y a u) (a + 1) v ∙ l;
     }
 
-pub store_none : (table : Bool) (t : Tokens) (p : ℕ) (y : List Float) → t.first.kind < 10 → (p ≡ counted p t) × Laid (2 * p) (line_readings table t) y y
+pub store_none : (table : Bool) (t : Tokens) (p : ℕ) (y : List Float) → has_checks t.first ≡ false → (p ≡ counted p t) × Laid (2 * p) (line_readings table t) y y
 unfolding counted line_readings
-store_none table t p y h = (simp (lt-ltb _ _ h), simp (lt-ltb _ _ h) (laid_none (2 * p) y))
+store_none table t p y h = (simp h, simp h (laid_none (2 * p) y))
 
-pub store_two : (table : Bool) (t : Tokens) (p : ℕ) (y : List Float) (u v : Float) → 10 ≤ t.first.kind → 2 * p + 1 < length y → u ≡ reading_of table t.first → v ≡ reading_of table t.second
+pub store_two : (table : Bool) (t : Tokens) (p : ℕ) (y : List Float) (u v : Float) → has_checks t.first ≡ true → 2 * p + 1 < length y → u ≡ reading_of table t.first → v ≡ reading_of table t.second
     → (p + 1 ≡ counted p t) × Laid (2 * p) (line_readings table t) y (set (set y (2 * p) u) (2 * p + 1) v)
 unfolding counted line_readings
-store_two table t p y u v h k e f = (simp (le-ltb _ _ h), simp (le-ltb _ _ h, ← e, ← f) (laid_two (2 * p) y u v k))
+store_two table t p y u v h k e f = (simp h, simp (h, ← e, ← f) (laid_two (2 * p) y u v k))
 
 -- ---- what is known between two lines: the lines that are left give the answer, and their readings stand after those that are stored
-pub record Going (table : Bool) (text : List ℕ) (old : List Float) (ls : List (List ℕ)) (s : Settings) (p n at : ℕ) (y : List Float) : Type 0 where
+pub record Going (table : Bool) (text : List ℕ) (old : List Float) (ls : List (List ℕ)) (s : Given) (p n at : ℕ) (y : List Float) : Type 0 where
   pub few : p ≤ 4096
   pub long : length y ≡ 8192
   pub sheet : sheet_from table (length text) s p n at ls ≡ sheet_of table text
@@ -75,38 +77,45 @@ filled p new old y h e f =
     let l : 2 * p ≡ length new = sym (length-take-le (2 * p) y h) ∙ ap length g in
     sym (take-append-drop (2 * p) y) ∙ ap (λ (x : List Float). x ++ drop (2 * p) y) g ∙ ap (λ (x : List Float). new ++ x) (f ∙ ap (λ (n : ℕ). drop n old) l)
 
-pub first : (table : Bool) (text : List ℕ) (y : List Float) (s : Settings) → 8192 ≡ length y → s ≡ fresh → Going table text y (lines_of text) s 0 0 0 y
+-- none of its places is filled
+pub none_given : (g : Given)
+    → (g.period ≡ None) × ((g.noise ≡ None) × ((g.radio ≡ None) × ((g.wander_offset ≡ None) × ((g.wander_rate ≡ None) × ((g.offset ≡ None) × ((g.rate ≡ None) × ((g.rate_keeps ≡ None) × (g.season ≡ None))))))))
+    → g ≡ fresh
+none_given g e =
+    let record { period = a; noise = b; radio = c; wander_offset = d; wander_rate = f; offset = h; rate = i; rate_keeps = j; season = k } = g in
+    rw (e.0, e.1.0, e.1.1.0, e.1.1.1.0, e.1.1.1.1.0, e.1.1.1.1.1.0, e.1.1.1.1.1.1.0, e.1.1.1.1.1.1.1.0, e.1.1.1.1.1.1.1.1)
+
+pub first : (table : Bool) (text : List ℕ) (y : List Float) (s : Given) → 8192 ≡ length y → s ≡ fresh → Going table text y (lines_of text) s 0 0 0 y
 unfolding sheet_of readings_of
 first table text y s h e = record {
   few = omega arith;
   long = sym h;
-  sheet = ap (λ (x : Settings). sheet_from table (length text) x 0 0 0 (lines_of text)) e;
-  said = ap (λ (x : Settings). readings_from table x 0 (lines_of text)) e;
+  sheet = ap (λ (x : Given). sheet_from table (length text) x 0 0 0 (lines_of text)) e;
+  said = ap (λ (x : Given). readings_from table x 0 (lines_of text)) e;
   rest = refl;
 }
 
-module _ (table : Bool) (text : List ℕ) (old : List Float) (s : Settings) (p n at : ℕ) (y : List Float) where
+module _ (table : Bool) (text : List ℕ) (old : List Float) (s : Given) (p n at : ℕ) (y : List Float) where
   -- the end of the text
   pub done : Going table text old [] s p n at y → (end_of s p n (length text) ≡ sheet_of table text) × Filled (readings_of table text) old y
   unfolding sheet_from readings_from
   done g = (g.sheet, filled p (readings_of table text) old y (omega (arith, g.few, g.long)) g.said g.rest)
 
   -- a wrong line
-  pub stop : (l : List ℕ) (ls : List (List ℕ)) → (line_fault table s p l).fine ≡ false → Going table text old (l ∷ ls) s p n at y
-      → (wrong_line (n + 1) at l (line_fault table s p l) ≡ sheet_of table text) × Filled (readings_of table text) old y
+  pub stop : (l : List ℕ) (ls : List (List ℕ)) (f : Fault) → line_fault table s p l ≡ Err f → Going table text old (l ∷ ls) s p n at y
+      → (Err (wrong_line (n + 1) at l f) ≡ sheet_of table text) × Filled (readings_of table text) old y
   unfolding sheet_from readings_from
-  stop l ls h g =
-      let t = line_tokens l in
-      let f = line_fault table s p l in (
-        ap (λ (k : ℕ). wrong_line k at l f) (add-one n) ∙ sym (ap (λ (b : Bool). cond b (sheet_from table (length text) (settled s t) (counted p t) (suc n) (suc (at + length l)) ls) (wrong_line (suc n) at l f)) h) ∙ g.sheet,
+  stop l ls f h g =
+      let t = line_tokens l in (
+        ap (λ (k : ℕ). Err (wrong_line k at l f)) (add-one n) ∙ sym (ap (λ (r : Found). unless_wrong r (sheet_from table (length text) (settled s t) (counted p t) (suc n) (suc (at + length l)) ls) (λ f. Err (wrong_line (suc n) at l f))) h) ∙ g.sheet,
         filled p (readings_of table text) old y (omega (arith, g.few, g.long))
-            (sym (ap (λ (b : Bool). take (2 * p) y ++ cond b (line_readings table t ++ readings_from table (settled s t) (counted p t) ls) []) h) ∙ g.said) g.rest,
+            (sym (ap (λ (r : Found). take (2 * p) y ++ unless_wrong r (line_readings table t ++ readings_from table (settled s t) (counted p t) ls) (λ f. [])) h) ∙ g.said) g.rest,
       )
 
   -- a right line
-  pub next : (l : List ℕ) (ls : List (List ℕ)) (y₂ : List Float) → (line_fault table s p l).fine ≡ true → Laid (2 * p) (line_readings table (line_tokens l)) y y₂ → Going table text old (l ∷ ls) s p n at y
+  pub next : (l : List ℕ) (ls : List (List ℕ)) (y₂ : List Float) → line_fault table s p l ≡ right → Laid (2 * p) (line_readings table (line_tokens l)) y y₂ → Going table text old (l ∷ ls) s p n at y
       → Going table text old ls (settled s (line_tokens l)) (counted p (line_tokens l)) (suc n) (suc (at + length l)) y₂
-  unfolding sheet_from readings_from line_fault
+  unfolding sheet_from readings_from
   next l ls y₂ h d g =
       let t = line_tokens l in
       let r = line_readings table t in
@@ -115,11 +124,11 @@ module _ (table : Bool) (text : List ℕ) (old : List Float) (s : Settings) (p n
       record {
         few = counted_few p t g.few (few_periods table s p t h);
         long = d.long ∙ g.long;
-        sheet = sym (ap (λ (b : Bool). cond b (sheet_from table (length text) (settled s t) (counted p t) (suc n) (suc (at + length l)) ls) (wrong_line (suc n) at l (fault_of table s p t))) h) ∙ g.sheet;
+        sheet = sym (ap (λ (r : Found). unless_wrong r (sheet_from table (length text) (settled s t) (counted p t) (suc n) (suc (at + length l)) ls) (λ f. Err (wrong_line (suc n) at l f))) h) ∙ g.sheet;
         said = ap (λ (k : ℕ). take k y₂ ++ m) (sym e)
             ∙ ap (λ (x : List Float). x ++ m) d.before
             ∙ append_assoc (take (2 * p) y) r m
-            ∙ sym (ap (λ (b : Bool). take (2 * p) y ++ cond b (r ++ m) []) h)
+            ∙ sym (ap (λ (k : Found). take (2 * p) y ++ unless_wrong k (r ++ m) (λ f. [])) h)
             ∙ g.said;
         rest = ap (λ (k : ℕ). drop k y₂) (sym e)
             ∙ d.after
@@ -147,33 +156,32 @@ module _ (text : List ℕ) (at end : ℕ) (start : at ≤ length text) (found : 
   pub line_length : end ≤ length text → at + length (take (end - at) (drop at text)) ≡ end
   line_length h = let e = length-take-le (end - at) (drop at text) (omega (arith, length-drop at text)) in omega arith
 
--- ---- one turn of the loop
-module _ (table : Bool) (text : List ℕ) (old : List Float) (s : Settings) (p n at : ℕ) (y : List Float) (end : ℕ) (start : at ≤ length text) (found : end ≡ at + run_to true (drop at text)) (within : end ≤ length text) (f : Fault) (going : Going table text old (lines_of (drop at text)) s p n at y) where
-  -- the line is wrong
-  pub stopped : f ≡ line_fault table s p (take (end - at) (drop at text)) → f.fine ≡ false → (wrong_line (n + 1) at (take (end - at) (drop at text)) f ≡ sheet_of table text) × Filled (readings_of table text) old y
-  stopped e h = go (ltb end (length text)) refl
-    where
-      by : (ls : List (List ℕ)) → lines_of (drop at text) ≡ take (end - at) (drop at text) ∷ ls → (wrong_line (n + 1) at (take (end - at) (drop at text)) f ≡ sheet_of table text) × Filled (readings_of table text) old y
-      by ls q =
-          let l = take (end - at) (drop at text) in
-          let r = stop table text old s p n at y l ls (sym (ap (λ (x : Fault). x.fine) e) ∙ h) (subst (λ (x : List (List ℕ)). Going table text old x s p n at y) q going) in
-          (ap (wrong_line (n + 1) at l) e ∙ r.0, r.1)
+pub end_is : (text : List ℕ) (at r : ℕ) → r ≡ run_to true (take (length text - at) (drop at text)) → at + r ≡ at + run_to true (drop at text)
+end_is text at r e = ap (λ (n : ℕ). at + n) (e ∙ ap (run_to true) (take_all (length text - at) (drop at text) (omega (arith, length-drop at text))))
 
-      go : (b : Bool) → ltb end (length text) ≡ b → (wrong_line (n + 1) at (take (end - at) (drop at text)) f ≡ sheet_of table text) × Filled (readings_of table text) old y
+-- ---- one turn of the loop
+module _ (table : Bool) (text : List ℕ) (old : List Float) (s : Given) (p n at : ℕ) (y : List Float) (end : ℕ) (start : at ≤ length text) (found : end ≡ at + run_to true (drop at text)) (within : end ≤ length text) (going : Going table text old (lines_of (drop at text)) s p n at y) where
+  -- the line is wrong
+  pub stopped : (f : Fault) → line_fault table s p (take (end - at) (drop at text)) ≡ Err f → (Err (wrong_line (n + 1) at (take (end - at) (drop at text)) f) ≡ sheet_of table text) × Filled (readings_of table text) old y
+  stopped f h = go (ltb end (length text)) refl
+    where
+      by : (ls : List (List ℕ)) → lines_of (drop at text) ≡ take (end - at) (drop at text) ∷ ls → (Err (wrong_line (n + 1) at (take (end - at) (drop at text)) f) ≡ sheet_of table text) × Filled (readings_of table text) old y
+      by ls q = stop table text old s p n at y (take (end - at) (drop at text)) ls f h (subst (λ (x : List (List ℕ)). Going table text old x s p n at y) q going)
+
+      go : (b : Bool) → ltb end (length text) ≡ b → (Err (wrong_line (n + 1) at (take (end - at) (drop at text)) f) ≡ sheet_of table text) × Filled (readings_of table text) old y
       go true q = by (lines_of (drop (end + 1) text)) (cut_more text at end start found (ltb-true end (length text) q))
       go false q = by [] (cut_last text at end start found (ltb-false end (length text) q))
 
   -- the line is right
-  module _ (t : Tokens) (s₂ : Settings) (p₂ : ℕ) (y₂ : List Float) (words : t ≡ line_tokens (take (end - at) (drop at text))) (fault : f ≡ fault_of table s p t) (right : f.fine ≡ true) (count : p₂ ≡ counted p t) (laid : Laid (2 * p) (line_readings table t) y y₂) (after : s₂ ≡ settled s t) where
+  module _ (t : Tokens) (s₂ : Given) (p₂ : ℕ) (y₂ : List Float) (words : t ≡ line_tokens (take (end - at) (drop at text))) (right : fault_of table s p t ≡ right) (count : p₂ ≡ counted p t) (laid : Laid (2 * p) (line_readings table t) y y₂) (after : s₂ ≡ settled s t) where
     passed : (ls : List (List ℕ)) → lines_of (drop at text) ≡ take (end - at) (drop at text) ∷ ls → Going table text old ls s₂ p₂ (n + 1) (end + 1) y₂
-    unfolding line_fault
     passed ls q =
         let l = take (end - at) (drop at text) in
-        let h : (fault_of table s p (line_tokens l)).fine ≡ true = sym (ap (λ (x : Tokens). (fault_of table s p x).fine) words) ∙ sym (ap (λ (x : Fault). x.fine) fault) ∙ right in
+        let h : line_fault table s p l ≡ Ok tt = sym (ap (λ (x : Tokens). fault_of table s p x) words) ∙ right in
         let d = subst (λ (x : Tokens). Laid (2 * p) (line_readings table x) y y₂) words laid in
         let g = next table text old s p n at y l ls y₂ h d (subst (λ (x : List (List ℕ)). Going table text old x s p n at y) q going) in
         let k : suc (at + length l) ≡ end + 1 = sym (add-one (at + length l)) ∙ ap (λ (x : ℕ). x + 1) (line_length text at end start found within) in
-        subst (λ (x : Settings). Going table text old ls x p₂ (n + 1) (end + 1) y₂) (sym (after ∙ ap (settled s) words))
+        subst (λ (x : Given). Going table text old ls x p₂ (n + 1) (end + 1) y₂) (sym (after ∙ ap (settled s) words))
         (subst (λ (x : ℕ). Going table text old ls (settled s (line_tokens l)) x (n + 1) (end + 1) y₂) (sym (count ∙ ap (counted p) words))
         (subst (λ (x : ℕ). Going table text old ls (settled s (line_tokens l)) (counted p (line_tokens l)) x (end + 1) y₂) (sym (add-one n))
         (subst (λ (x : ℕ). Going table text old ls (settled s (line_tokens l)) (counted p (line_tokens l)) (suc n) x y₂) k g)))

@@ -1,180 +1,167 @@
 -- What a good sheet has: at most 4096 periods with two readings each, a period of 1 to 999999999 seconds, one or two inputs, and no season, or one that
--- begins in one of the periods 2 to 4096. Assumes nothing.
-use Rattle.std.specs.Prelude.{◌≡◌, ℕ, suc, ◌+◌, ◌*◌, ◌<◌, ◌≤◌, Bool, true, false, cond, ◌⊎◌, List, [], ◌∷◌, ◌++◌, length, ◌==◌, nat_le, nat_lt, refl}
-use Rattle.std.proofs.Common.{sym, ◌∙◌, subst, true≢false, inl, inr, zero-add, arith, length-append, le-ltb, lt-ltb, ne_eqb, eq-eqb, eqb-true, leb-true, ltb-true, ltb-false}
-use Rattle.std.proofs.lemmas.Bool.{eqb-false}
-use Rattle.sheet.specs.declared.answers.Settings.{Settings}
-use Rattle.sheet.specs.declared.answers.Sheet.TheVariants.{Good}
-use Rattle.sheet.specs.declared.answers.Wanted.TheVariants.{Line, Seconds, Thousandths, SeasonStart, Once, SettingsFirst, PeriodSetting, NoiseSetting, FewerPeriods}
-use Rattle.sheet.specs.declared.parts.Token.{Token}
+-- begins in one of the periods 2 to 4096 and keeps some of the rate. Assumes nothing.
+use Rattle.std.specs.Prelude.{◌≡◌, ℕ, suc, ◌+◌, ◌*◌, ◌<◌, ◌≤◌, Bool, true, false, cond, not, List, [], ◌∷◌, ◌++◌, length, Option, Some, None, Ok, Err, IfSome, is_some, nat_lt, ◌==◌, refl}
+use Rattle.std.proofs.Common.{subst, zero-add, arith, length-append, ltb-true}
+use Rattle.std.proofs.lemmas.Bool.Decides.{nat_tests}
+use Rattle.sheet.specs.declared.answers.Noise.{Noise}
+use Rattle.sheet.specs.declared.answers.Noise.TheVariants.{One, Two}
+use Rattle.sheet.specs.declared.answers.Season.{Season}
+use Rattle.sheet.specs.declared.answers.Sheet.{Sheet}
+use Rattle.sheet.specs.declared.answers.Wanted.{Wanted}
+use Rattle.sheet.specs.declared.answers.Wanted.TheVariants.{Once, SettingsFirst, PeriodSetting, NoiseSetting, FewerPeriods}
+use Rattle.sheet.specs.declared.kinds.Name.{Name}
+use Rattle.sheet.specs.declared.kinds.Name.TheVariants.{Period, Noise as OfNoise, Radio, WanderOffset, WanderRate, StartOffset, StartRate, RateKeeps, Season as OfSeason}
+use Rattle.sheet.specs.declared.kinds.Word.{Word}
+use Rattle.sheet.specs.declared.kinds.Word.TheVariants.{End, Setting, Gap, Planned, Number, Negative, NoCheck, Sd, Variance, Unknown, Other}
+use Rattle.sheet.specs.declared.parts.Given.{Given}
 use Rattle.sheet.specs.declared.parts.Tokens.{Tokens}
-use Rattle.sheet.specs.declared.parts.Fault.{Fault}
+use Rattle.sheet.specs.Kinds.{is_within, has_checks, size_of}
 use Rattle.sheet.specs.Lines.{lines_of}
-use Rattle.sheet.specs.Faults.{right, wrong_at, is_within, end_fault, period_fault, noise_fault, spread_fault, start_fault, keeps_fault, season_fault, is_given, words_fault, setting_fault, pair_fault, checks_fault, fault_of}
-use Rattle.sheet.specs.Effects.{fresh, with_noise, settled, reading_of, line_readings}
-use Rattle.sheet.specs.Sheets.{line_tokens, line_fault, counted, bad_at, wrong_line, end_of, sheet_from, readings_from, sheet_of, readings_of}
+use Rattle.sheet.specs.Faults.{Found, right, need, ◌>>=◌, is_given, words_fault, checks_fault, fault_by, fault_of}
+use Rattle.sheet.specs.Effects.{fresh, inputs_of, with, settled_by, settled, reading_of, line_readings}
+use Rattle.sheet.specs.Sheets.{line_tokens, line_fault, counted, wrong_line, unless_wrong, end_by, sheet_from, readings_from, sheet_of, readings_of}
 
--- ---- which way a line that is right went
-yes : (b : Bool) (x y : Fault) → y.fine ≡ false → (cond b x y).fine ≡ true → (b ≡ true) × (x.fine ≡ true)
-yes true x y e h = (refl, h)
-yes false x y e h = absurd (true≢false (sym h ∙ e))
-
-no : (b : Bool) (x y : Fault) → x.fine ≡ false → (cond b x y).fine ≡ true → (b ≡ false) × (y.fine ≡ true)
-no true x y e h = absurd (true≢false (sym h ∙ e))
-no false x y e h = (refl, h)
-
-by : (b c : Bool) (x y : Fault) → b ≡ c → (cond b x y).fine ≡ true → (cond c x y).fine ≡ true
-by b c x y e h = subst (λ (k : Bool). (cond k x y).fine ≡ true) e h
+-- ---- where a test and what follows it are right
+needed : (b : Bool) (wanted : Wanted) (k : ℕ) (r : Found) → (need b wanted k >>= λ _. r) ≡ right → (b ≡ true) × (r ≡ right)
+needed true wanted k r e = (refl, e)
+needed false wanted k r e = cc
 
 -- a period that is right is one of the first 4096
-pub few_periods : (table : Bool) (s : Settings) (p : ℕ) (t : Tokens) → (fault_of table s p t).fine ≡ true → 10 ≤ t.first.kind → p < 4096
-unfolding fault_of checks_fault
-few_periods table s p t h k =
-    let f = checks_fault table s.period s.inputs p t in
-    let h₁ = by _ false right _ (ne_eqb t.first.kind 0 (λ (e : t.first.kind ≡ 0). omega arith)) h in
-    let h₂ = by _ false (setting_fault s p t) _ (le-ltb t.first.kind 10 k) h₁ in
-    let h₃ = (yes (nat_lt t.first.kind 15) f (wrong_at Line 0) refl h₂).1 in
-    let h₄ = (no (s.period == 0) (wrong_at PeriodSetting 0) _ refl h₃).1 in
-    let h₅ = (no (s.inputs == 0) (wrong_at NoiseSetting 0) _ refl h₄).1 in
-    ltb-true p 4096 (yes (nat_lt p 4096) (pair_fault table s.inputs t) (wrong_at FewerPeriods 0) refl h₅).0
+few_checks : (table : Bool) (g : Given) (p : ℕ) (t : Tokens) → checks_fault table g p t ≡ right → p < 4096
+few_checks table g p t e =
+    let a = needed (is_some g.period) PeriodSetting 0 _ e in
+    let b = needed (is_some g.noise) NoiseSetting 0 _ a.1 in
+    ltb-true p 4096 (needed (nat_lt p 4096) FewerPeriods 0 _ b.1).0
 
--- a right line that names a setting has the words for it
-words_right : (table : Bool) (s : Settings) (p : ℕ) (t : Tokens) → (fault_of table s p t).fine ≡ true → 0 < t.first.kind → t.first.kind < 10 → (words_fault t).fine ≡ true
-unfolding fault_of setting_fault
-words_right table s p t h k l =
-    let h₁ = by _ false right _ (ne_eqb t.first.kind 0 (λ (e : t.first.kind ≡ 0). omega arith)) h in
-    let h₂ = by _ true (setting_fault s p t) _ (lt-ltb t.first.kind 10 l) h₁ in
-    let h₃ = (no (nat_lt 0 p) (wrong_at SettingsFirst 0) _ refl h₂).1 in
-    (no (is_given s t.first.kind) (wrong_at Once 0) (words_fault t) refl h₃).1
+few_by : (w : Word) (table : Bool) (g : Given) (p : ℕ) (t : Tokens) → fault_by w table g p t ≡ right → has_checks w ≡ true → p < 4096
+few_by End table g p t e h = cc
+few_by (Setting name) table g p t e h = cc
+few_by Gap table g p t e h = few_checks table g p t e
+few_by Planned table g p t e h = few_checks table g p t e
+few_by (Number n) table g p t e h = few_checks table g p t e
+few_by (Negative n) table g p t e h = few_checks table g p t e
+few_by NoCheck table g p t e h = few_checks table g p t e
+few_by Sd table g p t e h = cc
+few_by Variance table g p t e h = cc
+few_by Unknown table g p t e h = cc
+few_by Other table g p t e h = cc
 
-within : (least most : ℕ) (t : Token) → is_within least most t ≡ true → (least ≤ t.size) × (t.size ≤ most)
-unfolding is_within
-within least most t e = go (t.kind == 12) (nat_lt t.size least) refl e
-  where
-    go : (b c : Bool) → nat_lt t.size least ≡ c → cond b (cond c false (nat_le t.size most)) false ≡ true → (least ≤ t.size) × (t.size ≤ most)
-    go true true f e = absurd (true≢false (sym e))
-    go true false f e = (ltb-false t.size least f, leb-true t.size most e)
-    go false c f e = absurd (true≢false (sym e))
-
--- so one that sets the period has it in bounds
-period_small : (t : Tokens) → (words_fault t).fine ≡ true → t.first.kind ≡ 1 → t.second.size < 1000000000
-unfolding words_fault period_fault
-period_small t h k =
-    let h₁ = by _ true (period_fault t) _ (eq-eqb t.first.kind 1 k) h in
-    let w = within 1 999999999 t.second (yes (is_within 1 999999999 t.second) (end_fault t.third 2) (wrong_at Seconds 1) refl h₁).0 in
-    omega arith
-
--- not given; or it begins in one of the periods 2 to 4096, and keeps some of the rate
-abbrev pub Season : ℕ → ℕ → Type 0
-Season period keeps = (period ≡ 0) ⊎ ((2 ≤ period) × (period ≤ 4096) × (0 < keeps))
-
--- and one that sets the season
-season_some : (t : Tokens) → (words_fault t).fine ≡ true → t.first.kind ≡ 9 → Season t.second.size t.third.size
-unfolding words_fault keeps_fault season_fault
-season_some t h k =
-    let h₁ = by _ false (period_fault t) _ (ne_eqb t.first.kind 1 (λ (e : t.first.kind ≡ 1). omega arith)) h in
-    let h₂ = by _ false (noise_fault t) _ (ne_eqb t.first.kind 2 (λ (e : t.first.kind ≡ 2). omega arith)) h₁ in
-    let h₃ = by _ false (spread_fault t.second t.third t.fourth 1) _ (le-ltb t.first.kind 6 (omega arith)) h₂ in
-    let h₄ = by _ false (start_fault t) _ (le-ltb t.first.kind 8 (omega arith)) h₃ in
-    let h₅ = by _ false (keeps_fault t.second t.third 1) _ (ne_eqb t.first.kind 8 (λ (e : t.first.kind ≡ 8). omega arith)) h₄ in
-    let h₆ = yes (is_within 2 4096 t.second) (keeps_fault t.third t.fourth 2) (wrong_at SeasonStart 1) refl h₅ in
-    let h₇ = yes (is_within 1 999999999999999 t.third) (end_fault t.fourth 3) (wrong_at Thousandths 2) refl h₆.1 in
-    let w = within 2 4096 t.second h₆.0 in
-    inr (w.0, w.1, (within 1 999999999999999 t.third h₇.0).0)
+pub few_periods : (table : Bool) (g : Given) (p : ℕ) (t : Tokens) → fault_of table g p t ≡ right → has_checks t.first ≡ true → p < 4096
+few_periods table g p t e h = few_by t.first table g p t e h
 
 -- ---- what a line leaves in bounds
-abbrev Bounds : ℕ → ℕ → ℕ → ℕ → Type 0
-Bounds period inputs season keeps = (period < 1000000000) × (inputs ≤ 2) × Season season keeps
+both : (a b : Bool) → cond a b false ≡ true → (a ≡ true) × (b ≡ true)
+both true b e = (refl, e)
+both false b e = cc
 
-record Bounded (s : Settings) : Type 0 where
-  of : Bounds s.period s.inputs s.season s.season_keeps
+within : (least most : ℕ) (w : Word) → is_within least most w ≡ true → (least ≤ size_of w) × (size_of w ≤ most)
+within least most w e = grind (arith, nat_tests)
 
-pick : (b : Bool) {x y : Settings} → (b ≡ true → Bounded x) → Bounded y → Bounded (cond b x y)
-pick true p q = p refl
-pick false p q = q
+-- it begins in one of the periods 2 to 4096, and keeps some of the rate
+abbrev pub SeasonIn : Season → Type 0
+SeasonIn s = (2 ≤ s.first) × (s.first ≤ 4096) × (0 < s.keeps)
 
-either : (b : Bool) {x y : Settings} → Bounded x → Bounded y → Bounded (cond b x y)
-either b p q = pick b (λ e. p) q
+record Bounded (g : Given) : Type 0 where
+  period : IfSome g.period (λ p. (0 < p) × (p < 1000000000))
+  season : IfSome g.season SeasonIn
 
-stays : (table : Bool) (s : Settings) (p : ℕ) (t : Tokens) → (fault_of table s p t).fine ≡ true → Bounded s → Bounded (settled s t)
-unfolding settled with_noise
-stays table s p t h b =
-    let k = t.first.kind in
-    let o = b.of in
-    pick (k == 1) (λ e. let l = eqb-true k 1 e in record { of = (period_small t (words_right table s p t h (omega arith) (omega arith)) l, o.1, o.2) })
-    (either (k == 2) (either (t.fourth.kind == 0) (record { of = (o.0, omega arith, o.2) }) (record { of = (o.0, omega arith, o.2) }))
-    (either (k == 3) (record { of = o })
-    (either (k == 4) (record { of = o })
-    (either (k == 5) (record { of = o })
-    (either (k == 6) (record { of = o })
-    (either (k == 7) (record { of = o })
-    (either (k == 8) (record { of = o })
-    (pick (k == 9) (λ e. let l = eqb-true k 9 e in record { of = (o.0, o.1, season_some t (words_right table s p t h (omega arith) (omega arith)) l) })
-    b))))))))
+-- a right line that names a setting has the words for it
+with_bounded : (name : Name) (g : Given) (t : Tokens) → words_fault name t ≡ right → Bounded g → Bounded (with name g t)
+with_bounded Period g t e b =
+    let w = within 1 999999999 t.second (needed _ _ _ _ e).0 in
+    record { period = (w.0, omega arith); season = b.season }
+with_bounded OfNoise g t e b = record { period = b.period; season = b.season }
+with_bounded Radio g t e b = record { period = b.period; season = b.season }
+with_bounded WanderOffset g t e b = record { period = b.period; season = b.season }
+with_bounded WanderRate g t e b = record { period = b.period; season = b.season }
+with_bounded StartOffset g t e b = record { period = b.period; season = b.season }
+with_bounded StartRate g t e b = record { period = b.period; season = b.season }
+with_bounded RateKeeps g t e b = record { period = b.period; season = b.season }
+with_bounded OfSeason g t e b =
+    let a = needed _ _ _ _ e in
+    let v = within 2 4096 t.second a.0 in
+    let w = within 1 999999999999999 t.third (needed _ _ _ _ a.1).0 in
+    record { period = b.period; season = (v.0, v.1, w.0) }
 
-pub counted_few : (p : ℕ) (t : Tokens) → p ≤ 4096 → (10 ≤ t.first.kind → p < 4096) → counted p t ≤ 4096
+stays_by : (w : Word) (table : Bool) (g : Given) (p : ℕ) (t : Tokens) → fault_by w table g p t ≡ right → Bounded g → Bounded (settled_by w g t)
+stays_by (Setting name) table g p t e b =
+    let a = needed (p == 0) SettingsFirst 0 _ e in
+    with_bounded name g t (needed (not (is_given g name)) Once 0 _ a.1).1 b
+stays_by End table g p t e b = b
+stays_by Gap table g p t e b = b
+stays_by Planned table g p t e b = b
+stays_by (Number n) table g p t e b = b
+stays_by (Negative n) table g p t e b = b
+stays_by NoCheck table g p t e b = b
+stays_by Sd table g p t e b = b
+stays_by Variance table g p t e b = b
+stays_by Unknown table g p t e b = b
+stays_by Other table g p t e b = b
+
+stays : (table : Bool) (g : Given) (p : ℕ) (t : Tokens) → fault_of table g p t ≡ right → Bounded g → Bounded (settled g t)
+stays table g p t e b = stays_by t.first table g p t e b
+
+pub counted_few : (p : ℕ) (t : Tokens) → p ≤ 4096 → (has_checks t.first ≡ true → p < 4096) → counted p t ≤ 4096
 unfolding counted
-counted_few p t h k = go (nat_lt t.first.kind 10) refl
+counted_few p t h k = go (has_checks t.first) refl
   where
-    go : (b : Bool) → nat_lt t.first.kind 10 ≡ b → cond b p (p + 1) ≤ 4096
-    go true e = h
-    go false e = let m = k (ltb-false t.first.kind 10 e) in omega arith
+    go : (b : Bool) → has_checks t.first ≡ b → cond b (p + 1) p ≤ 4096
+    go true e = let m = k e in omega arith
+    go false e = h
 
 pub counted-length : (table : Bool) (p : ℕ) (t : Tokens) → 2 * p + length (line_readings table t) ≡ 2 * counted p t
 unfolding counted line_readings
-counted-length table p t = go (nat_lt t.first.kind 10)
+counted-length table p t = go (has_checks t.first)
   where
-    go : (b : Bool) → 2 * p + length (cond b [] (reading_of table t.first ∷ reading_of table t.second ∷ [])) ≡ 2 * cond b p (p + 1)
+    go : (b : Bool) → 2 * p + length (cond b (reading_of table t.first ∷ reading_of table t.second ∷ []) []) ≡ 2 * cond b (p + 1) p
     go true = omega arith
     go false = omega arith
 
 -- ---- of the lines that are left, and of the text
-pub record IsGood (readings : ℕ) (s : Settings) (n : ℕ) : Type 0 where
-  pub few : n ≤ 4096
-  pub pairs : readings ≡ 2 * n
-  pub period_some : 0 < s.period
-  pub period_small : s.period < 1000000000
-  pub inputs_some : 0 < s.inputs
-  pub inputs_few : s.inputs ≤ 2
-  pub season : Season s.season s.season_keeps
+pub record IsGood (readings : ℕ) (sheet : Sheet) : Type 0 where
+  pub few : sheet.periods ≤ 4096
+  pub pairs : readings ≡ 2 * sheet.periods
+  pub period_some : 0 < sheet.settings.period
+  pub period_small : sheet.settings.period < 1000000000
+  pub inputs_some : 0 < inputs_of sheet.settings.noise
+  pub inputs_few : inputs_of sheet.settings.noise ≤ 2
+  pub season : IfSome sheet.settings.season SeasonIn
 
-at_end : (s : Settings) (p lines size : ℕ) (s₂ : Settings) (n : ℕ) → p ≤ 4096 → Bounded s → end_of s p lines size ≡ Good s₂ n → IsGood (2 * p) s₂ n
-unfolding end_of
-at_end s p lines size s₂ n h b e = go (s.period == 0) (s.inputs == 0) refl refl e
-  where
-    go : (k m : Bool) → (s.period == 0) ≡ k → (s.inputs == 0) ≡ m → cond k (bad_at lines size size PeriodSetting) (cond m (bad_at lines size size NoiseSetting) (Good s p)) ≡ Good s₂ n → IsGood (2 * p) s₂ n
-    go true m u v e = let z : ◌≡◌ {A = ℕ} 0 1 = cc in absurd (omega arith)
-    go false true u v e = let z : ◌≡◌ {A = ℕ} 0 1 = cc in absurd (omega arith)
-    go false false u v e =
-        let es : s ≡ s₂ = cc in
-        let en : p ≡ n = cc in
-        let f = eqb-false s.period 0 u in
-        let g = eqb-false s.inputs 0 v in
-        subst (λ (x : Settings). IsGood (2 * p) x n) es (subst (λ (x : ℕ). IsGood (2 * p) s x) en (record { few = h; pairs = refl; period_some = omega arith; period_small = b.of.0; inputs_some = omega arith; inputs_few = b.of.1; season = b.of.2 }))
+inputs_bounds : (noise : Noise) → (0 < inputs_of noise) × (inputs_of noise ≤ 2)
+inputs_bounds (One a) = (omega arith, omega arith)
+inputs_bounds (Two a b) = (omega arith, omega arith)
 
-from : (table : Bool) (size : ℕ) (ls : List (List ℕ)) (s : Settings) (p lines at : ℕ) (s₂ : Settings) (n : ℕ) → p ≤ 4096 → Bounded s → sheet_from table size s p lines at ls ≡ Good s₂ n
-    → IsGood (2 * p + length (readings_from table s p ls)) s₂ n
-unfolding sheet_from readings_from line_fault wrong_line
-from table size [] s p lines at s₂ n h b e = subst (λ (x : ℕ). IsGood x s₂ n) (none p) (at_end s p lines size s₂ n h b e)
+at_end_by : (period : Option ℕ) (noise : Option Noise) (g : Given) (p lines size : ℕ) (sheet : Sheet) → p ≤ 4096 → IfSome period (λ p. (0 < p) × (p < 1000000000)) → IfSome g.season SeasonIn
+    → end_by period noise g p lines size ≡ Ok sheet → IsGood (2 * p) sheet
+at_end_by None noise g p lines size sheet h b c e = cc
+at_end_by (Some period) None g p lines size sheet h b c e = cc
+at_end_by (Some period) (Some noise) g p lines size sheet h b c e =
+    let q : record { settings = record { period = period; noise = noise; radio = g.radio; wander_offset = g.wander_offset; wander_rate = g.wander_rate; offset = g.offset; rate = g.rate; rate_keeps = g.rate_keeps; season = g.season }; periods = p } ≡ sheet = cc in
+    subst (IsGood (2 * p)) q (record { few = h; pairs = refl; period_some = b.0; period_small = b.1; inputs_some = (inputs_bounds noise).0; inputs_few = (inputs_bounds noise).1; season = c })
+
+from : (table : Bool) (size : ℕ) (ls : List (List ℕ)) (g : Given) (p lines at : ℕ) (sheet : Sheet) → p ≤ 4096 → Bounded g → sheet_from table size g p lines at ls ≡ Ok sheet
+    → IsGood (2 * p + length (readings_from table g p ls)) sheet
+unfolding sheet_from readings_from
+from table size [] g p lines at sheet h b e = subst (λ (x : ℕ). IsGood x sheet) (none p) (at_end_by g.period g.noise g p lines size sheet h b.period b.season e)
   where
     none : (p : ℕ) → 2 * p ≡ 2 * p + 0
     none p = omega arith
-from table size (l ∷ ls) s p lines at s₂ n h b e = go (from table size ls (settled s (line_tokens l)) (counted p (line_tokens l)) (suc lines) (suc (at + length l)) s₂ n) (fault_of table s p (line_tokens l)).fine refl e
+from table size (l ∷ ls) g p lines at sheet h b e = go (from table size ls (settled g (line_tokens l)) (counted p (line_tokens l)) (suc lines) (suc (at + length l)) sheet) (line_fault table g p l) refl e
   where
-    go : (counted p (line_tokens l) ≤ 4096 → Bounded (settled s (line_tokens l)) → sheet_from table size (settled s (line_tokens l)) (counted p (line_tokens l)) (suc lines) (suc (at + length l)) ls ≡ Good s₂ n
-        → IsGood (2 * counted p (line_tokens l) + length (readings_from table (settled s (line_tokens l)) (counted p (line_tokens l)) ls)) s₂ n)
-        → (k : Bool) → (fault_of table s p (line_tokens l)).fine ≡ k
-        → cond k (sheet_from table size (settled s (line_tokens l)) (counted p (line_tokens l)) (suc lines) (suc (at + length l)) ls) (wrong_line (suc lines) at l (fault_of table s p (line_tokens l))) ≡ Good s₂ n
-        → IsGood (2 * p + length (cond k (line_readings table (line_tokens l) ++ readings_from table (settled s (line_tokens l)) (counted p (line_tokens l)) ls) [])) s₂ n
-    go i false f e = let z : ◌≡◌ {A = ℕ} 0 1 = cc in absurd (omega arith)
-    go i true f e =
+    go : (counted p (line_tokens l) ≤ 4096 → Bounded (settled g (line_tokens l)) → sheet_from table size (settled g (line_tokens l)) (counted p (line_tokens l)) (suc lines) (suc (at + length l)) ls ≡ Ok sheet
+        → IsGood (2 * counted p (line_tokens l) + length (readings_from table (settled g (line_tokens l)) (counted p (line_tokens l)) ls)) sheet)
+        → (k : Found) → line_fault table g p l ≡ k
+        → unless_wrong k (sheet_from table size (settled g (line_tokens l)) (counted p (line_tokens l)) (suc lines) (suc (at + length l)) ls) (λ f. Err (wrong_line (suc lines) at l f)) ≡ Ok sheet
+        → IsGood (2 * p + length (unless_wrong k (line_readings table (line_tokens l) ++ readings_from table (settled g (line_tokens l)) (counted p (line_tokens l)) ls) (λ f. []))) sheet
+    go i (Err x) f e = cc
+    go i (Ok u) f e =
         let t = line_tokens l in
-        let m = readings_from table (settled s t) (counted p t) ls in
+        let m = readings_from table (settled g t) (counted p t) ls in
         let q : 2 * counted p t + length m ≡ 2 * p + length (line_readings table t ++ m) = omega (arith, counted-length table p t, length-append (line_readings table t) m) in
-        subst (λ (x : ℕ). IsGood x s₂ n) q (i (counted_few p t h (few_periods table s p t f)) (stays table s p t f b) e)
+        subst (λ (x : ℕ). IsGood x sheet) q (i (counted_few p t h (few_periods table g p t f)) (stays table g p t f b) e)
 
-pub good : (table : Bool) (text : List ℕ) (s : Settings) (n : ℕ) → sheet_of table text ≡ Good s n → IsGood (length (readings_of table text)) s n
+pub good : (table : Bool) (text : List ℕ) (sheet : Sheet) → sheet_of table text ≡ Ok sheet → IsGood (length (readings_of table text)) sheet
 unfolding sheet_of readings_of
-good table text s n e =
-    subst (λ (x : ℕ). IsGood x s n) (zero-add (length (readings_from table fresh 0 (lines_of text))))
-    (from table (length text) (lines_of text) fresh 0 0 0 s n (omega arith) (record { of = (omega arith, omega arith, inl refl) }) e)
+good table text sheet e =
+    subst (λ (x : ℕ). IsGood x sheet) (zero-add (length (readings_from table fresh 0 (lines_of text))))
+    (from table (length text) (lines_of text) fresh 0 0 0 sheet (omega arith) (record { period = tt; season = tt }) e)

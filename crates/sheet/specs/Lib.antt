@@ -1,3 +1,4 @@
+pub mod Kinds
 pub mod Lines
 pub mod Tokens
 pub mod Faults

@@ -3,7 +3,7 @@ use Rattle.std.specs.Prelude.{◌≡◌, ℕ, suc, Bool, true, false, cond, List
 use Rattle.std.proofs.Common.{arith}
 
 -- whether a byte ends a line (true), or what counts of it (false)
-unfoldable pub is_end : Bool → ℕ → Bool
+abbrev pub is_end : Bool → ℕ → Bool
 is_end newline b = cond newline (b == 10) (cond (b == 35) true (b == 13))
 
 -- how many bytes stand before the first such end

@@ -1,44 +1,75 @@
 // What the reader answers.
+ghost use Rattle.std.specs.Prelude.{◌≡◌};
+ghost use Rattle.sheet.specs.Effects.{inputs_of};
 
-// How far a number may be off: a standard deviation, or else a variance. Not given: false, true, 0.
-#[derive(Clone, Copy)]
-pub struct Spread {
-    pub given: bool,
-    pub sd: bool,
-    pub size: u64,
+// How far a number may be off.
+#[derive(Clone, Copy, Debug, PartialEq, Eq)]
+pub enum Spread {
+    Sd(u64),
+    Variance(u64),
 }
 
-// The clock at the start. Not given, or unknown: known is false.
-#[derive(Clone, Copy)]
-pub struct Start {
-    pub given: bool,
-    pub known: bool,
-    pub minus: bool,
-    pub size: u64,
-    pub spread: Spread,
+// Of the checks of each input.
+#[derive(Clone, Copy, Debug, PartialEq, Eq)]
+pub enum Noise {
+    One(Spread),
+    Two(Spread, Spread),
 }
 
-// Period 0, inputs 0, rate_keeps 0, season 0: not given.
+impl Noise {
+    pub fn inputs(self) -> u64
+        ensures { result ≡ inputs_of self }
+    {
+        match self {
+            Noise::One(_) => 1,
+            Noise::Two(..) => 2,
+        }
+    }
+}
+
+// The clock's offset or rate at the start.
+#[derive(Clone, Copy, Debug, PartialEq, Eq)]
+pub enum Start {
+    Unknown,
+    Known {
+        minus: bool,
+        size: u64,
+        spread: Spread,
+    },
+}
+
+// From the run's period `first` on, counted from 1, the next period keeps so many thousandths of the rate.
+#[derive(Clone, Copy, Debug, PartialEq, Eq)]
+pub struct Season {
+    pub first: u64,
+    pub keeps: u64,
+}
+
+// None: not given.
 #[derive(Clone, Copy)]
 pub struct Settings {
+    // Its seconds.
     pub period: u64,
-    pub inputs: u64,
-    // How many thousandths of the rate the next period keeps.
-    pub rate_keeps: u64,
-    // The run's first period, from 1, of which the next keeps so many instead.
-    pub season: u64,
-    pub season_keeps: u64,
-    pub noise: Spread,
-    pub noise_2: Spread,
-    pub radio: Spread,
-    pub wander_offset: Spread,
-    pub wander_rate: Spread,
-    pub offset: Start,
-    pub rate: Start,
+    pub noise: Noise,
+    pub radio: Option<Spread>,
+    pub wander_offset: Option<Spread>,
+    pub wander_rate: Option<Spread>,
+    pub offset: Option<Start>,
+    pub rate: Option<Start>,
+    // How many thousandths of the rate the next period keeps, but for a season.
+    pub rate_keeps: Option<u64>,
+    pub season: Option<Season>,
+}
+
+// How many periods: each has a line with checks.
+#[derive(Clone, Copy)]
+pub struct Sheet {
+    pub settings: Settings,
+    pub periods: usize,
 }
 
 // What should have stood where a text is wrong.
-#[derive(Clone, Copy)]
+#[derive(Clone, Copy, Debug, PartialEq, Eq)]
 pub enum Wanted {
     Line,
     Seconds,
@@ -57,18 +88,11 @@ pub enum Wanted {
     FewerPeriods,
 }
 
-// Lines count from 1. text[from..to] is the word that was found; empty: the end of the line, or of the text.
-#[derive(Clone, Copy)]
+// The first thing that is wrong. Lines count from 1. text[from..to] is the word that was found; empty: the end of the line, or of the text.
+#[derive(Clone, Copy, Debug, PartialEq, Eq)]
 pub struct Wrong {
     pub line: u64,
     pub from: usize,
     pub to: usize,
     pub wanted: Wanted,
-}
-
-// The settings and how many periods; or the first thing that is wrong.
-#[derive(Clone, Copy)]
-pub enum Sheet {
-    Good(Settings, usize),
-    Bad(Wrong),
 }

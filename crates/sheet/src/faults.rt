@@ -1,269 +1,165 @@
 // What is wrong with a line.
 ghost use Rattle.std.specs.Prelude.{◌≡◌, ◌<◌};
-ghost use Rattle.sheet.specs.Faults.{right, wrong_at, end_fault, is_within, period_fault, noise_fault, spread_fault, is_value, start_fault, keeps_fault, season_fault, is_given, words_fault, setting_fault, is_check, second_fault, pair_fault, checks_fault, fault_of};
+ghost use Rattle.sheet.specs.Faults.{need, end_fault, period_fault, noise_fault, spread_fault, start_fault, keeps_fault, season_fault, is_given, words_fault, setting_fault, is_for_two, pair_fault, checks_fault, fault_of};
 
-use crate::answers::{Settings, Wanted};
-use crate::kinds::{
-    END, GAP, NEGATIVE, NO_CHECK, NOISE, NUMBER, PERIOD, PLANNED, RADIO, RATE_KEEPS, SEASON,
-    SPREAD, START_OFFSET, UNKNOWN, WANDER_OFFSET, WANDER_RATE,
-};
-use crate::parts::{Fault, Token, Tokens};
+use crate::answers::{Noise, Wanted};
+use crate::kinds::{Name, Word};
+use crate::parts::{Fault, Given, Tokens};
 
-fn fine() -> Fault
-    ensures { result ≡ right }
+// Err where a word is not what it has to be.
+fn need(holds: bool, wanted: Wanted, word: u8) -> Result<(), Fault>
+    ensures { result ≡ need holds wanted word }
 {
-    Fault {
-        fine: true,
-        wanted: Wanted::Line,
-        word: 0,
+    if holds {
+        Ok(())
+    } else {
+        Err(Fault { wanted, word })
     }
 }
 
-fn wrong(wanted: Wanted, word: u8) -> Fault
-    ensures { result ≡ wrong_at wanted word }
+fn end(w: Word, at: u8) -> Result<(), Fault>
+    ensures { result ≡ end_fault w at }
 {
-    Fault {
-        fine: false,
-        wanted,
-        word,
-    }
+    need(w.is_end(), Wanted::LineEnd, at)
 }
 
-fn end(t: Token, word: u8) -> Fault
-    ensures { result ≡ end_fault t word }
-{
-    if t.kind == END {
-        return fine();
-    }
-    wrong(Wanted::LineEnd, word)
-}
-
-// Whether a word is a number from one to another.
-fn is_within(t: Token, least: u64, most: u64) -> bool
-    ensures { result ≡ is_within least most t }
-{
-    if t.kind != NUMBER {
-        return false;
-    }
-    if t.size < least {
-        return false;
-    }
-    t.size <= most
-}
-
-fn period(t: Tokens) -> Fault
+fn period(t: Tokens) -> Result<(), Fault>
     ensures { result ≡ period_fault t }
 {
-    if is_within(t.second, 1, 999999999) {
-        return end(t.third, 2);
-    }
-    wrong(Wanted::Seconds, 1)
+    need(t.second.is_within(1, 999999999), Wanted::Seconds, 1)?;
+    end(t.third, 2)
 }
 
-fn noise(t: Tokens) -> Fault
+fn noise(t: Tokens) -> Result<(), Fault>
     ensures { result ≡ noise_fault t }
 {
-    if t.second.kind != SPREAD {
-        return wrong(Wanted::SdOrVariance, 1);
+    need(t.second.is_spread(), Wanted::SdOrVariance, 1)?;
+    need(t.third.is_number(), Wanted::Size, 2)?;
+    if t.fourth.is_end() {
+        return Ok(());
     }
-    if t.third.kind != NUMBER {
-        return wrong(Wanted::Size, 2);
-    }
-    if t.fourth.kind == END {
-        return fine();
-    }
-    if t.fourth.kind != NUMBER {
-        return wrong(Wanted::Size, 3);
-    }
+    need(t.fourth.is_number(), Wanted::Size, 3)?;
     end(t.fifth, 4)
 }
 
 // A spread's two words, the first of them word `at` of the line, and the line's end.
-fn spread(a: Token, b: Token, c: Token, at: u8) -> Fault
+fn spread(a: Word, b: Word, c: Word, at: u8) -> Result<(), Fault>
     requires { at < 9 }
     ensures { result ≡ spread_fault a b c at }
 {
-    if a.kind != SPREAD {
-        return wrong(Wanted::SdOrVariance, at);
-    }
-    if b.kind != NUMBER {
-        return wrong(Wanted::Size, at + 1);
-    }
+    need(a.is_spread(), Wanted::SdOrVariance, at)?;
+    need(b.is_number(), Wanted::Size, at + 1)?;
     end(c, at + 2)
 }
 
-fn is_value(t: Token) -> bool
-    ensures { result ≡ is_value t }
-{
-    if t.kind == NUMBER {
-        return true;
-    }
-    t.kind == NEGATIVE
-}
-
-fn start(t: Tokens) -> Fault
+fn start(t: Tokens) -> Result<(), Fault>
     ensures { result ≡ start_fault t }
 {
-    if t.second.kind == UNKNOWN {
+    if t.second.is_unknown() {
         return end(t.third, 2);
     }
-    if is_value(t.second) {
-        return spread(t.third, t.fourth, t.fifth, 2);
-    }
-    wrong(Wanted::UnknownOrValue, 1)
+    need(t.second.is_value(), Wanted::UnknownOrValue, 1)?;
+    spread(t.third, t.fourth, t.fifth, 2)
 }
 
 // The thousandths that are kept, word `at` of the line, and the line's end. 0 is not taken: then nothing of a period's rate would be in the next, and a
 // rate that is unknown would pass for known.
-fn keeps(a: Token, b: Token, at: u8) -> Fault
+fn keeps(a: Word, b: Word, at: u8) -> Result<(), Fault>
     requires { at < 9 }
     ensures { result ≡ keeps_fault a b at }
 {
-    if is_within(a, 1, 999999999999999) {
-        return end(b, at + 1);
-    }
-    wrong(Wanted::Thousandths, at)
+    need(a.is_within(1, 999999999999999), Wanted::Thousandths, at)?;
+    end(b, at + 1)
 }
 
 // Period 1 is not taken: a law that holds from there on is what rate-keeps says.
-fn season(t: Tokens) -> Fault
+fn season(t: Tokens) -> Result<(), Fault>
     ensures { result ≡ season_fault t }
 {
-    if is_within(t.second, 2, 4096) {
-        return keeps(t.third, t.fourth, 2);
-    }
-    wrong(Wanted::SeasonStart, 1)
+    need(t.second.is_within(2, 4096), Wanted::SeasonStart, 1)?;
+    keeps(t.third, t.fourth, 2)
 }
 
-fn is_given(s: Settings, kind: u8) -> bool
-    ensures { result ≡ is_given s kind }
+fn is_given(g: Given, name: Name) -> bool
+    ensures { result ≡ is_given g name }
 {
-    if kind == PERIOD {
-        return s.period != 0;
+    match name {
+        Name::Period => g.period.is_some(),
+        Name::Noise => g.noise.is_some(),
+        Name::Radio => g.radio.is_some(),
+        Name::WanderOffset => g.wander_offset.is_some(),
+        Name::WanderRate => g.wander_rate.is_some(),
+        Name::StartOffset => g.offset.is_some(),
+        Name::StartRate => g.rate.is_some(),
+        Name::RateKeeps => g.rate_keeps.is_some(),
+        Name::Season => g.season.is_some(),
     }
-    if kind == NOISE {
-        return s.inputs != 0;
-    }
-    if kind == RATE_KEEPS {
-        return s.rate_keeps != 0;
-    }
-    if kind == SEASON {
-        return s.season != 0;
-    }
-    if kind == RADIO {
-        return s.radio.given;
-    }
-    if kind == WANDER_OFFSET {
-        return s.wander_offset.given;
-    }
-    if kind == WANDER_RATE {
-        return s.wander_rate.given;
-    }
-    if kind == START_OFFSET {
-        return s.offset.given;
-    }
-    s.rate.given
 }
 
 // The words after a setting's name.
-fn words(t: Tokens) -> Fault
-    ensures { result ≡ words_fault t }
+fn words(name: Name, t: Tokens) -> Result<(), Fault>
+    ensures { result ≡ words_fault name t }
 {
-    let kind = t.first.kind;
-    if kind == PERIOD {
-        return period(t);
+    match name {
+        Name::Period => period(t),
+        Name::Noise => noise(t),
+        Name::Radio | Name::WanderOffset | Name::WanderRate => {
+            spread(t.second, t.third, t.fourth, 1)
+        }
+        Name::StartOffset | Name::StartRate => start(t),
+        Name::RateKeeps => keeps(t.second, t.third, 1),
+        Name::Season => season(t),
     }
-    if kind == NOISE {
-        return noise(t);
-    }
-    if kind < START_OFFSET {
-        return spread(t.second, t.third, t.fourth, 1);
-    }
-    if kind < RATE_KEEPS {
-        return start(t);
-    }
-    if kind == RATE_KEEPS {
-        return keeps(t.second, t.third, 1);
-    }
-    season(t)
 }
 
-fn setting(s: Settings, periods: usize, t: Tokens) -> Fault
-    ensures { result ≡ setting_fault s periods t }
+fn setting(g: Given, periods: usize, name: Name, t: Tokens) -> Result<(), Fault>
+    ensures { result ≡ setting_fault g periods name t }
 {
-    if 0 < periods {
-        return wrong(Wanted::SettingsFirst, 0);
-    }
-    if is_given(s, t.first.kind) {
-        return wrong(Wanted::Once, 0);
-    }
-    words(t)
+    need(periods == 0, Wanted::SettingsFirst, 0)?;
+    need(!is_given(g, name), Wanted::Once, 0)?;
+    words(name, t)
 }
 
-fn is_check(table: bool, t: Token) -> bool
-    ensures { result ≡ is_check table t }
+fn is_for_two(noise: Option<Noise>) -> bool
+    ensures { result ≡ is_for_two noise }
 {
-    if t.kind < GAP {
-        return false;
-    }
-    if t.kind == PLANNED {
-        return table;
-    }
-    t.kind < NO_CHECK
+    matches!(noise, Some(Noise::Two(..)))
 }
 
-// What stands after the first check of a period.
-fn second(table: bool, inputs: u64, t: Tokens) -> Fault
-    ensures { result ≡ second_fault table inputs t }
+// A period's one check or two.
+fn pair(table: bool, noise: Option<Noise>, t: Tokens) -> Result<(), Fault>
+    ensures { result ≡ pair_fault table noise t }
 {
-    if t.second.kind == END {
-        return fine();
+    need(t.first.is_check(table), Wanted::Check, 0)?;
+    if t.second.is_end() {
+        return Ok(());
     }
-    if inputs == 1 {
-        return wrong(Wanted::OneCheck, 1);
-    }
-    if is_check(table, t.second) {
-        return end(t.third, 2);
-    }
-    wrong(Wanted::Check, 1)
+    need(is_for_two(noise), Wanted::OneCheck, 1)?;
+    need(t.second.is_check(table), Wanted::Check, 1)?;
+    end(t.third, 2)
 }
 
-fn pair(table: bool, inputs: u64, t: Tokens) -> Fault
-    ensures { result ≡ pair_fault table inputs t }
+fn checks(table: bool, g: Given, periods: usize, t: Tokens) -> Result<(), Fault>
+    ensures { result ≡ checks_fault table g periods t }
 {
-    if is_check(table, t.first) {
-        return second(table, inputs, t);
-    }
-    wrong(Wanted::Check, 0)
+    need(g.period.is_some(), Wanted::PeriodSetting, 0)?;
+    need(g.noise.is_some(), Wanted::NoiseSetting, 0)?;
+    need(periods < 4096, Wanted::FewerPeriods, 0)?;
+    pair(table, g.noise, t)
 }
 
-fn checks(table: bool, period: u64, inputs: u64, periods: usize, t: Tokens) -> Fault
-    ensures { result ≡ checks_fault table period inputs periods t }
+pub fn fault(table: bool, g: Given, periods: usize, t: Tokens) -> Result<(), Fault>
+    ensures { result ≡ fault_of table g periods t }
 {
-    if period == 0 {
-        return wrong(Wanted::PeriodSetting, 0);
+    match t.first {
+        Word::End => Ok(()),
+        Word::Setting(name) => setting(g, periods, name, t),
+        Word::Gap | Word::Planned | Word::Number(_) | Word::Negative(_) | Word::NoCheck => {
+            checks(table, g, periods, t)
+        }
+        Word::Sd | Word::Variance | Word::Unknown | Word::Other => Err(Fault {
+            wanted: Wanted::Line,
+            word: 0,
+        }),
     }
-    if inputs == 0 {
-        return wrong(Wanted::NoiseSetting, 0);
-    }
-    if periods < 4096 {
-        return pair(table, inputs, t);
-    }
-    wrong(Wanted::FewerPeriods, 0)
-}
-
-pub fn fault(table: bool, s: Settings, periods: usize, t: Tokens) -> Fault
-    ensures { result ≡ fault_of table s periods t }
-{
-    let kind = t.first.kind;
-    if kind == END {
-        return fine();
-    }
-    if kind < GAP {
-        return setting(s, periods, t);
-    }
-    if kind < SPREAD {
-        return checks(table, s.period, s.inputs, periods, t);
-    }
-    wrong(Wanted::Line, 0)
 }

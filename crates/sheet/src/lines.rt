@@ -1,31 +1,31 @@
 // Where a line ends, and where what counts of it ends.
-ghost use Rattle.std.specs.Prelude.{◌≡◌, ◌+◌, ◌≤◌, length, drop};
-ghost use Rattle.sheet.specs.Lines.{is_end, run_to};
+ghost use Rattle.std.specs.Prelude.{◌≡◌, ◌≤◌, length};
+ghost use Rattle.sheet.specs.Lines.{is_end, run_to, content_of};
 
-// A newline ends a line; a # or a carriage return ends what counts of it.
+// A newline ends a line; a # or a carriage return ends what counts of it. The flag picks the test, as in the definition; a closure would have to be tied
+// to it again.
 fn is_end(newline: bool, b: u8) -> bool
     ensures { result ≡ is_end newline b }
 {
     if newline {
-        return b == 10;
+        return b == b'\n';
     }
-    if b == 35 {
-        return true;
-    }
-    b == 13
+    b == b'#' || b == b'\r'
 }
 
-// The first end at or after `at`, or the end of the text.
-pub fn run_end(text: &[u8], at: usize, newline: bool) -> usize
-    requires { at ≤ length text.now }
-    ensures { (result ≡ at + run_to newline (drop at text.now)) × (result ≤ length text.now) }
+// How many bytes stand before the first end, or in the whole text.
+pub fn run(text: &[u8], newline: bool) -> usize
+    ensures value { result ≡ run_to newline text.now }
+    ensures within { result ≤ length text.now }
 {
-    let mut i = at;
-    while i < text.len() {
-        if is_end(newline, text[i]) {
-            return i;
-        }
-        i += 1;
-    }
-    i
+    text.iter().take_while(|b| !is_end(newline, **b)).count()
+}
+
+// What counts of a line.
+#[tactic(auto, unfolding(crate::specs::Lines::content_of))]
+pub fn content<'a>(line: &'a [u8]) -> &'a [u8]
+    ensures value { result.now ≡ content_of line.now }
+    ensures within { length result.now ≤ length line.now }
+{
+    &line[..run(line, false)]
 }

@@ -1,157 +1,93 @@
 // The words of a line, and what each of them is.
 ghost use Rattle.std.specs.Prelude.{◌≡◌, ◌≤◌, length};
-ghost use Rattle.sheet.specs.Tokens.{equal, setting_name, starts_check, other_word, plain_word, token_of, word_no, token_no, tokens_of};
+ghost use Rattle.sheet.specs.Tokens.{setting_name, starts_check, other_word, plain_word, token_of, word_no, token_no, tokens_of};
 
-use crate::kinds::{
-    END, GAP, NEGATIVE, NO_CHECK, NOISE, NUMBER, OTHER, PERIOD, PLANNED, RADIO, RATE_KEEPS, SEASON,
-    SPREAD, START_OFFSET, START_RATE, UNKNOWN, WANDER_OFFSET, WANDER_RATE,
-};
-use crate::parts::{Token, Tokens};
-use decimal::answers::{Read, Span};
+use crate::kinds::{Name, Word};
+use crate::parts::Tokens;
+use decimal::answers::{NotRead, Span};
 
-fn same(a: &[u8], b: &[u8]) -> bool
-    ensures { result ≡ equal a.now b.now }
-{
-    if a.len() != b.len() {
-        return false;
-    }
-    let mut i: usize = 0;
-    while i < a.len() {
-        if a[i] != b[i] {
-            return false;
-        }
-        i += 1;
-    }
-    true
-}
-
-// The setting that the word names, or 0.
-fn setting_name(w: &[u8]) -> u8
+// The setting that the word names. No `match` on byte strings: it is checked byte by byte, and of its many ways to end seven did not close, the first at
+// b"period" (`returns-in-period`): the search gave up.
+fn setting_name(w: &[u8]) -> Option<Name>
     ensures { result ≡ setting_name w.now }
 {
-    if same(w, b"period") {
-        return PERIOD;
+    if w == b"period".as_slice() {
+        Some(Name::Period)
+    } else if w == b"noise".as_slice() {
+        Some(Name::Noise)
+    } else if w == b"radio".as_slice() {
+        Some(Name::Radio)
+    } else if w == b"wander-offset".as_slice() {
+        Some(Name::WanderOffset)
+    } else if w == b"wander-rate".as_slice() {
+        Some(Name::WanderRate)
+    } else if w == b"start-offset".as_slice() {
+        Some(Name::StartOffset)
+    } else if w == b"start-rate".as_slice() {
+        Some(Name::StartRate)
+    } else if w == b"rate-keeps".as_slice() {
+        Some(Name::RateKeeps)
+    } else if w == b"season".as_slice() {
+        Some(Name::Season)
+    } else {
+        None
     }
-    if same(w, b"noise") {
-        return NOISE;
-    }
-    if same(w, b"radio") {
-        return RADIO;
-    }
-    if same(w, b"wander-offset") {
-        return WANDER_OFFSET;
-    }
-    if same(w, b"wander-rate") {
-        return WANDER_RATE;
-    }
-    if same(w, b"start-offset") {
-        return START_OFFSET;
-    }
-    if same(w, b"start-rate") {
-        return START_RATE;
-    }
-    if same(w, b"rate-keeps") {
-        return RATE_KEEPS;
-    }
-    if same(w, b"season") {
-        return SEASON;
-    }
-    0
 }
 
 // Whether the first byte is a digit, a minus or a plus.
+#[tactic(auto, unfolding(decimal::specs::Reading::is_digit))]
 fn starts_check(w: &[u8]) -> bool
     ensures { result ≡ starts_check w.now }
 {
-    if w.len() == 0 {
-        return false;
-    }
-    let b = w[0];
-    if b == 43 {
-        return true;
-    }
-    if b == 45 {
-        return true;
-    }
-    if b < 48 {
-        return false;
-    }
-    b < 58
+    matches!(w, [b'+' | b'-' | b'0'..=b'9', ..])
 }
 
 // A word that names no setting.
-fn other_word(w: &[u8]) -> Token
+fn other_word(w: &[u8]) -> Word
     ensures { result ≡ other_word w.now }
 {
-    if same(w, b"sd") {
-        return Token {
-            kind: SPREAD,
-            size: 1,
-        };
-    }
-    if same(w, b"variance") {
-        return Token {
-            kind: SPREAD,
-            size: 0,
-        };
-    }
-    if same(w, b"unknown") {
-        return Token {
-            kind: UNKNOWN,
-            size: 0,
-        };
-    }
-    if same(w, b"-") {
-        return Token { kind: GAP, size: 0 };
-    }
-    if same(w, b"+") {
-        return Token {
-            kind: PLANNED,
-            size: 0,
-        };
-    }
-    if starts_check(w) {
-        return Token {
-            kind: NO_CHECK,
-            size: 0,
-        };
-    }
-    Token {
-        kind: OTHER,
-        size: 0,
+    if w == b"sd".as_slice() {
+        Word::Sd
+    } else if w == b"variance".as_slice() {
+        Word::Variance
+    } else if w == b"unknown".as_slice() {
+        Word::Unknown
+    } else if w == b"-".as_slice() {
+        Word::Gap
+    } else if w == b"+".as_slice() {
+        Word::Planned
+    } else if starts_check(w) {
+        Word::NoCheck
+    } else {
+        Word::Other
     }
 }
 
 // A word that is no number.
-fn plain_word(w: &[u8]) -> Token
+fn plain_word(w: &[u8]) -> Word
     ensures { result ≡ plain_word w.now }
 {
-    let kind = setting_name(w);
-    if kind == 0 {
-        return other_word(w);
+    match setting_name(w) {
+        Some(name) => Word::Setting(name),
+        None => other_word(w),
     }
-    Token { kind, size: 0 }
 }
 
-fn token(w: &[u8]) -> Token
+#[tactic(auto, using(crate::proofs::Laws::stretch_all))]
+fn token(w: &[u8]) -> Word
     ensures { result ≡ token_of w.now }
 {
     match decimal::read(w, 0, w.len()) {
-        Read::Whole(minus, size) => {
-            if minus {
-                return Token {
-                    kind: NEGATIVE,
-                    size,
-                };
+        Ok(n) => {
+            if n.minus {
+                Word::Negative(n.size)
+            } else {
+                Word::Number(n.size)
             }
-            Token { kind: NUMBER, size }
         }
-        Read::Empty => Token { kind: END, size: 0 },
-        Read::TooLong => Token {
-            kind: NO_CHECK,
-            size: 0,
-        },
-        Read::NotANumber => plain_word(w),
+        Err(NotRead::Empty) => Word::End,
+        Err(NotRead::TooLong) => Word::NoCheck,
+        Err(NotRead::NotANumber) => plain_word(w),
     }
 }
 
@@ -160,37 +96,27 @@ pub fn word_no(line: &[u8], k: u8) -> Span
     ensures { (result ≡ word_no line.now k) × (result.from ≤ result.to) × (result.to ≤ length line.now) }
 {
     let mut at: usize = 0;
-    let mut i: u8 = 0;
-    while i < k {
-        let w = decimal::word(line, at);
-        at = w.to;
-        i += 1;
+    for _ in 0..k {
+        at = decimal::word(line, at).to;
     }
     decimal::word(line, at)
 }
 
-fn token_no(line: &[u8], k: u8) -> Token
+fn token_no(line: &[u8], k: u8) -> Word
     ensures { result ≡ token_no line.now k }
 {
     let w = word_no(line, k);
-    let from = w.from;
-    let to = w.to;
-    token(&line[from..to])
+    token(&line[w.from..w.to])
 }
 
 pub fn tokens(line: &[u8]) -> Tokens
     ensures { result ≡ tokens_of line.now }
 {
-    let first = token_no(line, 0);
-    let second = token_no(line, 1);
-    let third = token_no(line, 2);
-    let fourth = token_no(line, 3);
-    let fifth = token_no(line, 4);
     Tokens {
-        first,
-        second,
-        third,
-        fourth,
-        fifth,
+        first: token_no(line, 0),
+        second: token_no(line, 1),
+        third: token_no(line, 2),
+        fourth: token_no(line, 3),
+        fifth: token_no(line, 4),
     }
 }

@@ -1,11 +1,12 @@
 -- The call's three ends are the outcome's.
 use mathlib.Core.Path.{◌≡◌, refl, sym, ap, subst, ◌∙◌}
-use Prim.Native.Nat.{ℕ, zero, suc, ◌≤◌, ◌<◌}
+use Prim.Native.Nat.{ℕ}
 use native.Mathlib.Omega.{arith}
 use mathlib.Core.Bool.{Bool, true, false}
 use mathlib.Core.List.{List, map}
 use lib.ListN.{length}
 use lib.Ieee.{Float}
+use Rattle.std.specs.Prelude.{Ok, Err}
 use Rattle.definition.specs.Run.{any_of}
 use Rattle.definition.specs.Inputs.{Model, Offsets, Class, class_of, is_infinity}
 use Rattle.definition.specs.Refusals.{outside}
@@ -17,16 +18,17 @@ use Rattle.model.specs.Lengths.{Room, rooms_smoothed, by_room_smoothed}
 use Rattle.blank.specs.Stretches.{SmoothedBlank}
 use Rattle.promise.specs.declared.Answer.{Answer}
 use Rattle.backward.specs.View.{Back}
-use Rattle.promise.specs.declared.Outcome.{Outcome}
-use Rattle.promise.specs.declared.Outcome.TheVariants.{Refused, Answered}
-use Rattle.promise.specs.Calls.{answer_by, Promise, PromiseSmooth}
+use Rattle.promise.specs.declared.Refusal.{Refusal}
+use Rattle.promise.specs.Refusals.{number}
+use Rattle.promise.specs.Numbers.{numbered}
+use Rattle.promise.specs.Calls.{Outcome, Promise, PromiseSmooth}
 use Rattle.filter.specs.Ends as ends
 use Rattle.smoother.proofs.Looked.{Past, smoothed}
 
 abbrev kinds : List Float → List Class
 kinds y = map class_of y
 
--- k is the number of the first refusal before the run that the inputs and the lent outputs earn, the smoothed parts among them, 0 if none
+-- what the checks say tells the first refusal before the run that the inputs and the lent outputs earn, the smoothed parts among them
 pub record CheckedSmooth (x : Model) (o : Offsets) (y : List Float) (w : CovParts) (w' : MeanParts) (sm sc : List Float) (k : ℕ) : Type 0 where
   pub number : k ≡ ends.number x o y (roomy_smoothed x w w' sm sc)
 
@@ -46,59 +48,49 @@ by_fate x o y w w' sm sc f e = ap (λ (g : Ending). End x o y w w' sm sc g) e
 abbrev quiet : Model → List Float → Bool
 quiet x y = no_information (counts_of (cov_of x (kinds y)).0 (kinds y))
 
--- a call past them is silent if it says a number, and answered if it has an answer
-abbrev is_answer : Outcome → ℕ
-is_answer (Refused k) = 0
-is_answer (Answered a) = 1
-
-apart : {k : ℕ} {a : Answer} → Refused k ≡ Answered a → ⊥
-apart e = let z : ◌≡◌ {A = ℕ} 0 1 = ap is_answer e in omega arith
-
+-- a call past them is silent if it is refused, and answered if it has an answer
 module _ (x : Model) (o : Offsets) (y : List Float) (w : CovParts) (w' : MeanParts) {b : CovParts} {b' : MeanParts} where
-  refused_silent : (t : Bool) (i : ℕ) → Promise (ends.End x o y w w' (ending_of 0 t)) (Refused i) b b' → ending_of 0 t ≡ silent
-  unfolding ending_of cov_outcome number_of answer_by
-  refused_silent true i u = refl
-  refused_silent false i u = absurd (apart u.answer)
+  refused_silent : (t : Bool) (e : Refusal) → Promise (ends.End x o y w w' (ending_of 0 t)) (Err e) b b' → ending_of 0 t ≡ silent
+  unfolding ending_of cov_outcome number_of
+  refused_silent true e u = refl
+  refused_silent false e u = absurd (numbered e u.refusal)
 
-  answered_heard : (t : Bool) (a : Answer) → Promise (ends.End x o y w w' (ending_of 0 t)) (Answered a) b b' → ending_of 0 t ≡ answered
-  unfolding ending_of cov_outcome number_of answer_by
-  answered_heard true a u = absurd (apart (sym u.answer))
+  answered_heard : (t : Bool) (a : Answer) → Promise (ends.End x o y w w' (ending_of 0 t)) (Ok a) b b' → ending_of 0 t ≡ answered
+  unfolding ending_of cov_outcome number_of
+  answered_heard true a u = let z : ◌≡◌ {A = ℕ} 0 12 = u.refusal in absurd (omega arith)
   answered_heard false a u = refl
 
-module _ {x : Model} {o : Offsets} {y : List Float} {w : CovParts} {w' : MeanParts} {sm sc : List Float} {k : ℕ} (e : CheckedSmooth x o y w w' sm sc k) where
-  pub refused : 0 < k → PromiseSmooth (smooth_outcome x o y w w' sm sc) (Refused k) w w' sm sc
+module _ {x : Model} {o : Offsets} {y : List Float} {w : CovParts} {w' : MeanParts} {sm sc : List Float} where
+  pub refused : {e : Refusal} → CheckedSmooth x o y w w' sm sc (number e) → PromiseSmooth (smooth_outcome x o y w w' sm sc) (Err e) w w' sm sc
   unfolding End smoothed_cov smoothed_mean after
-  refused h = refused_by k e.number h
-    where
-      refused_by : (k : ℕ) → k ≡ ends.number x o y (roomy_smoothed x w w' sm sc) → 0 < k → PromiseSmooth (smooth_outcome x o y w w' sm sc) (Refused k) w w' sm sc
-      refused_by zero e h = absurd (omega arith)
-      refused_by (suc k) e h =
-          rw (by_fate x o y w w' sm sc (turned (suc k)) (ends.is_turned x o y (roomy_smoothed x w w' sm sc) k e)) (record { filter = ends.turned_away x o y w w' k; mean = refl; cov = refl })
+  refused {e} h =
+      rw (by_fate x o y w w' sm sc (turned (number e)) (ends.is_turned x o y (roomy_smoothed x w w' sm sc) e h.number)) (record { filter = ends.turned_away x o y w w' e; mean = refl; cov = refl })
 
-  pub past : k ≤ 0 → Past x o (length y) w w' sm sc
-  past h = record { accepted = accepted x o (length y) (any_of is_infinity (kinds y)) (roomy_smoothed x w w' sm sc) (sym (ends.none h e.number)) }
+  module _ (none : CheckedSmooth x o y w w' sm sc 0) where
+    pub past : Past x o (length y) w w' sm sc
+    past = record { accepted = accepted x o (length y) (any_of is_infinity (kinds y)) (roomy_smoothed x w w' sm sc) (sym none.number) }
 
-  -- past the checks: r, b and b' are what the filter's run left
-  module _ (none : k ≤ 0) {r : Outcome} {b : CovParts} {b' : MeanParts} (u : ends.Run x o y w w' r b b') where
-    fated : ending x o (kinds y) (roomy_smoothed x w w' sm sc) ≡ ending_of 0 (quiet x y)
-    fated = ends.by_number x o y (roomy_smoothed x w w' sm sc) 0 (ends.none none e.number)
+    -- past the checks: r, b and b' are what the filter's run left
+    module _ {r : Outcome} {b : CovParts} {b' : MeanParts} (u : ends.Run x o y w w' r b b') where
+      fated : ending x o (kinds y) (roomy_smoothed x w w' sm sc) ≡ ending_of 0 (quiet x y)
+      fated = ends.by_number x o y (roomy_smoothed x w w' sm sc) 0 none.number
 
-    ended : {r' : Outcome} → r ≡ r' → ends.Run x o y w w' r' b b'
-    ended g = subst (λ (q : Outcome). ends.Run x o y w w' q b b') g u
+      ended : {r' : Outcome} → r ≡ r' → ends.Run x o y w w' r' b b'
+      ended g = subst (λ (q : Outcome). ends.Run x o y w w' q b b') g u
 
-    module _ {sm' sc' : List Float} where
-      pub silenced : {i : ℕ} → r ≡ Refused i → SmoothedBlank x.m x.n sm sm' sc sc' → PromiseSmooth (smooth_outcome x o y w w' sm sc) (Refused i) b b' sm' sc'
-      unfolding End smoothed_cov smoothed_mean after smoothed_cov_need smoothed_mean_need
-      silenced {i} g s =
-          let h = refused_silent x o y w w' (quiet x y) i (ended g) in
-          rw (by_fate x o y w w' sm sc silent (fated ∙ h)) (record { filter = subst (λ (f : Ending). Promise (ends.End x o y w w' f) (Refused i) b b') h (ended g); mean = s.mean; cov = s.cov })
+      module _ {sm' sc' : List Float} where
+        pub silenced : {e : Refusal} → r ≡ Err e → SmoothedBlank x.m x.n sm sm' sc sc' → PromiseSmooth (smooth_outcome x o y w w' sm sc) (Err e) b b' sm' sc'
+        unfolding End smoothed_cov smoothed_mean after smoothed_cov_need smoothed_mean_need
+        silenced {e} g s =
+            let h = refused_silent x o y w w' (quiet x y) e (ended g) in
+            rw (by_fate x o y w w' sm sc silent (fated ∙ h)) (record { filter = subst (λ (f : Ending). Promise (ends.End x o y w w' f) (Err e) b b') h (ended g); mean = s.mean; cov = s.cov })
 
-      pub heard : {a : Answer} → r ≡ Answered a → Back x.p x.m x.n a.d_diffuse x.z_once x.z_list x.t_once x.t_list (b' predMean) (b.part predCov) (b.part pred_inf) (b' innovations) (flat_in b.kinds (b.part fStar) (b.part fInf) (b.part mStar) (b.part mInf)) sm sm' sc sc'
-          → PromiseSmooth (smooth_outcome x o y w w' sm sc) (Answered a) b b' sm' sc'
-      unfolding End smoothed_cov smoothed_mean after
-      heard {a} g k =
-          let h = answered_heard x o y w w' (quiet x y) a (ended g) in
-          let v : Promise (ends.End x o y w w' answered) (Answered a) b b' = subst (λ (f : Ending). Promise (ends.End x o y w w' f) (Answered a) b b') h (ended g) in
-          let t = (past none).accepted in
-          let s = smoothed x o y w w' t.inputs.p_star t.inputs.a1 t.readings v k in
-          rw (by_fate x o y w w' sm sc answered (fated ∙ h)) (record { filter = v; mean = s.mean; cov = s.cov })
+        pub heard : {a : Answer} → r ≡ Ok a → Back x.p x.m x.n a.d_diffuse x.z_once x.z_list x.t_once x.t_list (b' predMean) (b.part predCov) (b.part pred_inf) (b' innovations) (flat_in b.kinds (b.part fStar) (b.part fInf) (b.part mStar) (b.part mInf)) sm sm' sc sc'
+            → PromiseSmooth (smooth_outcome x o y w w' sm sc) (Ok a) b b' sm' sc'
+        unfolding End smoothed_cov smoothed_mean after
+        heard {a} g k =
+            let h = answered_heard x o y w w' (quiet x y) a (ended g) in
+            let v : Promise (ends.End x o y w w' answered) (Ok a) b b' = subst (λ (f : Ending). Promise (ends.End x o y w w' f) (Ok a) b b') h (ended g) in
+            let t = past.accepted in
+            let s = smoothed x o y w w' t.inputs.p_star t.inputs.a1 t.readings v k in
+            rw (by_fate x o y w w' sm sc answered (fated ∙ h)) (record { filter = v; mean = s.mean; cov = s.cov })

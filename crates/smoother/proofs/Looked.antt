@@ -4,11 +4,12 @@ use Prim.Native.Nat.{ℕ, ◌*◌}
 use mathlib.Core.List.{List, map}
 use lib.ListN.{length, length-map}
 use lib.Ieee.{Float}
+use Rattle.std.specs.Prelude.{Ok}
 use Rattle.definition.specs.Run.{join, count, lay}
 use Rattle.definition.specs.Smooth.{smooth_cov, smooth_mean}
 use Rattle.definition.specs.Parts.{CovPart, MeanPart, predCov, pred_inf, fStar, fInf, mStar, mInf, predMean, innovations}
 use Rattle.definition.specs.Inputs.{Model, Offsets, class_of, frame_of}
-use Rattle.definition.specs.Outcome.{CovParts, MeanParts, answered, number_of, after, counts_in, kinds_written, cov_written, mean_written, smoothed_cov_need, smoothed_mean_need, roomy_smoothed, cov_of, mean_of, counts_of, cov_outcome, mean_outcome}
+use Rattle.definition.specs.Outcome.{CovParts, MeanParts, answered, after, counts_in, kinds_written, cov_written, mean_written, smoothed_cov_need, smoothed_mean_need, roomy_smoothed, cov_of, mean_of, counts_of, cov_outcome, mean_outcome}
 use Rattle.laws.specs.Accepted.{Accepted, RoomySmoothed, room_smoothed, as_long}
 use Rattle.laws.specs.Any.{both_true}
 use Rattle.laws.specs.Flat.{flat_in, Flat, look_of, mean_look_of, looks, mean_looks}
@@ -16,9 +17,7 @@ use Rattle.laws.specs.Passes.{Laid}
 use Rattle.blank.specs.Stretches.{SmoothedRoom}
 use Rattle.forward.specs.View.{Fit}
 use Rattle.promise.specs.declared.Answer.{Answer}
-use Rattle.promise.specs.declared.Outcome.{Outcome}
-use Rattle.promise.specs.declared.Outcome.TheVariants.{Refused, Answered}
-use Rattle.promise.specs.Calls.{answer_by, Promise}
+use Rattle.promise.specs.Calls.{Promise}
 use Rattle.filter.specs.Ends as ends
 use Rattle.cov_back.specs.Call as cov-call
 use Rattle.laws.specs.Looked as cov_looked
@@ -75,15 +74,10 @@ pub record Smoothed (x : Model) (o : Offsets) (y : List Float) (sm₀ sm sc₀ s
   pub mean : sm ≡ lay (join (smooth_mean (frame_of x) (cov_of x (map class_of y)).0 (mean_of x o (cov_of x (map class_of y)).0 y).0)) sm₀
   pub cov : sc ≡ lay (join (smooth_cov (frame_of x) (cov_of x (map class_of y)).0)) sc₀
 
--- the diffuse periods that an answer counts
-abbrev diffuse_in : Outcome → ℕ
-diffuse_in (Refused k) = 0
-diffuse_in (Answered a) = a.d_diffuse
-
-module _ (x : Model) (o : Offsets) (y : List Float) (w : CovParts) (w' : MeanParts) {a : Answer} {b : CovParts} {b' : MeanParts} (star : length x.p_star ≡ x.m * x.m) (start : length o.a1 ≡ x.m) (readings : length y ≡ x.n * x.p) (u : Promise (ends.End x o y w w' answered) (Answered a) b b') where
+module _ (x : Model) (o : Offsets) (y : List Float) (w : CovParts) (w' : MeanParts) {a : Answer} {b : CovParts} {b' : MeanParts} (star : length x.p_star ≡ x.m * x.m) (start : length o.a1 ≡ x.m) (readings : length y ≡ x.n * x.p) (u : Promise (ends.End x o y w w' answered) (Ok a) b b') where
   diffuse_is : a.d_diffuse ≡ count (λ c. c.diffuse) (cov_of x (map class_of y)).0
-  unfolding cov_outcome answer_by number_of counts_in counts_of
-  diffuse_is = ap diffuse_in u.answer
+  unfolding cov_outcome counts_in counts_of
+  diffuse_is = ap (λ (b : Answer). b.d_diffuse) u.answer
 
   kinds_laid : Laid (length (kinds_written (cov_of x (map class_of y)))) (kinds_written (cov_of x (map class_of y))) w.kinds b.kinds
   unfolding cov_outcome after

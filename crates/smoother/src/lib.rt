@@ -1,28 +1,17 @@
 // smoother.rs: the smoother's call: its checks, the filter's run (crates/filter), then both passes back (crates/backward).
 #![tactic(auto)]
 
-ghost use Rattle.promise.specs.Lent.{given, lent_smooth};
+ghost use Rattle.promise.specs.Lent.{given_in, lent_smooth};
 ghost use Rattle.promise.specs.Calls.{Smoothed};
 
-// The smoother's call: the filter's with two outputs more. It ends with an answer whatever it is handed: refused with its number, or answered.
-pub fn smooth_univariate<'a>(
-    p: usize,
-    m: usize,
-    r: usize,
-    n: usize,
-    z: &'a [f64],
-    zs: &'a [f64],
-    repeats: bool,
-    h: &[f64],
-    t: &'a [f64],
-    ts: &'a [f64],
-    rr: &[f64],
-    q: &[f64],
-    c: &[f64],
-    d: &[f64],
-    a1: &[f64],
-    p_star: &[f64],
-    flags: &[u8],
+use mean_back::Predicted;
+use model::lengths::OutputLengths;
+use promise::{Answer, Decisions, Model, Offsets, Refusal};
+
+// The smoother's call: the filter's with two outputs more. It ends whatever it is handed: with an answer, or why it is refused.
+pub fn smooth_univariate(
+    x: &Model,
+    o: &Offsets,
     y: &[f64],
     pred_mean: &mut [f64],
     pred_cov: &mut [f64],
@@ -37,11 +26,8 @@ pub fn smooth_univariate<'a>(
     m_inf: &mut [f64],
     sm_mean: &mut [f64],
     sm_cov: &mut [f64],
-) -> promise::Outcome
-    ensures { Smoothed
-        (given p m r n
-        z.now zs.now repeats h.now t.now ts.now rr.now q.now
-        c.now d.now a1.now p_star.now flags.now y.now)
+) -> Result<Answer, Refusal>
+    ensures { Smoothed (given_in x.now o.now y.now)
         (lent_smooth
         pred_mean.old pred_cov.old pred_inf.old
         filt_mean.old filt_cov.old
@@ -57,64 +43,38 @@ pub fn smooth_univariate<'a>(
         sm_mean.new sm_cov.new) }
 {
     // the refusals before the run: the two smoothed parts count for refusal 2 too
-    let room = model::lengths::room(
-        p,
-        m,
-        r,
-        n,
-        pred_mean.len(),
-        pred_cov.len(),
-        pred_inf.len(),
-        filt_mean.len(),
-        filt_cov.len(),
-        kinds.len(),
-        v.len(),
-        f_star.len(),
-        f_inf.len(),
-        m_star.len(),
-        m_inf.len(),
+    let have = OutputLengths::of(
+        pred_mean, pred_cov, pred_inf, filt_mean, filt_cov, kinds, v, f_star, f_inf, m_star, m_inf,
     );
-    let both = model::lengths::room_smoothed(p, m, r, n, room, sm_mean.len(), sm_cov.len());
+    let room = model::lengths::room(x, have);
+    let both = model::lengths::room_smoothed(x, room, sm_mean.len(), sm_cov.len());
     let mut rqr = [0.0; 64];
-    let k = model::refusal(
-        p, m, r, n, z, zs, repeats, h, t, ts, rr, q, c, d, a1, p_star, flags, y, both, &mut rqr,
+    model::refusal(x, o, y, both, &mut rqr)?;
+    let outcome = filter::run(
+        x, &rqr, o, y, pred_mean, pred_cov, pred_inf, filt_mean, filt_cov, kinds, v, f_star, f_inf,
+        m_star, m_inf,
     );
-    if 0 < k {
-        return promise::Outcome::Refused(k);
-    }
-    // what it refuses here is refusal 12
-    let o = filter::run(
-        p, m, r, n, z, zs, repeats, h, t, ts, rr, q, &rqr, c, d, a1, p_star, flags, y, pred_mean,
-        pred_cov, pred_inf, filt_mean, filt_cov, kinds, v, f_star, f_inf, m_star, m_inf,
-    );
-    match o {
-        promise::Outcome::Refused(k) => {
-            blank::smoothed(sm_mean, sm_cov, p, m, n);
-            promise::Outcome::Refused(k)
+    match outcome {
+        // what it refuses here is refusal 12
+        Err(e) => {
+            blank::smoothed(sm_mean, sm_cov, x.p, x.m, x.n);
+            Err(e)
         }
-        promise::Outcome::Answered(a) => {
-            backward::back(
-                z,
-                zs,
-                t,
-                ts,
-                pred_mean,
-                pred_cov,
-                pred_inf,
+        Ok(a) => {
+            let left = Decisions {
                 kinds,
-                v,
                 f_star,
                 f_inf,
                 m_star,
                 m_inf,
-                sm_mean,
-                sm_cov,
-                a.d_diffuse,
-                p,
-                m,
-                n,
-            );
-            promise::Outcome::Answered(a)
+            };
+            let pred = Predicted {
+                mean: pred_mean,
+                cov: pred_cov,
+                inf: pred_inf,
+            };
+            backward::back(x, &pred, &left, v, sm_mean, sm_cov, a.d_diffuse);
+            Ok(a)
         }
     }
 }

@@ -24,23 +24,18 @@ use Rattle.dense.specs.Views.{vec, mat, rect}
 use Rattle.dense.proofs.Laws.{lt_or_le, rect_by, rect_at, row-at, row_before, row_after, length-row}
 use Rattle.dense.proofs.Laws as dense
 use Rattle.star.specs.Views.{factor}
-use Rattle.star.specs.Workspace.{picked, held_in, Rows, Placed, Grew, left_free, with_row, flip, exchanged, Renumbered}
+use Rattle.star.specs.Workspace.{picked, held_in, Rows, Placed, Grew, left_by, left_free, with_row, flip, exchanged, Renumbered}
 
 -- ---- entries that a column leaves, and a row that is replaced
 
-module _ (k : ℕ) (u : List Bool) (col a : List Float) (i j : ℕ) (h : i < k) {x : Float} (e : x ≡ ent k a i j) where
-  pub left_used : get_or u i false ≡ true → x ≡ left_free k (take k u) col a i j
-  unfolding left_free
-  left_used t = rw (get_or-take k u i false h, t) e
+module _ (k : ℕ) (u : List Bool) (col : List Float) (i j : ℕ) (h : i < k) (x : Float) where
+  pub left_used : get_or u i false ≡ true → x ≡ left_by (take k u) col x i j
+  unfolding left_by
+  left_used t = rw (get_or-take k u i false h, t)
 
-  pub left_free_lem : {y z : Float} → get_or u i false ≡ false → y ≡ at col i → z ≡ at col j → x ⊖ y ⊗ z ≡ left_free k (take k u) col a i j
-  unfolding left_free left_at
-  left_free_lem t e1 e2 = rw (get_or-take k u i false h, t, sym e, sym e1, sym e2)
-
--- an entry that is read as it was
-pub left_entry : (k : ℕ) (u : List Bool) (col a b : List Float) (i j : ℕ) → ent k a i j ≡ ent k b i j → left_free k u col a i j ≡ left_free k u col b i j
-unfolding left_free left_at
-left_entry k u col a b i j e = cc
+  pub left_over : {y z : Float} → get_or u i false ≡ false → y ≡ at col i → z ≡ at col j → x ⊖ y ⊗ z ≡ left_by (take k u) col x i j
+  unfolding left_by
+  left_over t e1 e2 = rw (get_or-take k u i false h, t, sym e1, sym e2)
 
 pub row_set : (k i : ℕ) (x l out : List Float) → i < k → k * k ≤ length l → out ≡ dense.row (λ j. at (vec k x) j) (i * k) k l
     → mat k out ≡ matrix k k (with_row k i (vec k x) (mat k l))
@@ -77,18 +72,23 @@ module _ (i j x : ℕ) where
   unfolding flip
   flip_third n o = rw (ne_eqb x i n, ne_eqb x j o)
 
-module _ (i j : ℕ) (o : List ℕ) where
-  abbrev renamed : ℕ → ℕ
-  renamed x = flip i j (get_or o x 0)
+abbrev pub renamed : ℕ → ℕ → List ℕ → ℕ → ℕ
+renamed i j o x = flip i j (get_or o x 0)
 
-  pub renumber_next : (out : List ℕ) (l : ℕ) {v : ℕ} → out ≡ dense.row renamed 0 l o → v ≡ flip i j (get_or out l 0) → set out l v ≡ dense.row renamed 0 (l + 1) o
-  renumber_next out l {v} e h = dense.vec_next renamed l o out v e (h ∙ ap (flip i j) (ap (λ (y : List ℕ). get_or y l 0) e ∙ row_after renamed 0 l o l 0 (omega arith)))
+pub renumber_next : (i j : ℕ) (o out : List ℕ) (l : ℕ) {v : ℕ} → out ≡ dense.row (renamed i j o) 0 l o → v ≡ flip i j (get_or out l 0) → set out l v ≡ dense.row (renamed i j o) 0 (l + 1) o
+renumber_next i j o out l {v} e h =
+    dense.vec_next (renamed i j o) l o out v e (h ∙ ap (flip i j) (ap (λ (y : List ℕ). get_or y l 0) e ∙ row_after (renamed i j o) 0 l o l 0 (omega arith)))
 
-  pub renumber_end : (n : ℕ) (out : List ℕ) → n ≤ length o → out ≡ dense.row renamed 0 n o → Renumbered n i j o out
-  renumber_end n out h e = record {
-    room = ap length e ∙ length-row renamed 0 n o;
-    flipped = λ l b. ap (λ (y : List ℕ). get_or y l 0) e ∙ row-at renamed 0 n o l 0 l (omega arith) b (omega arith);
-  }
+pub renumber_end : (i j n : ℕ) (o out : List ℕ) → n ≤ length o → out ≡ dense.row (renamed i j (take n o)) 0 n (take n o) → Renumbered n i j o (out ++ drop n o)
+renumber_end i j n o out h e =
+    let k = length-take-le n o h in
+    let m : length out ≡ length (take n o) = ap length e ∙ length-row (renamed i j (take n o)) 0 n (take n o) in
+    record {
+      room = length-append out (drop n o) ∙ omega (arith, m, length-append (take n o) (drop n o), ap length (take-append-drop n o));
+      flipped = λ l b.
+          get_or-append out (drop n o) 0 l (omega (arith, m, k)) ∙ ap (λ (y : List ℕ). get_or y l 0) e
+          ∙ row-at (renamed i j (take n o)) 0 n (take n o) l 0 l (omega arith) b (omega (arith, k)) ∙ ap (flip i j) (get_or-take n o l 0 b);
+    }
 
 -- ---- one column more
 

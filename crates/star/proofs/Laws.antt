@@ -1,7 +1,7 @@
 -- The star root: what the calls give, put together, over plain variables. How a matrix becomes its root is in InPlace.
 use Prim.Native.Nat.{ℕ, zero, suc, ◌+◌, ◌≤◌, ◌<◌}
 use mathlib.Core.Path.{◌≡◌, refl, sym, ap, ◌∙◌, subst}
-use mathlib.Core.Bool.{Bool, true, false, not, ◌||◌, cond}
+use mathlib.Core.Bool.{Bool, true, false, not, cond}
 use mathlib.Core.List.{List, [], ◌∷◌, ◌++◌}
 use mathlib.Core.Logic.{⊎_elim}
 use native.Mathlib.Omega.{arith}
@@ -9,10 +9,11 @@ use native.Mathlib.Numerals.{add-one}
 use lib.ListN.{take, get_or, set, length, length-append, get_or-append}
 use lib.Seq.{get_or-take, get_or-append-add, take-suc-set}
 use lib.Ieee.{Float}
-use Rattle.definition.specs.Num.{◌>ᶠ◌, ◌⊕◌, ◌⊗◌, ◌⊘◌, ent, at, 0ᶠ, 1ᶠ, is_zero, matrix, tabulate}
+use Rattle.definition.specs.Num.{◌>ᶠ◌, ◌⊕◌, ◌⊗◌, ◌⊘◌, ent, at, 0ᶠ, 1ᶠ, is_zero, tabulate}
 use Rattle.definition.specs.Dense as Dense
 use Rattle.definition.specs.Dense.{dot}
 use Rattle.definition.specs.Root.{sqrt_of}
+use Rattle.definition.specs.Run.{any_to}
 use Rattle.definition.specs.Star as def
 use Rattle.definition.specs.Star.{
   Pivot,
@@ -39,9 +40,9 @@ use Rattle.definition.specs.Star.{
   again_of,
   again_on,
 }
-use Rattle.dense.specs.Views.{vec, mat, rect}
+use Rattle.dense.specs.Views.{vec, mat}
 use Rattle.dense.proofs.Laws.{lt_or_le}
-use Rattle.star.specs.Views.{Found, Joined, States, Sound, Downdated, Replayed, factor, places_of, projected_at}
+use Rattle.star.specs.Views.{Found, Joined, States, Sound, Downdated, Replayed, Shrunk, cols_of, factor, places_of, projected_at}
 use Rattle.star.specs.declared.StarRoot.{StarRoot}
 use Rattle.star.specs.declared.Support.{Support}
 
@@ -77,54 +78,46 @@ module _ (k : ℕ) (a : List Float) (u : List Bool) (j : ℕ) (sd : Float) (i : 
   column_free e g = rw (get_or-take k u i false h, e, sym g)
 
 -- F by the root, and Potter's update
-module _ (r : StarRoot) (z : List Float) (h : Float) {zs u : List Float} {d : Float} (on-is : zs ≡ on r.count (places_of r) z)
-    (u-is : u ≡ tabulate r.rank (u_at r.count (rect r.rank r.count r.cols) zs)) (d-is : d ≡ dot r.rank u u) where
+module _ (r : StarRoot) (z : List Float) (h : Float) {zs u : List Float} {d : Float} (on-is : zs ≡ on r.support.count (places_of r) z)
+    (u-is : u ≡ tabulate r.rank (u_at r.support.count (cols_of r) zs)) (d-is : d ≡ dot r.rank u u) where
   pub projected_at_lem : d ⊕ h ≡ projected_at r z h
   unfolding projected_at projected f_of u_of
   projected_at_lem = rw (sym on-is, sym u-is, sym d-is)
 
   pub downdated_no : (d ⊕ h >ᶠ 0ᶠ) ≡ false → Downdated z h r r
   unfolding downdate f_of u_of
-  downdated_no t = record { support = refl; count = refl; rank = refl; root = rw (sym on-is, sym u-is, sym d-is, t) }
+  downdated_no t = record { support = refl; rank = refl; root = rw (sym on-is, sym u-is, sym d-is, t) }
 
-  pub downdated_yes : {w c : List Float} {s : Float} → (d ⊕ h >ᶠ 0ᶠ) ≡ true → w ≡ tabulate r.count (w_at r.count r.rank (rect r.rank r.count r.cols) u)
-      → s ≡ sqrt_of (h ⊗ (d ⊕ h)) → rect r.rank r.count c ≡ matrix r.rank r.count (shrunk_at r.count (1ᶠ ⊘ (d ⊕ h ⊕ s)) u w (rect r.rank r.count r.cols))
-      → Downdated z h r (record { support = r.support; count = r.count; cols = c; rank = r.rank })
+  pub downdated_yes : {w : List Float} {s : Float} {t : StarRoot} → (d ⊕ h >ᶠ 0ᶠ) ≡ true → w ≡ tabulate r.support.count (w_at r.support.count r.rank (cols_of r) u)
+      → s ≡ sqrt_of (h ⊗ (d ⊕ h)) → Shrunk (1ᶠ ⊘ (d ⊕ h ⊕ s)) u w r t → Downdated z h r t
   unfolding downdate f_of u_of w_of shrunk
-  downdated_yes t e1 e2 e3 = record { support = refl; count = refl; rank = refl; root = rw (sym on-is, sym u-is, sym d-is, t, sym e1, sym e2, e3) }
+  downdated_yes t e1 e2 e3 = record { support = e3.support; rank = e3.rank; root = rw (sym on-is, sym u-is, sym d-is, t, sym e1, sym e2, e3.rank, e3.cols) }
 
 -- the support
-pub loads_none : (m : ℕ) (z : List Float) (j : ℕ) → false ≡ loads m z j 0
-unfolding loads
-loads_none m z j = refl
+pub loads_any : (m : ℕ) (z : List Float) (j p : ℕ) → any_to p (λ i. not (is_zero (ent m z i j))) ≡ loads m z j p
+unfolding any_to loads
+loads_any m z j zero = refl
+loads_any m z j (suc p) = rw (loads_any m z j p) refl
 
-pub loads_next : (m : ℕ) (z : List Float) (j i : ℕ) (b r : Bool) (x : Float) → b ≡ loads m z j i → x ≡ ent m z i j → r ≡ (b || not (is_zero x)) → r ≡ loads m z j (i + 1)
-unfolding loads
-loads_next m z j i b r x e h g = rw add-one (cc)
-
-pub joined_yes : (s : Support) (j : ℕ) {yes : Bool} → yes ≡ true → s.count < length s.places → Joined s j yes (record { places = set s.places s.count j; count = s.count + 1 })
-joined_yes s j e h = record { count = rw e; places = rw (e, add-one) (take-suc-set s.places s.count j h) }
-
-pub joined_no : (s : Support) (j : ℕ) {yes : Bool} → yes ≡ false → Joined s j yes s
-joined_no s j e = record { count = rw e; places = rw e }
+pub joined : (s : Support) (j : ℕ) → s.count < length s.places → Joined s j (record { places = set s.places s.count j; count = s.count + 1 })
+joined s j h = record { count = refl; places = rw add-one (take-suc-set s.places s.count j h) }
 
 module _ (p m : ℕ) (z : List Float) where
   pub found_none : (s : Support) → s.count ≡ 0 → Found p m 0 z s
   unfolding support_to
   found_none s e = record { few = omega arith; count = e; places = rw e }
 
-  pub found_next : (j : ℕ) (s t : Support) (yes : Bool) → Found p m j z s → yes ≡ loads m z j p → Joined s j yes t → Found p m (j + 1) z t
+  pub found_more : (j : ℕ) (s t : Support) → Found p m j z s → loads m z j p ≡ true → Joined s j t → Found p m (j + 1) z t
   unfolding support_to
-  found_next j s t true f e h = record {
+  found_more j s t f e h = record {
     few = omega (arith, h.count, f.few);
-    count = rw (add-one, sym e) (h.count ∙ ap (λ (n : ℕ). n + 1) f.count ∙ sym (length-append (support_to p m z j) (j ∷ [])));
-    places = rw (add-one, sym e) (h.places ∙ ap (λ (l : List ℕ). l ++ (j ∷ [])) f.places);
+    count = rw (add-one, e) (h.count ∙ ap (λ (n : ℕ). n + 1) f.count ∙ sym (length-append (support_to p m z j) (j ∷ [])));
+    places = rw (add-one, e) (h.places ∙ ap (λ (l : List ℕ). l ++ (j ∷ [])) f.places);
   }
-  found_next j s t false f e h = record {
-    few = omega (arith, h.count, f.few);
-    count = rw (add-one, sym e) (h.count ∙ f.count);
-    places = rw (add-one, sym e) (h.places ∙ f.places);
-  }
+
+  pub found_same : (j : ℕ) (s : Support) → Found p m j z s → loads m z j p ≡ false → Found p m (j + 1) z s
+  unfolding support_to
+  found_same j s f e = record { few = omega (arith, f.few); count = rw (add-one, e) f.count; places = rw (add-one, e) f.places }
 
   pub found_end : (j : ℕ) (s : Support) → Found p m j z s → j ≤ m → m ≤ j → Found p m m z s
   found_end j s f a b = let e : j ≡ m = omega arith in subst (λ (x : ℕ). Found p m x z s) e f
@@ -171,16 +164,16 @@ pub downdated_by : {z row : List Float} {h g : Float} {r s : StarRoot} → z ≡
 downdated_by e1 e2 d = rw (e1, e2) at d
 
 -- a root that is followed stays sound
-pub sound_still : (m : ℕ) (r s : StarRoot) → Sound m r → s.support ≡ r.support → s.count ≡ r.count → s.rank ≡ r.rank → Sound m s
-sound_still m r s w e1 e2 e3 = record { support = rw (e1, e2) w.support; low = rw (e2, e3) w.low }
+pub sound_still : (m : ℕ) (r s : StarRoot) → Sound m r → s.support ≡ r.support → s.rank ≡ r.rank → Sound m s
+sound_still m r s w e1 e2 = record { support = rw e1 w.support; low = rw (e1, e2) w.low }
 
 pub sound_by : (m : ℕ) (z : List Float) (h : Float) (r s : StarRoot) → Sound m r → Downdated z h r s → Sound m s
-sound_by m z h r s w d = sound_still m r s w d.support d.count d.rank
+sound_by m z h r s w d = sound_still m r s w d.support d.rank
 
 -- the root as it is built
 pub built : (p m : ℕ) (z h pre : List Float) (s : Support) (a cols : List Float) (rank : ℕ) → m ≤ 8 → Found p m m z s
     → a ≡ sub m s.count (take s.count s.places) pre → factor s.count rank cols ≡ def.pivoted_root s.count a → rank ≤ s.count
-    → Replayed p m z h pre [] (record { support = s.places; count = s.count; cols = cols; rank = rank })
+    → Replayed p m z h pre [] (record { support = s; cols = cols; rank = rank })
 unfolding replay
 built p m z h pre s a cols rank n found e1 e2 low = record {
   sound = record { support = states_of p m z s found n; low = low };
@@ -197,8 +190,8 @@ module _ (p m : ℕ) (z h pre : List Float) (taken : List ℕ) (r : StarRoot) (w
 
   pub kept_next : (i : ℕ) (s : StarRoot) → Downdated (Dense.row m z i) (ent p h i i) r s → Replayed p m z h pre (taken ++ (i ∷ [])) s
   kept_next i s d = record {
-    sound = sound_still m r s w.sound d.support d.count d.rank;
-    count = d.count ∙ w.count;
-    places = rw (d.support, d.count) w.places;
-    root = rw (d.support, d.count) (d.root ∙ ap (λ (x : Root). downdate r.count x (on r.count (places_of r) (Dense.row m z i)) (ent p h i i)) w.root ∙ sym (replay_snoc p m z h (places_of r) r.count _ taken i));
+    sound = sound_still m r s w.sound d.support d.rank;
+    count = ap (λ (x : Support). x.count) d.support ∙ w.count;
+    places = rw d.support w.places;
+    root = rw d.support (d.root ∙ ap (λ (x : Root). downdate r.support.count x (on r.support.count (places_of r) (Dense.row m z i)) (ent p h i i)) w.root ∙ sym (replay_snoc p m z h (places_of r) r.support.count _ taken i));
   }

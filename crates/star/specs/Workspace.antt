@@ -1,7 +1,7 @@
 -- The workspace of `pivoted_root`: one matrix that holds what is left and the columns so far. Entries in used rows and columns are never read again
 -- (laws Unread), so a column is kept in its pivot's row.
 use Rattle.std.specs.Prelude.{ℕ, ◌+◌, ◌≤◌, ◌<◌, ◌≡◌, Bool, true, false, cond, List, eqb, get_or, length, Float}
-use Rattle.definition.specs.Num.{ent, at, matrix}
+use Rattle.definition.specs.Num.{ent, at, matrix, ◌⊖◌, ◌⊗◌}
 use Rattle.definition.specs.Star.{Growing, left_at, grow}
 use Rattle.laws.specs.Unread.{Alike}
 
@@ -32,7 +32,10 @@ pub record Grew (k rank : ℕ) (used : List Bool) (order : List ℕ) (w : List F
   pub placed : Placed k rank' used' order'
   pub grows : Alike k (grow k (held_in k used order rank w)) (held_in k used' order' rank' w')
 
--- what a column leaves at (i, j): a row that is used up stays, since it holds a column
+-- what a column leaves of x at (i, j), and of a matrix: a row that is used up stays, since it holds a column
+unfoldable pub left_by : List Bool → List Float → Float → ℕ → ℕ → Float
+left_by used col x i j = cond (get_or used i false) x (x ⊖ at col i ⊗ at col j)
+
 unfoldable pub left_free : ℕ → List Bool → List Float → List Float → ℕ → ℕ → Float
 left_free k used col a i j = cond (get_or used i false) (ent k a i j) (left_at k a col i j)
 

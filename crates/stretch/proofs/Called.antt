@@ -1,16 +1,17 @@
 -- The call's steps: what each may rely on, and what they come to.
-use mathlib.Core.Path.{◌≡◌, sym, ap, ap₂, subst, ◌∙◌}
-use Prim.Native.Nat.{ℕ, ◌+◌, ◌*◌, ◌≤◌, ◌<◌}
+use mathlib.Core.Path.{◌≡◌, sym, ap, subst, ◌∙◌}
+use Prim.Native.Nat.{ℕ, ◌+◌, ◌*◌, ◌≤◌}
 use native.Mathlib.Omega.{arith}
 use mathlib.Core.Bool.{Bool, true, false, ◌&&◌, ◌||◌, not, cond}
 use mathlib.Core.List.{List, map}
 use lib.ListN.{length}
 use lib.Dec.{eqb, leb}
 use lib.Ieee.{Float}
+use Rattle.std.specs.Prelude.{Err}
 use Rattle.definition.specs.Run.{any_of, lay}
 use Rattle.definition.specs.Inputs.{Model, Offsets, class_of, is_infinity, noise}
-use Rattle.definition.specs.Outcome.{CovParts, MeanParts, ending_of, number_of, roomy}
-use Rattle.definition.specs.Carried.{Carried, Past}
+use Rattle.definition.specs.Outcome.{CovParts, MeanParts}
+use Rattle.definition.specs.Carried.{Carried}
 use Rattle.definition.specs.Saved.{saved_need, bad_saved, saved_of, widths, numbers_in, done_in}
 use Rattle.definition.specs.Stretch.{From, past_in, carried_in, bad_from, stretch_refusal, roomy_stretch, stretch_outcome}
 use Rattle.laws.specs.Accepted.{InRange, InputsFit, inputs_fit_lem, lengths_pass, Roomy}
@@ -20,15 +21,13 @@ use Rattle.dense.specs.Views.{mat}
 use Rattle.model.specs.Lengths.{rooms_of, rooms_are}
 use Rattle.carried.specs.State.{StateFits}
 use Rattle.forward.specs.View.{FitOn}
-use Rattle.forward.specs.View as view
 use Rattle.judged.specs.declared.Judged.{Judged}
-use Rattle.judged.specs.Went.{Went}
-use Rattle.saved.specs.declared.Tallies.{Tallies}
+use Rattle.judged.specs.Went.{Went, told_of}
+use Rattle.carried.specs.declared.Tallies.{Tallies}
 use Rattle.saved.specs.Loaded.{LoadedState, carried_of}
-use Rattle.promise.specs.declared.Answer.{Answer}
-use Rattle.promise.specs.declared.Outcome.{Outcome}
-use Rattle.promise.specs.declared.Outcome.TheVariants.{Refused}
-use Rattle.promise.specs.Calls.{answer_by, PromiseStretch}
+use Rattle.promise.specs.declared.Refusal.{Refusal}
+use Rattle.promise.specs.Refusals.{number}
+use Rattle.promise.specs.Calls.{Outcome, PromiseStretch}
 use Rattle.onward.specs.Later.{later_of}
 use Rattle.stretch_checks.proofs.Passed.{state_fits, Few}
 use Rattle.stretch_checks.proofs.Passed as checks
@@ -49,14 +48,14 @@ module _ (x : Model) (o : Offsets) (y : List Float) (begins : Bool) (saved : Lis
   unfolding roomy_stretch bad_from
   checked e = e ∙ ap (λ (d : ℕ). stretch_refusal x o (length y) (any_of is_infinity (map class_of y)) (rooms_of x w w' && (last || leb (saved_need x.m) (length save))) (bad_from x from) d) (checks.done_is x begins saved) ∙ ap (λ (u : Bool). stretch_refusal x o (length y) (any_of is_infinity (map class_of y)) (u && (last || leb (saved_need x.m) (length save))) (bad_from x from) (past_in x from).done) (sym (rooms_are x w w'))
 
-  pub refused : {k : ℕ} → 0 < k → Checked k → PromiseStretch (stretch_outcome x o from last y w w' save) (Refused k) w w' save
-  refused {k} h e = stands.refused x o y from last w w' save k h (checked e)
+  pub refused : {e : Refusal} → Checked (number e) → PromiseStretch (stretch_outcome x o from last y w w' save) (Err e) w w' save
+  refused {e} h = stands.refused x o y from last w w' save e (checked h)
 
   -- ---- past the checks
 
-  module _ {k : ℕ} (none : k ≤ 0) (check : Checked k) where
+  module _ (check : Checked 0) where
     zero_is : stands.number x o y from last w w' save ≡ 0
-    zero_is = let e = checked check in omega arith
+    zero_is = sym (checked check)
 
     pub sizes : InRange x.p x.m x.r x.n
     sizes = sizes_pass x.p x.m x.r x.n (passes x o _ _ _ _ _ zero_is).sizes
@@ -73,13 +72,13 @@ module _ (x : Model) (o : Offsets) (y : List Float) (begins : Bool) (saved : Lis
     room = room_to_save x last w w' save inputs.2
 
     -- from what the checks have made of the state
-    pub may_enter : {state : List Float} → length state ≡ 264 → (k ≡ 0 → begins ≡ false → LoadedState x.m saved state)
+    pub may_enter : {state : List Float} → length state ≡ 264 → (begins ≡ false → LoadedState x.m saved state)
         → Starts x.m (length o.a1) (length x.p_star) (length x.flags) (length state) × (begins ≡ false → (length saved ≡ saved_need x.m) × LoadedState x.m saved state)
     may_enter e loads =
         let i = inputs.0 in
         let s = sizes in (
           record { m0 = s.m0; m8 = s.m8; mean = i.a1; star = i.p_star; flagged = i.flags; room = state_fits s.m8 e },
-          λ b. (checks.long_enough x begins saved good b, loads (omega arith) b),
+          λ b. (checks.long_enough x begins saved good b, loads b),
         )
 
     -- where the run stands: t, over the state s
@@ -96,9 +95,9 @@ module _ (x : Model) (o : Offsets) (y : List Float) (begins : Bool) (saved : Lis
       fits : StateFits x.m (length s)
       fits = record { m8 = sizes.m8; whole = λ some. state_fits sizes.m8 long }
 
-      pub may_run : {rqr : List Float} → (k ≡ 0 → mat x.m rqr ≡ noise x) → FitOn x o (length y) rqr w w' (length s) t.done t.answer
+      pub may_run : {rqr : List Float} → mat x.m rqr ≡ noise x → FitOn x o (length y) rqr w w' (length s) t.done t.answer
       may_run q =
-          may_begin {x = x} {o = o} {y = length y} {w = w} {w' = w'} sizes inputs.0 inputs.1 room.0 t.done (q (omega arith)) fits (omega (arith, few.early)) (record { diffuse = few.diffuse; heard = few.heard; news = few.news })
+          may_begin {x = x} {o = o} {y = length y} {w = w} {w' = w'} sizes inputs.0 inputs.1 room.0 t.done q fits (omega (arith, few.early)) (record { diffuse = few.diffuse; heard = few.heard; news = few.news })
 
       pub may_keep : {size : ℕ} → size ≡ 264 → (x.m ≤ 8) × (last ≡ false → saved_need x.m ≤ length save) × (x.m + x.m * x.m + x.m * x.m + x.m * x.m + x.m * x.m ≤ size)
       may_keep e = (sizes.m8, room.1, state_fits sizes.m8 e)
@@ -106,7 +105,7 @@ module _ (x : Model) (o : Offsets) (y : List Float) (begins : Bool) (saved : Lis
       pub told : {e : Judged} {s' : List Float} {b : CovParts} {b' : MeanParts} {save' : List ℕ} {r : Outcome}
           → Went (later_of x t.done) o y s t.live t.done t.answer last e s' w b w' b'
           → save' ≡ cond last save (lay (saved_of x.p x.m x.r (carried_of x.m s' (record { done = t.done + x.n; live = e.live; answer = e.answer }))) save)
-          → r ≡ answer_by (number_of (ending_of 0 e.silent)) e.answer
+          → r ≡ told_of e
           → PromiseStretch (stretch_outcome x o from last y w w' save) r b b' save'
       told ran kept said =
-          stands.told x o y from last w w' save none (checked check) s t (λ z. omega arith) (both_given {x = x} {o = o} {y = length y} {w = w} {w' = w'} sizes inputs.0 inputs.1 room.0) stood fits ran kept said
+          stands.told x o y from last w w' save (checked check) s t (λ z. omega arith) (both_given {x = x} {o = o} {y = length y} {w = w} {w' = w'} sizes inputs.0 inputs.1 room.0) stood fits ran kept said

@@ -4,14 +4,14 @@ use Prim.Native.Nat.{ℕ, ◌*◌}
 use native.Mathlib.Omega.{arith}
 use mathlib.Core.Bool.{Bool, true, false, cond}
 use mathlib.Core.List.{List, []}
-use lib.ListN.{length, take, drop}
+use lib.ListN.{length, take}
 use lib.Ieee.{Float}
 use borrow.Author.Tests.{ne_eqb}
 use Rattle.definition.specs.Num.{0ᶠ}
 use Rattle.definition.specs.Cov.{Cov}
 use Rattle.definition.specs.Inputs.{Model, Offsets, start_from, start_inf, start_root, start_of}
 use Rattle.definition.specs.Carried.{begun_past, begun_mean}
-use Rattle.definition.specs.Stretch.{From, past_in, mean_in, mean_told_in, carried_in}
+use Rattle.definition.specs.Stretch.{past_in, mean_in, mean_told_in, carried_in}
 use Rattle.laws.specs.Lists.{length_tab}
 use Rattle.laws.specs.SavedBack.{loaded}
 use Rattle.carried.specs.State.{StateFits, cov_in, cov_from, mean_from, cov_kept, mean_kept}

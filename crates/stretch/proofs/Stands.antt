@@ -1,38 +1,37 @@
 -- A stretch past its checks, from where the run stands: what the passes did over the later parts of the lists, from the carried state, is what the
 -- definition says of the whole lists, and the state that they leave is the definition's.
 use mathlib.Core.Path.{◌≡◌, refl, sym, ap, ap₂, ◌∙◌}
-use Prim.Native.Nat.{ℕ, zero, suc, ◌+◌, ◌-◌, ◌*◌, ◌/◌, ◌≤◌, ◌<◌, min}
+use Prim.Native.Nat.{ℕ, ◌+◌, ◌*◌, ◌<◌}
 use native.Mathlib.Omega.{arith}
 use mathlib.Core.Bool.{Bool, true, false, cond, ◌&&◌}
-use mathlib.Core.List.{List, [], ◌++◌, map}
-use lib.ListN.{length, take, drop, replicate, length-append, length-take, length-drop, length-map}
+use mathlib.Core.List.{List, [], map}
+use lib.ListN.{length, take, drop, length-drop, length-map}
 use lib.Seq.{length-take-le}
 use lib.Ieee.{Float}
+use Rattle.std.specs.Prelude.{Ok, Err}
 use borrow.Author.Tests.{ne_eqb}
-use Rattle.definition.specs.Num.{zeros}
 use Rattle.definition.specs.Run.{any_of, lay, pairs, chunks}
-use Rattle.definition.specs.Cov.{Cov, CovPeriod, cov_run}
-use Rattle.definition.specs.Mean.{Mean, MeanPeriod, mean_run}
-use Rattle.definition.specs.Parts.{CovPart, MeanPart}
+use Rattle.definition.specs.Cov.{Cov, CovPeriod}
 use Rattle.definition.specs.Inputs.{Model, Offsets, Class, class_of, is_infinity, gap_rows, noise, system_from, frame_from, system_of, frame_of}
-use Rattle.definition.specs.Outcome.{CovParts, MeanParts, Counts, Ending, turned, silent, answered, ending_of, number_of, after, counts_in, loglik_in, report_in, no_information, counts_of, decisions_of, kinds_need, cov_need, mean_need, kinds_written, cov_written, mean_written}
+use Rattle.definition.specs.Outcome.{CovParts, MeanParts, Ending, turned, ending_of, number_of, after, counts_in, loglik_in, report_in, no_information, decisions_of, kinds_need, cov_need, mean_need}
 use Rattle.definition.specs.Carried.{Past, Carried, plus, past_on, mean_off_on, went}
 use Rattle.definition.specs.Carried as carried
 use Rattle.definition.specs.Saved.{saved_of}
-use Rattle.definition.specs.Stretch.{From, StretchOutcome, carried_in, past_in, mean_in, bad_from, stretch_refusal, stretch_ending, roomy_stretch, cov_stretch, mean_stretch, save_stretch, stretch_outcome}
+use Rattle.definition.specs.Stretch.{From, StretchOutcome, carried_in, past_in, bad_from, stretch_refusal, stretch_ending, roomy_stretch, cov_stretch, mean_stretch, save_stretch, stretch_outcome}
 use Rattle.laws.specs.Accepted.{Chosen}
 use Rattle.promise.specs.declared.Answer.{Answer}
-use Rattle.promise.specs.declared.Outcome.{Outcome}
-use Rattle.promise.specs.declared.Outcome.TheVariants.{Refused, Answered}
-use Rattle.promise.specs.Calls.{answer_in, answer_by, Promise, PromiseStretch}
+use Rattle.promise.specs.declared.Refusal.{Refusal}
+use Rattle.promise.specs.declared.Refusal.TheVariants.{NoInformation}
+use Rattle.promise.specs.Refusals as promise
+use Rattle.promise.specs.Calls.{Outcome, answer_in, Promise, PromiseStretch}
 use Rattle.carried.specs.State.{StateFits, cov_in, cov_from, mean_from, cov_kept, mean_kept}
 use Rattle.carried.specs.Next.{Whole, some_next, cov_next, mean_next_lem}
-use Rattle.forward.specs.View.{onward, cov_on, mean_on}
+use Rattle.forward.specs.View.{cov_on, mean_on}
 use Rattle.judged.specs.declared.Judged.{Judged}
-use Rattle.judged.specs.Went.{Went, is_silent, tally_of}
+use Rattle.judged.specs.Went.{Went, is_silent, tally_of, told_of, turned_by}
 use Rattle.onward.specs.Later.{later_of}
-use Rattle.saved.specs.declared.Tallies.{Tallies}
-use Rattle.saved.specs.Loaded.{past_of, carried_of}
+use Rattle.carried.specs.declared.Tallies.{Tallies}
+use Rattle.saved.specs.Loaded.{carried_of}
 use Rattle.laws.specs.Later.{cov_later, mean_later}
 use Rattle.laws.specs.Long.{Long, covs_long, mean_long}
 
@@ -148,18 +147,20 @@ module _ (x : Model) (o : Offsets) (y : List Float) where
           abbrev End : Ending → StretchOutcome
           End f = record { cov = cov_stretch x f here.past classes w; mean = mean_stretch x f o here y w'; save = save_stretch x f o here last y save }
 
-          by : (q : Bool) → e.silent ≡ q → Promise ((End (ending_of 0 q)).cov, (End (ending_of 0 q)).mean) (answer_by (number_of (ending_of 0 q)) e.answer) b b'
-          unfolding cov_stretch mean_stretch answer_by number_of ending_of after counts_in loglik_in report_in kinds_need cov_need mean_need
+          by : (q : Bool) → e.silent ≡ q → Promise ((End (ending_of 0 q)).cov, (End (ending_of 0 q)).mean) (cond q (Err NoInformation) (Ok e.answer)) b b'
+          unfolding cov_stretch mean_stretch number_of ending_of after counts_in loglik_in report_in kinds_need cov_need mean_need
           by true h =
               record {
-                answer = refl;
+                refusal = refl;
+                answer = tt;
                 kinds = rw h at r.kinds;
                 cov = λ q. rw h at (r.cov q);
                 mean = λ q. rw h at (r.mean q);
               }
           by false h =
               record {
-                answer = ap Answered answer-here;
+                refusal = refl;
+                answer = answer-here;
                 kinds = rw (h, cov_here) at r.kinds;
                 cov = λ q. rw (h, cov_here) at (r.cov q);
                 mean = λ q. rw (h, mean_here) at (r.mean q);
@@ -172,7 +173,7 @@ module _ (x : Model) (o : Offsets) (y : List Float) where
           saved_by false true f h = absurd (let z : e.silent ≡ false = silent-here ∙ rw f refl in let u : ◌≡◌ {A = ℕ} 0 1 = cc in omega arith)
           saved_by false false f h = kept ∙ rw (f, goes_on) refl
 
-          pub ended : PromiseStretch (End (ending_of 0 e.silent)) (answer_by (number_of (ending_of 0 e.silent)) e.answer) b b' save'
+          pub ended : PromiseStretch (End (ending_of 0 e.silent)) (told_of e) b b' save'
           ended = record { filter = by e.silent refl; save = saved_by last e.silent refl refl }
 
 -- ---- the call
@@ -198,25 +199,23 @@ module _ (x : Model) (o : Offsets) (y : List Float) (from : From) (last : Bool) 
       let ending : Carried → Ending = λ c. stretch_ending x o c.past (bad_from x from) last (map class_of y) (roomy_stretch x last w w' save) in
       sym (ap (λ (c : Carried). Of c (ending c)) h) ∙ ap (Of c) e
 
-  pub refused : (k : ℕ) → 0 < k → k ≡ number → PromiseStretch (stretch_outcome x o from last y w w' save) (Refused k) w w' save
-  unfolding ending_of cov_stretch mean_stretch save_stretch answer_by number_of after
-  refused zero h e = absurd (omega arith)
-  refused (suc k) h e =
-      rw (by_ending (carried_in x o from) (turned (suc k)) refl (by_number (suc k) e (past_in x from) refl))
-      (record { filter = record { answer = refl; kinds = refl; cov = λ q. refl; mean = λ q. refl }; save = refl })
+  pub refused : (e : Refusal) → promise.number e ≡ number → PromiseStretch (stretch_outcome x o from last y w w' save) (Err e) w w' save
+  unfolding cov_stretch mean_stretch save_stretch number_of after
+  refused e h =
+      rw (by_ending (carried_in x o from) (turned (promise.number e)) refl (by_number (promise.number e) h (past_in x from) refl ∙ turned_by e _))
+      (record { filter = record { refusal = refl; answer = tt; kinds = refl; cov = λ q. refl; mean = λ q. refl }; save = refl })
 
-  pub told : {k : ℕ} → k ≤ 0 → k ≡ number
+  pub told : 0 ≡ number
       → (s : List Float) (t : Tallies) (some : length s ≡ 0 → ⊥) (given : Given x)
       → carried_of x.m s t ≡ carried_in x o from
       → StateFits x.m (length s)
       → {e : Judged} {s' : List Float} {b : CovParts} {b' : MeanParts} {save' : List ℕ} {r : Outcome}
       → Went (later_of x t.done) o y s t.live t.done t.answer last e s' w b w' b'
       → save' ≡ cond last save (lay (saved_of x.p x.m x.r (carried_of x.m s' (record { done = t.done + x.n; live = e.live; answer = e.answer }))) save)
-      → r ≡ answer_by (number_of (ending_of 0 e.silent)) e.answer
+      → r ≡ told_of e
       → PromiseStretch (stretch_outcome x o from last y w w' save) r b b' save'
-  told {k} none check s t some given stands fits {e} {save' = save'} ran kept said =
-      let zero_is : 0 ≡ number = omega arith in
+  told check s t some given stands fits {e} {save' = save'} ran kept said =
       let c = carried_of x.m s t in
       let f : stretch_ending x o c.past (bad_from x from) last (map class_of y) (roomy_stretch x last w w' save) ≡ ending_of 0 e.silent =
-      by_number 0 zero_is c.past (ap (λ (c : Carried). c.past.done) stands) ∙ ap (ending_of 0) (sym (silent-here x o y s t some given ran)) in
+      by_number 0 check c.past (ap (λ (c : Carried). c.past.done) stands) ∙ ap (ending_of 0) (sym (silent-here x o y s t some given ran)) in
       rw (said, by_ending c (ending_of 0 e.silent) stands f) (ended x o y s t some given ran fits save save' kept)

@@ -2,99 +2,77 @@
 // (crates/saved).
 #![tactic(auto)]
 
-ghost use Rattle.std.specs.Prelude.{◌≡◌, false, cond, ◌+◌, ◌*◌, ◌≤◌, length};
+ghost use Rattle.std.specs.Prelude.{◌≡◌, false, cond, ◌≤◌, length};
 ghost use Rattle.definition.specs.Run.{lay};
 ghost use Rattle.definition.specs.Saved.{saved_need, saved_of};
 ghost use Rattle.laws.specs.SavedBack.{loaded};
+ghost use Rattle.saved.specs.Places.{Room};
 ghost use Rattle.saved.specs.Loaded.{LoadedState, carried_of};
-ghost use Rattle.promise.specs.Lent.{given, lent, given_stretch, lent_stretch};
+ghost use Rattle.promise.specs.Lent.{given_in, lent, given_stretch, lent_stretch};
 ghost use Rattle.promise.specs.Calls.{Stretched};
 ghost use Rattle.stretch.specs.Begun.{Starts, begun_of};
+
+use carried::Tallies;
+use model::lengths::OutputLengths;
+use promise::{Answer, Model, Offsets, Refusal};
+use track::State;
 
 // ---- where the run stands
 
 // At its start. Into the state: the mean, P*, P∞, its root, the unresolved matrix.
-fn begin(a1: &[f64], p_star: &[f64], flags: &[u8], m: usize, state: &mut [f64]) -> saved::Tallies
-    requires { Starts m (length a1.now) (length p_star.now) (length flags.now) (length state.old) }
-    ensures { carried_of m state.new result ≡ begun_of m a1.now p_star.now flags.now }
+fn begin(x: &Model, o: &Offsets, state: &mut [f64]) -> Tallies
+    requires { Starts x.now.m (length o.now.a1.now) (length x.now.p_star.now) (length x.now.flags.now) (length state.old) }
+    ensures { carried_of x.now.m state.new result ≡ begun_of x.now.m o.now.a1.now x.now.p_star.now x.now.flags.now }
 {
-    let mut star = [0.0; 64];
-    let mut p_inf = [0.0; 64];
-    let mut root = [0.0; 64];
-    let mut unres = [0.0; 64];
-    let live = model::start(
-        p_star, flags, m, &mut star, &mut p_inf, &mut root, &mut unres,
-    );
-    carried::keep_cov(state, &star, &p_inf, &root, &unres, m);
-    let a = dense::load8(a1);
-    carried::keep_mean(state, &a, m);
-    let answer = promise::Answer {
-        loglik: 0.0,
-        d_diffuse: 0,
-        heard: 0,
-        news: 0,
-        cov_off: 0,
-        mean_off: 0,
+    // The zeros are written out here and in cov: it is not known of a const of 2 KB that it would make no copy more in the frame.
+    let mut start = State {
+        live: false,
+        star: [0.0; 64],
+        p_inf: [0.0; 64],
+        root: [0.0; 64],
+        unres: [0.0; 64],
     };
-    saved::Tallies {
-        done: 0,
-        live,
-        answer,
+    model::start(x, &mut start);
+    carried::keep_cov(state, &start, x.m);
+    let a = dense::load(o.a1);
+    carried::keep_mean(state, &a, x.m);
+    Tallies {
+        live: start.live,
+        ..Tallies::NOTHING
     }
 }
 
 // At its start, or where it was saved: then the checks have loaded the state.
-fn enter(
-    begins: bool,
-    saved: &[u8],
-    a1: &[f64],
-    p_star: &[f64],
-    flags: &[u8],
-    m: usize,
-    state: &mut [f64],
-) -> saved::Tallies
-    requires { Starts m (length a1.now) (length p_star.now) (length flags.now) (length state.old)
-        × (begins ≡ false → (length saved.now ≡ saved_need m) × LoadedState m saved.now state.old) }
-    ensures { carried_of m state.new result
-        ≡ cond begins (begun_of m a1.now p_star.now flags.now) (loaded m saved.now) }
+fn enter(begins: bool, saved: &[u8], x: &Model, o: &Offsets, state: &mut [f64]) -> Tallies
+    requires { Starts x.now.m (length o.now.a1.now) (length x.now.p_star.now) (length x.now.flags.now) (length state.old)
+        × (begins ≡ false → (length saved.now ≡ saved_need x.now.m) × LoadedState x.now.m saved.now state.old) }
+    ensures { carried_of x.now.m state.new result
+        ≡ cond begins (begun_of x.now.m o.now.a1.now x.now.p_star.now x.now.flags.now) (loaded x.now.m saved.now) }
 {
     if begins {
-        return begin(a1, p_star, flags, m, state);
+        return begin(x, o, state);
     }
-    saved::load_tallies(saved, m)
+    saved::load_tallies(saved, x.m)
 }
 
 // The run saved; the last stretch saves nothing.
-fn keep(save: &mut [u8], last: bool, p: usize, m: usize, r: usize, state: &[f64], t: saved::Tallies)
-    requires { (m ≤ 8) × (last ≡ false → saved_need m ≤ length save.old) × (m + m * m + m * m + m * m + m * m ≤ length state.now) }
+fn keep(save: &mut [u8], last: bool, x: &Model, state: &[f64], t: Tallies)
+    requires { (x.now.m ≤ 8) × (last ≡ false → saved_need x.now.m ≤ length save.old)
+        × Room x.now.m state.now }
     ensures { save.new ≡ cond last save.old
-        (lay (saved_of p m r (carried_of m state.now t)) save.old) }
+        (lay (saved_of x.now.p x.now.m x.now.r (carried_of x.now.m state.now t)) save.old) }
 {
     if last {
         return;
     }
-    saved::save(save, p, m, r, state, t);
+    saved::save(save, x.p, x.m, x.r, state, t);
 }
 
-// A stretch's call. It ends with an answer whatever it is handed: refused with its number, or answered.
-pub fn stretch<'a>(
-    p: usize,
-    m: usize,
-    r: usize,
-    n: usize,
-    z: &'a [f64],
-    zs: &'a [f64],
-    repeats: bool,
-    h: &[f64],
-    t: &'a [f64],
-    ts: &'a [f64],
-    rr: &[f64],
-    q: &[f64],
-    c: &[f64],
-    d: &[f64],
-    a1: &[f64],
-    p_star: &[f64],
-    flags: &[u8],
+// A stretch's call. It ends whatever it is handed: with an answer, or why it is refused. `begins` and `last` are as C has them, and no Option: bytes given
+// to a run that begins are refusal 15, and in the last stretch `save` stays (promise Stretched).
+pub fn stretch(
+    x: &Model,
+    o: &Offsets,
     y: &[f64],
     begins: bool,
     saved: &[u8],
@@ -111,13 +89,9 @@ pub fn stretch<'a>(
     m_star: &mut [f64],
     m_inf: &mut [f64],
     save: &mut [u8],
-) -> promise::Outcome
+) -> Result<Answer, Refusal>
     ensures { Stretched
-        (given_stretch
-        (given p m r n
-        z.now zs.now repeats h.now t.now ts.now rr.now q.now
-        c.now d.now a1.now p_star.now flags.now y.now)
-        begins saved.now last)
+        (given_stretch (given_in x.now o.now y.now) begins saved.now last)
         (lent_stretch
         (lent
         pred_mean.old pred_cov.old pred_inf.old
@@ -134,101 +108,34 @@ pub fn stretch<'a>(
         m_star.new m_inf.new)
         save.new) }
 {
+    let have = OutputLengths::of(
+        pred_mean, pred_cov, pred_inf, filt_mean, filt_cov, kinds, v, f_star, f_inf, m_star, m_inf,
+    );
     let mut rqr = [0.0; 64];
     let mut state = [0.0; 264];
-    let k = stretch_checks::refusal(
-        p,
-        m,
-        r,
-        n,
-        z,
-        zs,
-        repeats,
-        h,
-        t,
-        ts,
-        rr,
-        q,
-        c,
-        d,
-        a1,
-        p_star,
-        flags,
+    stretch_checks::refusal(
+        x,
+        o,
         y,
         begins,
         saved,
         last,
-        pred_mean.len(),
-        pred_cov.len(),
-        pred_inf.len(),
-        filt_mean.len(),
-        filt_cov.len(),
-        kinds.len(),
-        v.len(),
-        f_star.len(),
-        f_inf.len(),
-        m_star.len(),
-        m_inf.len(),
+        have,
         save.len(),
         &mut rqr,
         &mut state,
-    );
-    if 0 < k {
-        return promise::Outcome::Refused(k);
-    }
-    let stands = enter(begins, saved, a1, p_star, flags, m, &mut state);
-    let before = stands.answer;
+    )?;
+    let stands = enter(begins, saved, x, o, &mut state);
     let e = onward::run(
-        p,
-        m,
-        r,
-        n,
-        z,
-        zs,
-        repeats,
-        h,
-        t,
-        ts,
-        rr,
-        q,
-        &rqr,
-        c,
-        d,
-        a1,
-        p_star,
-        flags,
-        y,
-        pred_mean,
-        pred_cov,
-        pred_inf,
-        filt_mean,
-        filt_cov,
-        kinds,
-        v,
-        f_star,
-        f_inf,
-        m_star,
-        m_inf,
-        &mut state,
-        stands.live,
-        stands.done,
-        before,
-        last,
+        x, &rqr, o, y, pred_mean, pred_cov, pred_inf, filt_mean, filt_cov, kinds, v, f_star, f_inf,
+        m_star, m_inf, &mut state, stands, last,
     );
-    let done = stands.done + n;
-    let answer = e.answer;
-    keep(
-        save,
-        last,
-        p,
-        m,
-        r,
-        &state,
-        saved::Tallies {
-            done,
-            live: e.live,
-            answer,
-        },
-    );
+    let done = stands.done + x.n;
+    let now = Tallies {
+        done,
+        live: e.live,
+        answer: e.answer,
+    };
+    keep(save, last, x, &state, now);
     judged::told(e)
 }

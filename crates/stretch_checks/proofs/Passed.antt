@@ -10,7 +10,7 @@ use lib.Dec.{eqb}
 use Rattle.definition.specs.Inputs.{Model}
 use Rattle.definition.specs.Carried.{Past, begun_past}
 use Rattle.definition.specs.Saved.{saved_need, bad_saved, widths, numbers_in, done_in, loaded_past}
-use Rattle.definition.specs.Stretch.{From, past_in, bad_from}
+use Rattle.definition.specs.Stretch.{past_in, bad_from}
 use Rattle.laws.specs.Accepted.{InRange}
 use Rattle.laws.specs.SavedBack.{loaded, not_bad}
 use Rattle.laws.specs.Sizes.{square_le}

@@ -26,7 +26,7 @@ line_of cov mean =
     (cond (eqb mean 0) (part_of cov_first cov ++ (10 ∷ [])) ((part_of cov_first cov ++ part_of mean_next mean) ++ (10 ∷ [])))
 
 -- a table has no means, so nothing is said of theirs
-unfoldable pub means_off : (table : Bool) (mean : ℕ) → ℕ
+abbrev pub means_off : (table : Bool) (mean : ℕ) → ℕ
 means_off table mean = cond table 0 mean
 
 abbrev pub closing_of : (table : Bool) (cov mean : ℕ) → List ℕ
@@ -34,13 +34,13 @@ closing_of table cov mean = line_of cov (means_off table mean)
 
 -- ---- computed: nothing; "numbers ran off     covariance from period 78, mean from period 156"; the same in a table
 pub nothing : closing_of false 0 0 ≡ []
-unfolding line_of means_off
+unfolding line_of
 nothing = refl
 
 pub both : closing_of false 78 156 ≡ 110 ∷ 117 ∷ 109 ∷ 98 ∷ 101 ∷ 114 ∷ 115 ∷ 32 ∷ 114 ∷ 97 ∷ 110 ∷ 32 ∷ 111 ∷ 102 ∷ 102 ∷ 32 ∷ 32 ∷ 32 ∷ 32 ∷ 32 ∷ 99 ∷ 111 ∷ 118 ∷ 97 ∷ 114 ∷ 105 ∷ 97 ∷ 110 ∷ 99 ∷ 101 ∷ 32 ∷ 102 ∷ 114 ∷ 111 ∷ 109 ∷ 32 ∷ 112 ∷ 101 ∷ 114 ∷ 105 ∷ 111 ∷ 100 ∷ 32 ∷ 55 ∷ 56 ∷ 44 ∷ 32 ∷ 109 ∷ 101 ∷ 97 ∷ 110 ∷ 32 ∷ 102 ∷ 114 ∷ 111 ∷ 109 ∷ 32 ∷ 112 ∷ 101 ∷ 114 ∷ 105 ∷ 111 ∷ 100 ∷ 32 ∷ 49 ∷ 53 ∷ 54 ∷ 10 ∷ []
-unfolding line_of means_off plain_of digits_onto places_of places_in
+unfolding line_of plain_of digits_onto places_of places_in
 both = refl
 
 pub in_a_table : closing_of true 78 156 ≡ 110 ∷ 117 ∷ 109 ∷ 98 ∷ 101 ∷ 114 ∷ 115 ∷ 32 ∷ 114 ∷ 97 ∷ 110 ∷ 32 ∷ 111 ∷ 102 ∷ 102 ∷ 32 ∷ 32 ∷ 32 ∷ 32 ∷ 32 ∷ 99 ∷ 111 ∷ 118 ∷ 97 ∷ 114 ∷ 105 ∷ 97 ∷ 110 ∷ 99 ∷ 101 ∷ 32 ∷ 102 ∷ 114 ∷ 111 ∷ 109 ∷ 32 ∷ 112 ∷ 101 ∷ 114 ∷ 105 ∷ 111 ∷ 100 ∷ 32 ∷ 55 ∷ 56 ∷ 10 ∷ []
-unfolding line_of means_off plain_of digits_onto places_of places_in
+unfolding line_of plain_of digits_onto places_of places_in
 in_a_table = refl

@@ -1,5 +1,8 @@
 -- What became of a check, in words: the outcome column. docs/PANEL.md, "What it prints".
-use Rattle.std.specs.Prelude.{List, [], ◌∷◌, ℕ, get_or, length}
+use Rattle.std.specs.Prelude.{◌≡◌, refl, List, [], ◌∷◌, ℕ, zero, suc, get_or, length}
+use Rattle.rows.specs.declared.Check.{Check}
+use Rattle.rows.specs.declared.Check.TheVariants.{Missing, Taken, FirstNews, AddsNothing, OnlyRounding, Doubtful}
+use Rattle.rows.specs.Checks.{check_of}
 use Rattle.cells.specs.Cells.{left_of, written}
 
 -- "  no check"
@@ -26,10 +29,23 @@ only_rounding = 32 ∷ 32 ∷ 111 ∷ 110 ∷ 108 ∷ 121 ∷ 32 ∷ 114 ∷ 111
 abbrev pub doubtful : List ℕ
 doubtful = 32 ∷ 32 ∷ 100 ∷ 111 ∷ 117 ∷ 98 ∷ 116 ∷ 102 ∷ 117 ∷ 108 ∷ []
 
--- by the kind, as the library numbers it: 0 a gap, 1 usual, 2 diffuse, 3 too small against its scale, 4 below the dust line, and from 5 on failed on replay
-unfoldable pub outcome_of : (kind : ℕ) → List ℕ
-outcome_of kind = get_or (no_check ∷ taken ∷ first_news ∷ adds_nothing ∷ only_rounding ∷ []) kind doubtful
+abbrev pub outcome_of : Check → List ℕ
+outcome_of Missing = no_check
+outcome_of Taken = taken
+outcome_of FirstNews = first_news
+outcome_of AddsNothing = adds_nothing
+outcome_of OnlyRounding = only_rounding
+outcome_of Doubtful = doubtful
 
 -- a line afterwards: the word at the left of the column, which is 15 wide and begins at `at`
-unfoldable pub outcome_in : (kind at : ℕ) (line : List ℕ) → List ℕ
-outcome_in kind at line = written (length (outcome_of kind)) at 15 (left_of 15 (outcome_of kind)) line
+abbrev pub outcome_in : (check : Check) (at : ℕ) (line : List ℕ) → List ℕ
+outcome_in check at line = written (length (outcome_of check)) at 15 (left_of 15 (outcome_of check)) line
+
+-- ---- by the kind, as the library numbers it
+pub by_kind : (kind : ℕ) → outcome_of (check_of kind) ≡ get_or (no_check ∷ taken ∷ first_news ∷ adds_nothing ∷ only_rounding ∷ []) kind doubtful
+by_kind zero = refl
+by_kind (suc zero) = refl
+by_kind (suc (suc zero)) = refl
+by_kind (suc (suc (suc zero))) = refl
+by_kind (suc (suc (suc (suc zero)))) = refl
+by_kind (suc (suc (suc (suc (suc kind))))) = refl

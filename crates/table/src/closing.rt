@@ -1,5 +1,5 @@
 // The closing line, which names the periods from which on numbers ran off.
-ghost use Rattle.std.specs.Prelude.{◌≡◌, ◌++◌, ◌+◌, ◌≤◌, length};
+ghost use Rattle.std.specs.Prelude.{◌≡◌, ◌+◌, ◌≤◌, length};
 ghost use Rattle.decimal.specs.Printed.{Added};
 ghost use Rattle.table.specs.Closing.{part_of, line_of, means_off, closing_of};
 
@@ -13,6 +13,7 @@ fn part(line: &mut [u8], at: usize, words: &[u8], period: usize) -> usize
     decimal::plain(line, to, period as u64)
 }
 
+// 0 for none, as in the library's answer (definition Reports.first_from), in C too.
 fn write(line: &mut [u8], cov: usize, mean: usize) -> usize
     requires { 128 ≤ length line.old }
     ensures { Added 0 (line_of cov mean) line.old result line.new }

@@ -2,17 +2,29 @@
 // that can't be opened or written.
 #![tactic(auto)]
 
-ghost use Rattle.std.specs.Prelude.{◌≡◌, ◌≤◌, length};
+ghost use Rattle.std.specs.Prelude.{◌≤◌, length};
 
+use promise::Refusal;
 use sheet::answers::{Wanted, Wrong};
-use std::io::Write;
+use std::io::{Error, Write};
+
+const OUTPUT: i32 = 1;
 
 const ERRORS: i32 = 2;
 
 // The most of a found word that is shown.
 const SHOWN: usize = 32;
 
-pub fn usage(fd: i32) {
+// What there is to say is said, and nothing more is to be done.
+#[derive(Clone, Copy)]
+pub struct Told;
+
+// By io, and no handle's eprint!: each function here would take the handle and throw a Result away.
+fn say(text: &[u8]) {
+    io::write_all(ERRORS, text);
+}
+
+fn usage(fd: i32) -> Told {
     io::write_all(
         fd,
         b"usage: panel [--smooth] [--svg PICTURE] [SHEET]   the estimates, and a picture of them
@@ -21,6 +33,16 @@ pub fn usage(fd: i32) {
 With no SHEET, or with -, it is read from standard input. docs/PANEL.md says what a sheet is.
 ",
     );
+    Told
+}
+
+// What --help asks for.
+pub fn help() -> Told {
+    usage(OUTPUT)
+}
+
+pub fn wrong_arguments() -> Told {
+    usage(ERRORS)
 }
 
 // Whether std's number of the reason follows, as in " (os error 2)", or nothing more.
@@ -32,206 +54,140 @@ fn is_end(rest: &[u8]) -> bool {
 fn words_end(text: &[u8]) -> usize
     ensures { result ≤ length text.now }
 {
-    for i in 0..text.len() {
-        if is_end(&text[i..]) {
-            return i;
-        }
-    }
-    text.len()
+    (0..text.len())
+        .find(|&i| is_end(&text[i..]))
+        .unwrap_or(text.len())
 }
 
 // The reason, in the system's words alone.
-fn reason(e: std::io::Error) {
+fn reason(e: Error) {
     let mut space = [0u8; 320];
     let mut rest: &mut [u8] = &mut space;
     let _ = write!(rest, "{e}");
-    let k = words_end(&space);
-    io::write_all(ERRORS, &space[..k]);
+    say(&space[..words_end(&space)]);
 }
 
-// A file that has failed to open, or to take what is written to it: which one it is, its name, and why.
-pub fn unopened(what: &[u8], name: &[u8], e: std::io::Error) {
-    io::write_all(ERRORS, b"panel: ");
-    io::write_all(ERRORS, what);
-    io::write_all(ERRORS, b" '");
-    io::write_all(ERRORS, name);
-    io::write_all(ERRORS, b"': ");
+// A file that has failed to open, to take what is written to it, or to take its name: which one it is, its name, and why.
+pub fn unopened(what: &[u8], name: &[u8], e: Error) -> Told {
+    say(b"panel: ");
+    say(what);
+    say(b" '");
+    say(name);
+    say(b"': ");
     reason(e);
-    io::write_all(ERRORS, b"\n");
+    say(b"\n");
+    Told
 }
 
-pub fn too_long() {
-    io::write_all(ERRORS, b"panel: the sheet is longer than 262143 bytes\n");
+pub fn too_long() -> Told {
+    say(b"panel: the sheet is longer than 262143 bytes\n");
+    Told
 }
 
 // Anything but a printable ASCII character is shown as a question mark.
 fn printable(b: u8) -> u8 {
-    if b < 32 {
-        return b'?';
+    match b {
+        b' '..=b'~' => b,
+        _ => b'?',
     }
-    if b < 127 { b } else { b'?' }
-}
-
-fn least(a: usize, b: usize) -> usize
-    ensures { (result ≤ a) × (result ≤ b) }
-{
-    if a < b { a } else { b }
-}
-
-// The word's first k bytes, and zeros.
-fn shown(word: &[u8], k: usize) -> [u8; 32]
-    requires { (k ≤ length word.now) × (k ≤ 32) }
-    ensures { 32 ≡ length result }
-{
-    let mut out = [0u8; 32];
-    for i in 0..k {
-        out[i] = printable(word[i]);
-    }
-    out
 }
 
 fn quoted(word: &[u8]) {
-    let k = least(word.len(), SHOWN);
-    let text = shown(word, k);
-    let from = 0;
-    io::write_all(ERRORS, b"'");
-    io::write_all(ERRORS, &text[from..k]);
-    if k < word.len() {
-        io::write_all(ERRORS, b"..");
+    let shown = &word[..word.len().min(SHOWN)];
+    let mut text = [0u8; SHOWN];
+    for (to, from) in text.iter_mut().zip(shown) {
+        *to = printable(*from);
     }
-    io::write_all(ERRORS, b"'");
+    say(b"'");
+    say(&text[..shown.len()]);
+    if shown.len() < word.len() {
+        say(b"..");
+    }
+    say(b"'");
 }
 
 fn found(text: &[u8], from: usize, to: usize) {
-    if from < to {
-        if to <= text.len() {
-            return quoted(&text[from..to]);
-        }
+    match text.get(from..to) {
+        Some(word) if !word.is_empty() => quoted(word),
+        _ if from == text.len() => say(b"the end of the file"),
+        _ => say(b"the end of the line"),
     }
-    if from == text.len() {
-        io::write_all(ERRORS, b"the end of the file");
-        return;
-    }
-    io::write_all(ERRORS, b"the end of the line");
 }
 
 fn wanted(w: Wanted) {
     match w {
-        Wanted::Line => io::write_all(
-            ERRORS,
+        Wanted::Line => say(
             b"a check, '-', or one of period, noise, radio, wander-offset, wander-rate, rate-keeps, season, start-offset, start-rate",
         ),
-        Wanted::Seconds => io::write_all(
-            ERRORS,
-            b"the period's seconds, a whole number from 1 to 999999999",
-        ),
-        Wanted::SdOrVariance => io::write_all(ERRORS, b"'sd' or 'variance'"),
-        Wanted::Size => io::write_all(
-            ERRORS,
-            b"a whole number of at most 15 digits, with no minus",
-        ),
-        Wanted::UnknownOrValue => io::write_all(
-            ERRORS,
-            b"'unknown', or a whole number of at most 15 digits",
-        ),
-        Wanted::Thousandths => io::write_all(
-            ERRORS,
+        Wanted::Seconds => say(b"the period's seconds, a whole number from 1 to 999999999"),
+        Wanted::SdOrVariance => say(b"'sd' or 'variance'"),
+        Wanted::Size => say(b"a whole number of at most 15 digits, with no minus"),
+        Wanted::UnknownOrValue => say(b"'unknown', or a whole number of at most 15 digits"),
+        Wanted::Thousandths => say(
             b"the thousandths of its rate that the clock keeps, a whole number from 1 to 999999999999999",
         ),
-        Wanted::SeasonStart => io::write_all(
-            ERRORS,
-            b"the season's first period, a whole number from 2 to 4096",
-        ),
-        Wanted::LineEnd => io::write_all(ERRORS, b"the end of the line"),
-        Wanted::Check => io::write_all(
-            ERRORS,
+        Wanted::SeasonStart => say(b"the season's first period, a whole number from 2 to 4096"),
+        Wanted::LineEnd => say(b"the end of the line"),
+        Wanted::Check => say(
             b"a check: a whole number of at most 15 digits, or '-' for none; '+', a check to come, goes with --table",
         ),
-        Wanted::OneCheck => io::write_all(ERRORS, b"one check, since 'noise' has one number"),
-        Wanted::Once => io::write_all(ERRORS, b"each setting once"),
-        Wanted::SettingsFirst => io::write_all(ERRORS, b"the settings before the first check"),
-        Wanted::PeriodSetting => io::write_all(ERRORS, b"the setting 'period' before it"),
-        Wanted::NoiseSetting => io::write_all(ERRORS, b"the setting 'noise' before it"),
-        Wanted::FewerPeriods => io::write_all(ERRORS, b"at most 4096 periods"),
-    };
+        Wanted::OneCheck => say(b"one check, since 'noise' has one number"),
+        Wanted::Once => say(b"each setting once"),
+        Wanted::SettingsFirst => say(b"the settings before the first check"),
+        Wanted::PeriodSetting => say(b"the setting 'period' before it"),
+        Wanted::NoiseSetting => say(b"the setting 'noise' before it"),
+        Wanted::FewerPeriods => say(b"at most 4096 periods"),
+    }
 }
 
-pub fn wrong(text: &[u8], w: Wrong) {
-    let from = w.from;
-    let to = w.to;
-    let what = w.wanted;
-    io::write_all(ERRORS, b"panel: line ");
+pub fn wrong(text: &[u8], w: Wrong) -> Told {
+    say(b"panel: line ");
     io::print_decimal(ERRORS, w.line);
-    io::write_all(ERRORS, b": found ");
-    found(text, from, to);
-    io::write_all(ERRORS, b", wanted ");
-    wanted(what);
-    io::write_all(ERRORS, b"\n");
-}
-
-// What a sheet or a saved run can bring about.
-fn mend(k: u8) {
-    match k {
-        1 => io::write_all(
-            ERRORS,
-            b"Dimension: give from 1 to 4096 periods, a line each",
-        ),
-        3 => io::write_all(
-            ERRORS,
-            b"NonFiniteSystem: make the numbers of period, noise, radio and wander smaller",
-        ),
-        6 => io::write_all(
-            ERRORS,
-            b"NonFiniteStart: make the numbers of start-offset, start-rate and radio smaller",
-        ),
-        9 => io::write_all(ERRORS, b"InfiniteReading: make the checks smaller"),
-        11 => io::write_all(
-            ERRORS,
-            b"NonFiniteNoise: make the numbers of radio and wander smaller",
-        ),
-        15 => io::write_all(
-            ERRORS,
-            b"BadSaved: the file is not a saved run of this clock, or the run would be longer than 4096 periods. Give the file that --save wrote, as it was; to begin a new run leave --from out",
-        ),
-        _ => io::write_all(
-            ERRORS,
-            b"NoInformation: there are checks, and none of them tells anything new. Say 'unknown' of the start, or give it, or the wander, a spread above 0",
-        ),
-    };
+    say(b": found ");
+    found(text, w.from, w.to);
+    say(b", wanted ");
+    wanted(w.wanted);
+    say(b"\n");
+    Told
 }
 
 // What no sheet can bring about: the parts that this program makes are of a shape that is right for all of them.
-fn fault(k: u8) {
-    match k {
-        2 => io::write_all(ERRORS, b"Length"),
-        4 => io::write_all(ERRORS, b"NotPsd"),
-        5 => io::write_all(ERRORS, b"QNotDiagonal"),
-        7 => io::write_all(ERRORS, b"StartShape"),
-        8 => io::write_all(ERRORS, b"NonDiagonalH"),
-        14 => io::write_all(ERRORS, b"ListShort"),
-        _ => io::write_all(ERRORS, b"MixedDriven"),
-    };
-    io::write_all(
-        ERRORS,
-        b": this is a mistake of the program's, and no sheet mends it; please report the sheet",
-    );
+fn fault(name: &[u8]) {
+    say(name);
+    say(b": this is a mistake of the program's, and no sheet mends it; please report the sheet");
 }
 
-fn is_fault(k: u8) -> bool {
-    match k {
-        2 | 4 | 5 | 7 | 8 | 10 | 14 => true,
-        _ => false,
+// By its number, its name, and what to mend where a sheet or a saved run can bring it about.
+pub fn refusal(e: Refusal) -> Told {
+    say(b"panel: refusal ");
+    io::print_decimal(ERRORS, u64::from(u8::from(e)));
+    say(b", ");
+    match e {
+        Refusal::Dimension => say(b"Dimension: give from 1 to 4096 periods, a line each"),
+        Refusal::Length => fault(b"Length"),
+        Refusal::NonFiniteSystem => {
+            say(b"NonFiniteSystem: make the numbers of period, noise, radio and wander smaller")
+        }
+        Refusal::NotPsd => fault(b"NotPsd"),
+        Refusal::QNotDiagonal => fault(b"QNotDiagonal"),
+        Refusal::NonFiniteStart => {
+            say(b"NonFiniteStart: make the numbers of start-offset, start-rate and radio smaller")
+        }
+        Refusal::StartShape => fault(b"StartShape"),
+        Refusal::NonDiagonalH => fault(b"NonDiagonalH"),
+        Refusal::InfiniteReading => say(b"InfiniteReading: make the checks smaller"),
+        Refusal::MixedDriven => fault(b"MixedDriven"),
+        Refusal::NonFiniteNoise => {
+            say(b"NonFiniteNoise: make the numbers of radio and wander smaller")
+        }
+        Refusal::NoInformation => say(
+            b"NoInformation: there are checks, and none of them tells anything new. Say 'unknown' of the start, or give it, or the wander, a spread above 0",
+        ),
+        Refusal::ListShort => fault(b"ListShort"),
+        Refusal::BadSaved => say(
+            b"BadSaved: the file is not a saved run of this clock, or the run would be longer than 4096 periods. Give the file that --save wrote, as it was; to begin a new run leave --from out",
+        ),
     }
-}
-
-pub fn refusal(k: u8) {
-    io::write_all(ERRORS, b"panel: refusal ");
-    io::print_decimal(ERRORS, k as u64);
-    io::write_all(ERRORS, b", ");
-    if is_fault(k) {
-        fault(k);
-    } else {
-        mend(k);
-    }
-    io::write_all(ERRORS, b"\n");
+    say(b"\n");
+    Told
 }

@@ -2,4 +2,4 @@
 use Rattle.c_smooth.proofs.goxundar_smooth_5.Goals as goal
 
 pub returns : goal.returns
-returns c = let o = c.smooth_univariate-o in record { outcome = o.result; promise = o.ensures; told = c.tell.ensures }
+returns c = let o = c.smooth_univariate-outcome in record { outcome = o.result; promise = o.ensures; told = c.tell.ensures }

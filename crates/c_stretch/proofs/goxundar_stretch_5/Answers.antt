@@ -2,4 +2,4 @@
 use Rattle.c_stretch.proofs.goxundar_stretch_5.Goals as goal
 
 pub returns : goal.returns
-returns c = let o = c.stretch-o in record { outcome = o.result; promise = o.ensures; told = c.tell.ensures }
+returns c = let o = c.stretch-outcome in record { outcome = o.result; promise = o.ensures; told = c.tell.ensures }

@@ -6,11 +6,5 @@ use Rattle.carried.proofs.keep_mean.Goals as goal
 pub returns-then-state-eq0 : goal.returns-then-state-eq0
 returns-then-state-eq0 c = laws.mean_none _ _ _ c.if-state-eq0.true
 
-pub slice_bounds-save8-end : goal.slice_bounds-save8-end
-slice_bounds-save8-end c = laws.mean_in_lem c.requires c.if-state-eq0.false refl
-
-pub save8-requires : goal.save8-requires
-save8-requires c = laws.first_most _ (laws.mean_in_lem c.requires c.if-state-eq0.false refl) c.requires.m8
-
 pub returns : goal.returns
-returns c = laws.mean_kept_lem _ _ _ c.save8.new.out (laws.mean_in_lem c.requires c.if-state-eq0.false refl) c.if-state-eq0.false c.save8.ensures
+returns c = laws.mean_kept_lem _ _ _ c.save.new.out (laws.mean_in_lem c.requires c.if-state-eq0.false refl) c.if-state-eq0.false c.save.ensures

@@ -1,22 +1,18 @@
--- One number more, then all of them.
-use Rattle.std.proofs.Common.{sym, ◌∙◌, add-one, arith, length-set}
+-- One period more, then all of them.
+use Rattle.std.proofs.Common.{◌≡◌, List, cond, sym, ◌∙◌, ap₂, arith}
+use lib.Ieee.{Float}
+use Rattle.clock.specs.Transition.{transition_of, own_of, in_season}
 use Rattle.clock.proofs.Told.{next, all}
 use Rattle.clock.proofs.transitions.Goals as goal
 
-pub loop-i-init : goal.loop-i-init
-loop-i-init c = (omega arith, sym c.requires, λ j h. absurd (omega arith))
-
-pub loop-i-preserved : goal.loop-i-preserved
-loop-i-preserved c =
-    let w = c.loop-i in
-    let own = c.keeping-own in
-    let before = c.transition-before in
+pub loop-k-preserved : goal.loop-k-preserved
+loop-k-preserved c =
+    let w = c.loop-k in
     let s = c.args.s in
-    let l = w.invariant.1 in
-    (omega arith, length-set w.list w.i c.number.result ∙ l, rw add-one (next s w.list w.i (omega arith) before.ensures own.ensures c.number.ensures w.invariant.2))
-
-pub shape_of-list : goal.shape_of-list
-shape_of-list c = c.loop-i.invariant.1 ∙ c.requires
+    let e : c.copy_from_slice.new.self ≡ cond (in_season s.season w.k) (own_of s) (transition_of s) = c.copy_from_slice.ensures.after
+    ∙ c.of_period-t.ensures
+    ∙ ap₂ (λ (own before : List Float). cond (in_season s.season w.k) own before) c.own-own.ensures c.transition-before.ensures in
+    next s w.list w.k _ (w.auto.list ∙ sym c.requires) (omega arith) e w.invariant
 
 pub returns : goal.returns
-returns c = let w = c.loop-i in all c.args.s w.list w.i w.invariant.1 (omega arith) w.invariant.2
+returns c = let w = c.loop-k in all c.args.s w.list (w.auto.list ∙ sym c.requires) (λ j h. w.invariant j (omega arith))

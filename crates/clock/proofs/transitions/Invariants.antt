@@ -1,7 +1,6 @@
--- The first i numbers are told.
-use Rattle.std.proofs.Common.{◌≡◌, ◌≤◌, length}
+-- The first k periods have their T.
 use Rattle.clock.proofs.Told.{Told}
 use Rattle.clock.proofs.transitions.Given as goal
 
-abbrev pub invariant-loop-i : goal.invariant-loop-i
-invariant-loop-i l = (l.i ≤ 36864) × (length l.list ≡ 36864) × Told l.s l.list l.i
+abbrev pub invariant-loop-k : goal.invariant-loop-k
+invariant-loop-k l = Told l.s l.list l.k

@@ -1,22 +1,10 @@
 -- Each place is a sum, so the whole is.
-use native.Mathlib.Omega.{arith}
-use mathlib.Core.Path.{refl}
-use lib.Ieee.{binary64, add}
+use Rattle.definition.specs.Num.{◌⊕◌}
 use Rattle.definition.specs.Dense.{plus, plus_at}
+use Rattle.dense.specs.Views.{vec, rect}
 use Rattle.dense.proofs.Laws as laws
 use Rattle.dense.proofs.add.Goals as goal
 
-pub overflow_mul-k-end : goal.overflow_mul-k-end
-overflow_mul-k-end c = omega (arith, laws.area c.requires c.requires)
-
-pub loop-k-init : goal.loop-k-init
-loop-k-init c = (omega arith, refl, laws.area c.requires c.requires, laws.row_none _ _ _ _ refl)
-
-pub loop-k-preserved : goal.loop-k-preserved
-loop-k-preserved c = let w = c.loop-k in (omega arith, w.invariant.1, w.invariant.2, laws.both_next (add binary64) _ _ _ _ w.invariant.3)
-
 pub returns : goal.returns
-unfolding plus plus_at
-returns c =
-    let w = c.loop-k in
-    laws.both-rect (add binary64) _ _ _ _ _ (omega (arith, c.sized.ensures)) (laws.row_end _ _ _ w.invariant.3 (omega arith) (omega arith))
+unfolding plus plus_at vec rect
+returns c = laws.flat_both ◌⊕◌ c.args.m _ _ _ (c.combine.ensures ◌⊕◌ (λ x y v p. cc))

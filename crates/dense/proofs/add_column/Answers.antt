@@ -21,4 +21,4 @@ loop-i-preserved c =
 
 pub returns : goal.returns
 returns c =
-    laws.vec-row _ _ _ _ (omega (arith, c.sized8.ensures)) (laws.row_end _ _ _ c.loop-i.invariant.1 c.loop-i.invariant.0 c.loop-i-test.false)
+    laws.vec-row _ _ _ _ (omega (arith, c.told-out)) (laws.row_end _ _ _ c.loop-i.invariant.1 c.loop-i.invariant.0 c.loop-i-test.false)

@@ -8,7 +8,7 @@ use Rattle.dense.proofs.add_column_kept.Goals as goal
 
 pub returns-then-is_zero : goal.returns-then-is_zero
 unfolding zero_at
-returns-then-is_zero c = cols.more_none _ _ _ _ _ (omega (arith, c.sized8.ensures)) (sym (ap is_zero c.nth.ensures) ∙ sym c.is_zero.ensures ∙ c.if-is_zero.true)
+returns-then-is_zero c = cols.more_none _ _ _ _ _ (omega (arith, c.told-out)) (sym (ap is_zero c.nth.ensures) ∙ sym c.is_zero.ensures ∙ c.if-is_zero.true)
 
 pub returns : goal.returns
 unfolding zero_at

@@ -1,16 +1,8 @@
 -- Each entry is that of the product, so the whole is.
-use native.Mathlib.Omega.{arith}
-use mathlib.Core.Path.{refl}
-use Rattle.dense.proofs.Laws as laws
-use Rattle.definition.specs.Dense.{mat_tVec}
+use Rattle.definition.specs.Dense.{mat_tVec, mat_tVec_at}
+use Rattle.dense.specs.Views.{vec, mat}
 use Rattle.dense.proofs.mat_t_vec.Goals as goal
-
-pub loop-j-init : goal.loop-j-init
-loop-j-init c = (omega arith, refl, laws.row_none _ _ _ _ refl)
-
-pub loop-j-preserved : goal.loop-j-preserved
-loop-j-preserved c = (omega arith, c.loop-j.invariant.1, laws.vec_next _ _ _ _ _ c.loop-j.invariant.2 c.mat_t_vec_at.ensures)
 
 pub returns : goal.returns
 unfolding mat_tVec
-returns c = laws.vec-row _ _ _ _ (omega arith) (laws.row_end _ _ _ c.loop-j.invariant.2 c.loop-j.invariant.0 c.loop-j-test.false)
+returns c = let a = c.args in c.vector.ensures (mat_tVec_at a.m (mat a.m a.a.now) (vec a.m a.x.now)) (λ i v h p. cc)

@@ -11,7 +11,7 @@ loop-i-init c = (omega arith, λ q h. h)
 pub loop-i-preserved : goal.loop-i-preserved
 loop-i-preserved c = (
   omega arith,
-  λ q h. pairs.pair_next _ _ _ q _ _ _ c.loop-i-test.true c.requires.1 (omega (arith, c.sized.ensures, h.kept, laws.area c.requires.0 c.requires.0)) (c.loop-i.invariant.1 q h) c.mirror.ensures refl,
+  λ q h. pairs.pair_next _ _ _ q _ _ _ c.loop-i-test.true c.requires.1 (omega (arith, c.told-p, h.kept, laws.area c.requires.0 c.requires.0)) (c.loop-i.invariant.1 q h) c.mirror.ensures refl,
 )
 
 pub returns : goal.returns

@@ -6,7 +6,7 @@ use Rattle.dense.proofs.Columns as cols
 use Rattle.dense.proofs.outer_sub.Goals as goal
 
 pub loop-j-init : goal.loop-j-init
-loop-j-init c = (omega arith, cols.less_start _ _ _ _ (omega (arith, c.sized.ensures, laws.area c.requires c.requires)))
+loop-j-init c = (omega arith, cols.less_start _ _ _ _ (omega (arith, c.told-p, laws.area c.requires c.requires)))
 
 pub loop-j-preserved : goal.loop-j-preserved
 loop-j-preserved c = (omega arith, cols.less_next _ _ _ _ c.loop-j-test.true _ _ _ c.loop-j.invariant.1 c.sub_column_kept.ensures)

@@ -1,35 +1,20 @@
--- The row is within 64 places; copied entry by entry, it stands behind what stood before.
+-- The row is copied behind the others.
+use mathlib.Core.Path.{◌≡◌, ap, ◌∙◌}
+use mathlib.Core.List.{◌++◌}
+use Prim.Native.Nat.{◌+◌, ◌*◌, ◌≤◌}
 use native.Mathlib.Omega.{arith}
-use mathlib.Core.Path.{refl}
-use Prim.Native.Nat.{ℕ, ◌≤◌, ◌<◌, ◌*◌, ◌+◌}
-use Rattle.laws.specs.Passes.{block_in}
-use Rattle.dense.proofs.Laws as laws
+use native.Mathlib.Nat.{mul-le-mul}
+use lib.ListN.{length, take}
+use lib.Seq.{length-take-le}
+use Rattle.std.proofs.lemmas.Slice.{take-put_mid}
+use Rattle.dense.specs.Views.{vec, rect}
 use Rattle.dense.proofs.put_row.Goals as goal
 
-fits : (i c : ℕ) → i < 8 → c ≤ 8 → i * c + c ≤ 64
-fits i c low small = omega (arith, block_in i 8 c low, small)
-
-pub loop-j-init : goal.loop-j-init
-loop-j-init c = (omega arith, laws.row_none _ _ _ _ refl)
-
-pub offset_bounds-x-j : goal.offset_bounds-x-j
-offset_bounds-x-j c = omega (arith, fits c.args.i c.args.c c.requires.0 c.requires.1)
-
-pub overflow_mul-a : goal.overflow_mul-a
-overflow_mul-a c = omega (arith, fits c.args.i c.args.c c.requires.0 c.requires.1)
-
-pub offset_bounds-a-i : goal.offset_bounds-a-i
-offset_bounds-a-i c = omega (arith, fits c.args.i c.args.c c.requires.0 c.requires.1)
-
-pub overflow_add-a : goal.overflow_add-a
-overflow_add-a c = omega (arith, fits c.args.i c.args.c c.requires.0 c.requires.1)
-
-pub bounds-a-i : goal.bounds-a-i
-bounds-a-i c = omega (arith, fits c.args.i c.args.c c.requires.0 c.requires.1)
-
-pub loop-j-preserved : goal.loop-j-preserved
-unfolding laws.copied
-loop-j-preserved c = (omega arith, laws.row_next _ _ _ _ _ _ _ refl c.loop-j.invariant.1 refl)
-
 pub returns : goal.returns
-returns c = laws.next_row _ _ _ _ _ (omega (arith, fits c.args.i c.args.c c.requires.0 c.requires.1, c.sized.ensures)) (omega (arith, c.requires.1, c.sized8.ensures)) (laws.row_end _ _ _ c.loop-j.invariant.1 c.loop-j.invariant.0 c.loop-j-test.false)
+unfolding vec rect
+returns c =
+    let a = c.args in
+    let e = c.copy_from_slice.ensures.after in
+    let n : length c.copy_from_slice.new.self ≡ a.c = ap length e ∙ length-take-le a.c a.x.now (omega (arith, c.told-x, c.requires.1)) in
+    let b : (a.i + 1) * a.c ≤ 64 = mul-le-mul {n₁ = a.i + 1} {m₁ = a.c} {n₂ = 8} {m₂ = 8} (omega arith) c.requires.1 in
+    take-put_mid (a.i * a.c) _ a.a.now _ ((a.i + 1) * a.c) (omega (arith, n)) (omega (arith, b, c.told-a)) ∙ ap (λ (l : _). take (a.i * a.c) a.a.now ++ l) e

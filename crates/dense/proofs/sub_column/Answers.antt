@@ -21,4 +21,4 @@ loop-i-preserved c =
 pub returns : goal.returns
 unfolding column_less
 returns c =
-    laws.rect-column _ _ _ _ _ _ c.requires.1 (omega (arith, c.sized.ensures, laws.area c.requires.0 c.requires.0)) (laws.column_end _ _ _ _ c.loop-i.invariant.1 c.loop-i.invariant.0 c.loop-i-test.false)
+    laws.rect-column _ _ _ _ _ _ c.requires.1 (omega (arith, c.told-p, laws.area c.requires.0 c.requires.0)) (laws.column_end _ _ _ _ c.loop-i.invariant.1 c.loop-i.invariant.0 c.loop-i-test.false)

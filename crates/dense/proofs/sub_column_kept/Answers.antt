@@ -10,7 +10,7 @@ use Rattle.dense.proofs.sub_column_kept.Goals as goal
 pub returns-then-is_zero : goal.returns-then-is_zero
 unfolding zero_at
 returns-then-is_zero c =
-    cols.less_none _ _ _ _ c.requires.1 _ (omega (arith, c.sized.ensures, laws.area c.requires.0 c.requires.0)) (sym (ap is_zero c.nth.ensures) ∙ sym c.is_zero.ensures ∙ c.if-is_zero.true)
+    cols.less_none _ _ _ _ c.requires.1 _ (omega (arith, c.told-p, laws.area c.requires.0 c.requires.0)) (sym (ap is_zero c.nth.ensures) ∙ sym c.is_zero.ensures ∙ c.if-is_zero.true)
 
 pub returns : goal.returns
 unfolding zero_at

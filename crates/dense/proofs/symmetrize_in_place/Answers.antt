@@ -12,4 +12,4 @@ loop-j-preserved c = (omega arith, c.mirror_column.ensures _ c.loop-j.invariant.
 
 pub returns : goal.returns
 returns c =
-    pairs.pair_all _ _ _ _ c.loop-j-test.false (omega (arith, c.sized.ensures, laws.area c.requires c.requires)) c.loop-j.invariant.1
+    pairs.pair_all _ _ _ _ c.loop-j-test.false (omega (arith, c.told-p, laws.area c.requires c.requires)) c.loop-j.invariant.1

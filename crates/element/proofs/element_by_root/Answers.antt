@@ -4,10 +4,10 @@ use Rattle.element.proofs.Laws as laws
 use Rattle.element.proofs.element_by_root.Goals as goal
 
 pub returns-then-gap : goal.returns-then-gap
-returns-then-gap c = laws.by_root_gap _ _ _ _ _ _ _ _ _ _ _ _ c.if-gap.true refl c.record_skipped.ensures
+returns-then-gap c = laws.by_root_gap c.args.x.now _ _ _ _ _ _ _ c.if-gap.true refl c.skip.ensures
 
-pub returns-in-Nothing : goal.returns-in-Nothing
-returns-in-Nothing c = laws.by_root_no _ _ _ _ _ _ _ _ _ _ _ _ c.if-gap.false c.row_to_vec-z.ensures c.get-h.ensures (c.requires.1.known refl) c.mat_vec.ensures.result c.f_star-f.ensures c.is_usual-found.ensures _ c.in-Nothing.is refl c.record_skipped-in-Nothing.ensures
+pub returns-in-Err : goal.returns-in-Err
+returns-in-Err c = laws.by_root_no c.args.x.now _ _ _ _ _ _ _ c.is_usual.result c.if-gap.false c.row_to_vec-z.ensures c.get.ensures (c.requires.1.known refl) c.mat_vec.ensures.result c.f_star-f.ensures c.is_usual.ensures.finds _ c.in-Err.is refl c.skip-in-Err.ensures
 
-pub returns-in-Usual : goal.returns-in-Usual
-returns-in-Usual c = laws.by_root_yes _ _ _ _ _ _ _ _ _ _ _ _ c.if-gap.false c.row_to_vec-z.ensures c.get-h.ensures (c.requires.1.known refl) c.mat_vec.ensures.result c.f_star-f.ensures c.is_usual-found.ensures c.in-Usual.is c.usual_update.ensures c.record_usual.ensures
+pub returns-in-Ok : goal.returns-in-Ok
+returns-in-Ok c = laws.by_root_yes c.args.x.now _ _ _ _ _ _ _ c.is_usual.result c.if-gap.false c.row_to_vec-z.ensures c.get.ensures (c.requires.1.known refl) c.mat_vec.ensures.result c.f_star-f.ensures c.is_usual.ensures.finds c.in-Ok.is c.usual_update.ensures c.usual.ensures

@@ -1,30 +1,8 @@
--- Each entry is that of - k z', so the whole is.
-use native.Mathlib.Omega.{arith}
-use mathlib.Core.Path.{◌≡◌, refl, ◌∙◌}
-use lib.Ieee.{neg}
-use Rattle.definition.specs.Num.{◌⊗◌}
-use Rattle.definition.specs.Smooth.{l_one, l_one_at}
+-- Each entry is that of the definition, so the whole is.
 use Rattle.dense.specs.Views.{vec}
-use Rattle.dense.proofs.Laws as laws
+use Rattle.definition.specs.Smooth.{l_one, l_one_at}
 use Rattle.element_back.proofs.l_one.Goals as goal
-
-pub loop-i-init : goal.loop-i-init
-loop-i-init c = (omega arith, refl, laws.grid_none _ _ _ _ refl)
-
-pub loop-j-init : goal.loop-j-init
-loop-j-init c = (omega arith, laws.row_none _ _ _ _ refl)
-
-pub loop-j-preserved : goal.loop-j-preserved
-unfolding l_one_at
-loop-j-preserved c =
-    let a = c.args in
-    let v : neg c.nth.result ⊗ c.nth-in-loop-j.result ≡ l_one_at (vec a.m a.k.now) (vec a.m a.z.now) c.loop-i.i c.loop-j.j = cc in
-    (omega arith, c.put.ensures ∙ laws.row_next _ _ _ _ _ _ _ refl c.loop-j.invariant.1 v)
-
-pub loop-i-preserved : goal.loop-i-preserved
-loop-i-preserved c = (omega arith, c.loop-i.invariant.1, laws.grid_next (l_one_at _ _) _ _ _ _ _ _ c.loop-j.invariant.1 c.loop-i.invariant.2 c.loop-j.invariant.0 c.loop-j-test.false)
 
 pub returns : goal.returns
 unfolding l_one
-returns c =
-    laws.rect-grid _ _ _ _ _ (omega (arith, laws.area c.requires c.requires)) (laws.grid_end _ _ _ c.loop-i.invariant.2 c.loop-i.invariant.0 c.loop-i-test.false)
+returns c = let a = c.args in c.matrix_into.ensures (l_one_at (vec a.m a.k.now) (vec a.m a.z.now)) (λ i j v h k p. cc)

@@ -1,6 +1,6 @@
 -- The covariance pass, the counts, what ran off; the mean pass, what ran off.
 use native.Mathlib.Omega.{arith}
-use Rattle.promise.specs.Lent.{model_of, offsets_of, cov_parts, mean_parts}
+use Rattle.promise.specs.Lent.{model_in, offsets_in, cov_parts, mean_parts}
 use Rattle.forward.proofs.Ran as ran
 use Rattle.forward.proofs.run.Goals as goal
 
@@ -11,8 +11,8 @@ cov_pass-ended-requires c = (c.requires.state, ran.cov_ready c.requires, ran.cov
 pub heard-heard-requires : goal.heard-heard-requires
 heard-heard-requires c = ran.few c.requires
 
-pub overflow_mul-n : goal.overflow_mul-n
-overflow_mul-n c = omega (arith, ran.few_records c.requires)
+pub overflow_mul-x : goal.overflow_mul-x
+overflow_mul-x c = omega (arith, ran.few_records c.requires)
 
 pub news-news-requires : goal.news-news-requires
 unfolding cov_parts
@@ -22,13 +22,13 @@ pub covs-cov_off-requires : goal.covs-cov_off-requires
 unfolding cov_parts
 covs-cov_off-requires c =
     let a = c.args in
-    ran.cov_looks c.requires _ _ _ _ (ran.few_diffuse (model_of a.p a.m a.r a.n a.z.now a.zs.now a.repeats a.h.now a.t.now a.ts.now a.rr.now a.q.now a.p_star.now a.flags.now) (offsets_of a.c.now a.d.now a.a1.now) a.y.now a.rqr.now a.state.now _ a.state.now a.live a.done a.before _ a.n a.n a.n a.n a.before a.before a.pred_mean.now a.pred_mean.now a.filt_mean.now a.filt_mean.now a.v.now a.v.now _ _ _ _ _ _ _ _ _ _ _ _ _ _ _ _ c.requires c.cov_pass-ended.ensures) c.cov_pass-ended.auto.pred_cov c.cov_pass-ended.auto.pred_inf c.cov_pass-ended.auto.filt_cov
+    ran.cov_looks c.requires _ _ _ _ (ran.few_diffuse (model_in a.x.now) (offsets_in a.o.now) a.y.now a.rqr.now a.state.now _ a.state.now a.t.live a.t.done a.t.answer _ a.x.now.n a.x.now.n a.x.now.n a.x.now.n a.t.answer a.t.answer a.pred_mean.now a.pred_mean.now a.filt_mean.now a.filt_mean.now a.v.now a.v.now _ _ _ _ _ _ _ _ _ _ _ _ _ _ _ _ c.requires c.cov_pass-ended.ensures) c.cov_pass-ended.auto.pred_cov c.cov_pass-ended.auto.pred_inf c.cov_pass-ended.auto.filt_cov
 
 pub counted-requires : goal.counted-requires
 unfolding cov_parts
 counted-requires c =
     let a = c.args in
-    ran.few_counts (model_of a.p a.m a.r a.n a.z.now a.zs.now a.repeats a.h.now a.t.now a.ts.now a.rr.now a.q.now a.p_star.now a.flags.now) (offsets_of a.c.now a.d.now a.a1.now) a.y.now a.rqr.now a.state.now _ a.state.now a.live a.done a.before _ _ _ a.n a.n a.before a.before a.pred_mean.now a.pred_mean.now a.filt_mean.now a.filt_mean.now a.v.now a.v.now _ _ _ _ _ _ _ _ _ _ _ _ _ _ _ _ c.requires c.cov_pass-ended.ensures c.heard-heard.ensures c.news-news.ensures (ran.records c.requires c.cov_pass-ended.auto.kinds)
+    ran.few_counts (model_in a.x.now) (offsets_in a.o.now) a.y.now a.rqr.now a.state.now _ a.state.now a.t.live a.t.done a.t.answer _ _ _ a.x.now.n a.x.now.n a.t.answer a.t.answer a.pred_mean.now a.pred_mean.now a.filt_mean.now a.filt_mean.now a.v.now a.v.now _ _ _ _ _ _ _ _ _ _ _ _ _ _ _ _ c.requires c.cov_pass-ended.ensures c.heard-heard.ensures c.news-news.ensures (ran.records c.requires c.cov_pass-ended.auto.kinds)
 
 pub mean_pass-answer-requires : goal.mean_pass-answer-requires
 unfolding cov_parts mean_parts
@@ -41,4 +41,4 @@ means-mean_off-requires c = ran.mean_looks_lem c.requires _ _ c.mean_pass-answer
 pub returns : goal.returns
 returns c =
     let a = c.args in
-    ran.ran (model_of a.p a.m a.r a.n a.z.now a.zs.now a.repeats a.h.now a.t.now a.ts.now a.rr.now a.q.now a.p_star.now a.flags.now) (offsets_of a.c.now a.d.now a.a1.now) a.y.now a.rqr.now a.state.now _ _ a.live a.done a.before _ _ _ _ _ _ _ _ _ _ _ _ _ _ _ _ _ _ _ _ _ _ _ _ _ _ _ _ _ _ c.requires c.cov_pass-ended.ensures c.heard-heard.ensures c.news-news.ensures c.covs-cov_off.ensures c.counted.ensures c.mean_pass-answer.ensures c.means-mean_off.ensures c.reported.ensures
+    ran.ran (model_in a.x.now) (offsets_in a.o.now) a.y.now a.rqr.now a.state.now _ _ a.t.live a.t.done a.t.answer _ _ _ _ _ _ _ _ _ _ _ _ _ _ _ _ _ _ _ _ _ _ _ _ _ _ _ _ _ _ c.requires c.cov_pass-ended.ensures c.heard-heard.ensures c.news-news.ensures c.covs-cov_off.ensures c.counted.ensures c.mean_pass-answer.ensures c.means-mean_off.ensures c.reported.ensures

@@ -1,6 +1,6 @@
 -- The run, and refusal 12.
 use mathlib.Core.Path.{sym, ◌∙◌}
-use Rattle.promise.specs.Lent.{model_of, offsets_of, cov_parts, mean_parts}
+use Rattle.promise.specs.Lent.{model_in, offsets_in, cov_parts, mean_parts}
 use Rattle.judged.specs.Blanked as blanked
 use Rattle.judged.specs.Went as went
 use Rattle.judged.proofs.run.Goals as goal
@@ -17,10 +17,10 @@ unfolding cov_parts mean_parts
 returns-then-is_silent c =
     let a = c.args in
     let b = c.filtered.ensures in
-    went.silenced {x = model_of a.p a.m a.r a.n a.z.now a.zs.now a.repeats a.h.now a.t.now a.ts.now a.rr.now a.q.now a.p_star.now a.flags.now} {o = offsets_of a.c.now a.d.now a.a1.now} {y = a.y.now} {s = a.state.now} {w = cov_parts a.pred_cov.now a.pred_inf.now a.filt_cov.now a.kinds.now a.f_star.now a.f_inf.now a.m_star.now a.m_inf.now} {w' = mean_parts a.pred_mean.now a.filt_mean.now a.v.now} a.last c.run-end.ensures (sym c.is_silent.ensures ∙ c.if-is_silent.true) (blanked.blanked (model_of a.p a.m a.r a.n a.z.now a.zs.now a.repeats a.h.now a.t.now a.ts.now a.rr.now a.q.now a.p_star.now a.flags.now) b.1 b.2 b.0)
+    went.silenced {x = model_in a.x.now} {o = offsets_in a.o.now} {y = a.y.now} {s = a.state.now} {w = cov_parts a.pred_cov.now a.pred_inf.now a.filt_cov.now a.kinds.now a.f_star.now a.f_inf.now a.m_star.now a.m_inf.now} {w' = mean_parts a.pred_mean.now a.filt_mean.now a.v.now} a.last c.run-end.ensures (sym c.is_silent.ensures ∙ c.if-is_silent.true) (blanked.blanked (model_in a.x.now) b.1 b.2 b.0)
 
 pub returns : goal.returns
 unfolding cov_parts mean_parts
 returns c =
     let a = c.args in
-    went.heard {x = model_of a.p a.m a.r a.n a.z.now a.zs.now a.repeats a.h.now a.t.now a.ts.now a.rr.now a.q.now a.p_star.now a.flags.now} {o = offsets_of a.c.now a.d.now a.a1.now} {y = a.y.now} {s = a.state.now} {w = cov_parts a.pred_cov.now a.pred_inf.now a.filt_cov.now a.kinds.now a.f_star.now a.f_inf.now a.m_star.now a.m_inf.now} {w' = mean_parts a.pred_mean.now a.filt_mean.now a.v.now} a.last c.run-end.ensures (sym c.is_silent.ensures ∙ c.if-is_silent.false)
+    went.heard {x = model_in a.x.now} {o = offsets_in a.o.now} {y = a.y.now} {s = a.state.now} {w = cov_parts a.pred_cov.now a.pred_inf.now a.filt_cov.now a.kinds.now a.f_star.now a.f_inf.now a.m_star.now a.m_inf.now} {w' = mean_parts a.pred_mean.now a.filt_mean.now a.v.now} a.last c.run-end.ensures (sym c.is_silent.ensures ∙ c.if-is_silent.false)

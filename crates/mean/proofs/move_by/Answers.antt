@@ -1,21 +1,11 @@
--- One entry more is moved; at the end all are.
-use mathlib.Core.Path.{refl, ◌∙◌}
-use native.Mathlib.Omega.{arith}
-use Rattle.dense.proofs.Laws as rows
+-- Each entry moves by v times its entry of the gain, so the whole does.
+use Rattle.definition.specs.Dense.{axpy, axpy_at, over}
+use Rattle.dense.specs.Views.{vec}
 use Rattle.mean.proofs.Laws as laws
 use Rattle.mean.proofs.move_by.Goals as goal
 
-pub loop-j-init : goal.loop-j-init
-loop-j-init c = (omega arith, rows.row_none _ _ _ _ refl)
-
-pub loop-j-preserved : goal.loop-j-preserved
-unfolding laws.moved
-loop-j-preserved c =
-    let a = c.args in
-    (omega arith, rows.both_next (laws.moved a.v a.f) _ _ _ _ c.loop-j.invariant.1)
-
 pub returns : goal.returns
+unfolding axpy
 returns c =
-    let w = c.loop-j in
     let a = c.args in
-    rows.both-vec (laws.moved a.v a.f) _ _ _ _ (omega (arith, c.sized8.ensures)) (rows.row_end _ _ _ w.invariant.1 w.invariant.0 c.loop-j-test.false) ∙ laws.moved_all a.v a.f a.m a.a.now a.gain.now
+    c.vector-moved.ensures (axpy_at (vec a.m a.a.now) a.v (over a.m a.gain.now a.f)) (λ i x h p. laws.moved a.v a.f a.m a.a.now a.gain.now i h cc)

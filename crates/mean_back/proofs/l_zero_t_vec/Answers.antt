@@ -1,17 +1,9 @@
-use mathlib.Core.Path.{refl}
-use Prim.Native.Nat.{◌-◌}
-use native.Mathlib.Omega.{arith}
-use Rattle.definition.specs.Dense.{mat_tVec}
+-- Each entry is that of the product, so the whole is.
+use Rattle.definition.specs.Dense.{mat_tVec, mat_tVec_at}
+use Rattle.definition.specs.Smooth.{l_zero}
 use Rattle.dense.specs.Views.{vec}
-use Rattle.dense.proofs.Laws as rows
 use Rattle.mean_back.proofs.l_zero_t_vec.Goals as goal
-
-pub loop-j-init : goal.loop-j-init
-loop-j-init c = (omega arith, refl, rows.row_none _ _ _ _ refl)
-
-pub loop-j-preserved : goal.loop-j-preserved
-loop-j-preserved c = (omega arith, c.loop-j.invariant.1, rows.vec_next _ _ _ _ _ c.loop-j.invariant.2 c.l_zero_t_vec_at.ensures)
 
 pub returns : goal.returns
 unfolding mat_tVec
-returns c = rows.vec-row _ _ _ _ (omega arith) (rows.row_end _ _ _ c.loop-j.invariant.2 c.loop-j.invariant.0 c.loop-j-test.false)
+returns c = let a = c.args in c.vector.ensures (mat_tVec_at a.m (l_zero a.m (vec a.m a.k.now) (vec a.m a.z.now)) (vec a.m a.r.now)) (λ j v h p. cc)

@@ -1,25 +1,12 @@
-use Prim.Native.Nat.{◌-◌}
+-- A term more, or none where x is 0; at the end all of the row.
 use native.Mathlib.Omega.{arith}
 use Rattle.definition.specs.Dense.{mat_vec_at}
 use Rattle.dense.proofs.Laws as sums
 use Rattle.mean_back.proofs.Laws as laws
-use Rattle.mean_back.proofs.Sizes as sizes
 use Rattle.mean_back.proofs.part_vec_at.Goals as goal
-
-pub overflow_mul-from : goal.overflow_mul-from
-overflow_mul-from c = omega (arith, sizes.row_small c.requires)
 
 pub loop-j-init : goal.loop-j-init
 loop-j-init c = (omega arith, sums.but_none _ _)
-
-pub overflow_add-from : goal.overflow_add-from
-overflow_add-from c = omega (arith, sizes.row_small c.requires)
-
-pub offset_bounds-a-from : goal.offset_bounds-a-from
-offset_bounds-a-from c = omega (arith, sizes.row_small c.requires)
-
-pub bounds-a-from : goal.bounds-a-from
-bounds-a-from c = omega (arith, sizes.row_in c.requires)
 
 pub loop-j-preserved : goal.loop-j-preserved
 loop-j-preserved c = (omega arith, laws.kept_next _ _ _ _ _ c.loop-j.invariant.1 c.nth.ensures c.plus_kept-s.ensures)

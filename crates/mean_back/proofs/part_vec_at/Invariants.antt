@@ -1,6 +1,6 @@
 -- The loop sums a row of A x, ascending from +0.0, and leaves out the terms at which x is 0.
 use mathlib.Core.Path.{◌≡◌}
-use Prim.Native.Nat.{◌≤◌, ◌-◌}
+use Prim.Native.Nat.{◌≤◌}
 use Rattle.definition.specs.Num.{sum_but}
 use Rattle.definition.specs.Dense.{mat_vec_term, zero_at}
 use Rattle.dense.specs.Views.{vec}

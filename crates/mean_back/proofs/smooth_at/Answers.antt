@@ -4,4 +4,4 @@ use Rattle.mean_back.proofs.smooth_at.Goals as goal
 
 pub returns : goal.returns
 returns c =
-    laws.smooth_at c.args.m c.args.t _ _ c.args.pred_mean.now c.args.pred_cov.now c.args.pred_inf.now _ c.requires.1.means c.requires.1.covs c.requires.1.infs c.smooth.ensures
+    laws.smooth_at c.args.m c.args.t _ _ c.args.pred.now.mean.now c.args.pred.now.cov.now c.args.pred.now.inf.now _ c.requires.1.means c.requires.1.covs c.requires.1.infs c.smooth.ensures

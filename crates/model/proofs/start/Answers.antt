@@ -4,8 +4,8 @@ use Rattle.dense.proofs.Laws.{area}
 use Rattle.model.proofs.Laws.{started}
 use Rattle.model.proofs.start.Goals as goal
 
-pub load64-requires : goal.load64-requires
-load64-requires c = omega (arith, area c.requires.m8 c.requires.m8)
+pub fill-requires : goal.fill-requires
+fill-requires c = omega (arith, area c.requires.m8 c.requires.m8)
 
 pub returns : goal.returns
-returns c = started _ _ _ _ _ c.requires c.load64.ensures c.diffuse_cov.ensures c.diffuse_root.ensures c.any_flag.ensures
+returns c = started _ _ _ _ _ c.requires c.fill.ensures c.diffuse_cov-s.ensures c.diffuse_root-s.ensures c.any_flag-s.ensures

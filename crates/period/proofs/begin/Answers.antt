@@ -1,10 +1,10 @@
 -- P∞ stays where the period is diffuse, or else is set to zeros.
-use mathlib.Core.Path.{sym, ◌∙◌}
+use mathlib.Core.Path.{refl}
 use Rattle.period.proofs.Whole as laws
 use Rattle.period.proofs.begin.Goals as goal
 
-pub returns-then-lasts : goal.returns-then-lasts
-returns-then-lasts c = record { lasts = sym c.if-lasts.true ∙ c.lasts.ensures; pinf = laws.entered_yes _ _ }
+pub returns-then-not-s : goal.returns-then-not-s
+returns-then-not-s c = record { lasts = c.lasts-s.ensures; pinf = rw c.if-not-s.true (laws.entered_no _ _ c.clear.ensures); star = refl; root = refl; unres = refl }
 
-pub returns : goal.returns
-returns c = record { lasts = sym c.if-lasts.false ∙ c.lasts.ensures; pinf = laws.entered_no _ _ c.clear.ensures }
+pub returns-else-not-s : goal.returns-else-not-s
+returns-else-not-s c = record { lasts = c.lasts-s.ensures; pinf = rw c.if-not-s.false (laws.entered_yes _ _); star = refl; root = refl; unres = refl }

@@ -2,8 +2,8 @@
 use Rattle.period.proofs.Whole as whole
 use Rattle.period.proofs.go_on.Goals as goal
 
-pub returns-then-diffuse : goal.returns-then-diffuse
-returns-then-diffuse c = whole.stepped_yes _ _ _ _ _ _ _ c.if-diffuse.true c.step_star.ensures c.step_inf.ensures c.mul_into.ensures.result c.sandwich_in_place.ensures
+pub returns-then-s : goal.returns-then-s
+returns-then-s c = whole.stepped_yes _ _ _ _ _ _ _ c.if-s.true c.step_star.ensures c.step_inf.ensures c.mul_into.ensures.result c.sandwich_in_place.ensures
 
-pub returns-else-diffuse : goal.returns-else-diffuse
-returns-else-diffuse c = whole.stepped_no _ _ _ _ _ _ _ c.if-diffuse.false c.step_star.ensures c.step_inf.ensures
+pub returns-else-s : goal.returns-else-s
+returns-else-s c = whole.stepped_no _ _ _ _ _ _ _ c.if-s.false c.step_star.ensures c.step_inf.ensures

@@ -20,4 +20,4 @@ loop-j-preserved c =
     (omega arith, laws.vec_next _ _ _ _ _ w.invariant.1 v)
 
 pub returns : goal.returns
-returns c = laws.vec-row _ _ _ _ (omega (arith, c.sized8.ensures)) (laws.row_end _ _ _ c.loop-j.invariant.1 c.loop-j.invariant.0 c.loop-j-test.false)
+returns c = laws.vec-row _ _ _ _ (omega (arith, c.told-r)) (laws.row_end _ _ _ c.loop-j.invariant.1 c.loop-j.invariant.0 c.loop-j-test.false)

@@ -4,10 +4,10 @@ use Rattle.products.proofs.Rows as rows
 use Rattle.products.proofs.product_row.Goals as goal
 
 pub loop-l-init : goal.loop-l-init
-loop-l-init c = (omega arith, rows.rows_start _ _ _ _ 8 c.requires.0)
+loop-l-init g c = (omega arith, rows.rows_start _ _ _ _ 8 c.requires.0)
 
 pub loop-l-preserved : goal.loop-l-preserved
-loop-l-preserved c = (omega arith, rows.rows_next _ _ _ _ _ _ _ _ c.loop-l.invariant.1 c.get.ensures c.add_row.ensures)
+loop-l-preserved g c = (omega arith, rows.rows_next _ _ _ _ _ _ _ _ c.loop-l.invariant.1 c.at.ensures c.add_row.ensures)
 
 pub returns : goal.returns
-returns c = rows.rows_all _ _ _ _ _ c.loop-l.invariant.1 c.loop-l.invariant.0 c.loop-l-test.false
+returns g c = rows.rows_all _ _ _ _ _ c.loop-l.invariant.1 c.loop-l.invariant.0 c.loop-l-test.false

@@ -3,4 +3,4 @@ use Rattle.dense.specs.Told.{told}
 use Rattle.products.proofs.t_mul_into.Goals as goal
 
 pub returns : goal.returns
-returns c = told c.t_mul_sized.ensures c.matrix_not_finite.ensures
+returns c = told c.mul_sized.ensures c.matrix_not_finite.ensures

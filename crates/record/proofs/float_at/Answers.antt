@@ -1,10 +1,10 @@
--- Past the end the list has no entry; 0.0 / 0.0 is the NaN that stands for it.
-use mathlib.Core.Path.{sym}
-use native.Mathlib.Omega.{arith}
-use lib.Ieee.{nan, div, of_bits}
-use lib.ListN.{get_or-eq_default}
+-- Past the end the list has no entry, and NaN stands for it.
+use Rattle.std.proofs.Common.{arith}
+use Rattle.std.proofs.lemmas.Grind.{common_steps}
+use Rattle.std.proofs.lemmas.Option.{gets}
+use lib.Ieee.{of_bits}
 use Rattle.record.proofs.float_at.Goals as goal
 
-pub returns-else-k-numbers : goal.returns-else-k-numbers
-unfolding div of_bits
-returns-else-k-numbers c = sym (get_or-eq_default c.args.numbers.now nan {n = c.args.k} (omega arith))
+pub returns : goal.returns
+unfolding of_bits
+returns c = grind (arith, common_steps, gets)

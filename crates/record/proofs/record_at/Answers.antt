@@ -1,6 +1,10 @@
--- The flat record of the four reads, and back.
-use Rattle.record.proofs.ByKind.{from_reads}
+-- The flat record of the four reads, as a record.
+use Rattle.std.proofs.Common.{arith}
+use Rattle.std.proofs.lemmas.Grind.{common_steps}
+use Rattle.std.proofs.lemmas.Option.{gets}
+use Rattle.promise.specs.Records.{record_at}
 use Rattle.record.proofs.record_at.Goals as goal
 
 pub returns : goal.returns
-returns c = from_reads _ _ _ _ _ c.byte_at.ensures c.float_at.ensures c.float_at-2.ensures c.float_at-3.ensures c.from_flat.ensures
+unfolding record_at
+returns c = grind (arith, common_steps, gets)

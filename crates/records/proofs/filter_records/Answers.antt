@@ -3,4 +3,4 @@ use Rattle.records.proofs.Told.{listed_so}
 use Rattle.records.proofs.filter_records.Goals as goal
 
 pub returns : goal.returns
-returns c = listed_so _ _ _ _ _ _ _ _ _ _ _ _ _ _ _ _ _ _ _ _ c.flat-o.ensures c.to_tell-k.ensures c.fill.ensures
+returns c = listed_so _ _ _ _ _ _ _ _ _ _ _ _ _ _ _ _ _ _ _ _ c.flat-outcome.ensures c.to_tell.ensures c.fill.ensures

@@ -1,15 +1,10 @@
--- None of a wide or a long call; else n·p, which fits.
-use Rattle.records.proofs.Laws.{all_fits, none_wide, none_long, all_of}
+-- None of a wide or a long call; else n·p.
+use Rattle.std.proofs.Common.{⊎_elim}
+use Rattle.records.proofs.Laws.{none_wide, none_long, all_of}
 use Rattle.records.proofs.in_all.Goals as goal
 
-pub returns-then-p-gt8 : goal.returns-then-p-gt8
-returns-then-p-gt8 c = none_wide _ _ c.if-p-gt8.true
-
 pub returns-then-n-gt4096 : goal.returns-then-n-gt4096
-returns-then-n-gt4096 c = none_long _ _ c.if-p-gt8.false c.if-n-gt4096.true
+returns-then-n-gt4096 c = ⊎_elim (none_wide _ _) (λ h. none_long _ _ h.0 h.1) c.if-n-gt4096.either
 
-pub overflow_mul-result : goal.overflow_mul-result
-overflow_mul-result c = record { fits = all_fits c.if-p-gt8.false c.if-n-gt4096.false }
-
-pub returns : goal.returns
-returns c = all_of _ _ c.if-p-gt8.false c.if-n-gt4096.false
+pub returns-else-n-gt4096 : goal.returns-else-n-gt4096
+returns-else-n-gt4096 c = let h = c.if-n-gt4096.false in all_of _ _ h.0 h.1

@@ -3,4 +3,4 @@ use Rattle.records.proofs.Told.{listed_smooth_so}
 use Rattle.records_smooth.proofs.smooth_records.Goals as goal
 
 pub returns : goal.returns
-returns c = listed_smooth_so _ _ _ _ _ _ _ _ _ _ _ _ _ _ _ _ _ _ _ _ _ _ _ _ c.flat_smooth-o.ensures c.to_tell-k.ensures c.fill.ensures
+returns c = listed_smooth_so _ _ _ _ _ _ _ _ _ _ _ _ _ _ _ _ _ _ _ _ _ _ _ _ c.flat_smooth-outcome.ensures c.to_tell.ensures c.fill.ensures

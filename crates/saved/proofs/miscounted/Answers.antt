@@ -6,4 +6,4 @@ use lib.Dec.{eqb}
 use Rattle.saved.proofs.miscounted.Goals as goal
 
 pub returns : goal.returns
-returns c = ap (λ (k : ℕ). not (eqb k c.args.w)) c.four.ensures.0
+returns c = ap (λ (k : ℕ). not (eqb k c.args.w)) c.four.ensures

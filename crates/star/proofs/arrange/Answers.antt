@@ -8,7 +8,7 @@ use Rattle.star.proofs.arrange.Goals as goal
 
 pub loop-l-init : goal.loop-l-init
 unfolding rect
-loop-l-init c = (omega arith, place.arranged_none _ _ _ _ (length-take-le _ _ (omega (arith, c.sized.ensures, square_le c.args.k c.requires.0))) c.requires.1.1)
+loop-l-init c = (omega arith, place.arranged_none _ _ _ _ (length-take-le _ _ (omega (arith, c.told-work, square_le c.args.k c.requires.0))) c.requires.1.1)
 
 pub offset_bounds-order-l : goal.offset_bounds-order-l
 offset_bounds-order-l c = omega (arith, c.requires.0, c.requires.1.0, c.loop-l-test.true)

@@ -4,4 +4,4 @@ use Rattle.star.specs.Views.{projected_at}
 use Rattle.star.proofs.ask.Goals as goal
 
 pub returns : goal.returns
-returns c = (c.project.ensures.0, c.project.ensures.1 ∙ ap₂ (projected_at _) c.row_to_vec-z.ensures c.get.ensures)
+returns c = c.project.ensures ∙ ap₂ (projected_at _) c.row_to_vec-z.ensures c.get.ensures

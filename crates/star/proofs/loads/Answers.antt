@@ -1,15 +1,15 @@
--- Whether a row passed loads on the state.
-use native.Mathlib.Omega.{arith}
-use mathlib.Core.Path.{◌≡◌, ap, ◌∙◌}
+-- By the test of each row.
+use mathlib.Core.Path.{◌∙◌}
+use Rattle.std.proofs.Common.{rules}
+use Rattle.definition.specs.Num.{ent, is_zero}
 use Rattle.star.proofs.Laws as own
-use Rattle.definition.specs.Star.{loads}
+use mathlib.Core.Bool.{not}
+use lib.Ieee.{ne, eq}
+use Rattle.dense.specs.Views.{rect}
 use Rattle.star.proofs.loads.Goals as goal
 
-pub loop-i-init : goal.loop-i-init
-loop-i-init c = (omega arith, own.loads_none _ _ _)
-
-pub loop-i-preserved : goal.loop-i-preserved
-loop-i-preserved c = (omega arith, own.loads_next _ _ _ _ _ _ _ c.loop-i.invariant.1 c.cell.ensures c.loads_at-b.ensures)
-
 pub returns : goal.returns
-returns c = let e : c.loop-i.i ≡ c.args.p = omega arith in c.loop-i.invariant.1 ∙ ap (loads _ _ _) e
+unfolding ne eq
+returns c =
+    let a = c.args in
+    c.any.ensures (λ i. not (is_zero (ent a.m (rect a.p a.m a.z.now) i a.j))) (λ i b h q. search rules) ∙ own.loads_any a.m (rect a.p a.m a.z.now) a.j a.p

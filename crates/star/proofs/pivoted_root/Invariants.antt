@@ -7,6 +7,6 @@ use Rattle.laws.specs.Unread.{Alike}
 use Rattle.star.specs.Workspace.{Placed, held_in}
 use Rattle.star.proofs.pivoted_root.Given as goal
 
-abbrev pub invariant-loop-i : goal.invariant-loop-i
-invariant-loop-i l =
-    (l.i ≤ l.k) × (l.rank ≤ l.i) × Placed l.k l.rank (take l.k l.used) l.order × Alike l.k (grow_to l.k (seed l.k (mat l.k l.initial.work)) l.i) (held_in l.k (take l.k l.used) l.order l.rank (mat l.k l.work))
+abbrev pub invariant-loop : goal.invariant-loop
+invariant-loop l =
+    (l.counter ≤ l.k) × (l.rank ≤ l.counter) × Placed l.k l.rank (take l.k l.used) l.order × Alike l.k (grow_to l.k (seed l.k (mat l.k l.initial.work)) l.counter) (held_in l.k (take l.k l.used) l.order l.rank (mat l.k l.work))

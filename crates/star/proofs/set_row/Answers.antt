@@ -16,4 +16,4 @@ pub loop-j-preserved : goal.loop-j-preserved
 loop-j-preserved c = (omega arith, c.put.ensures ∙ laws.row_next _ _ _ _ _ _ _ refl c.loop-j.invariant.1 c.nth-v.ensures)
 
 pub returns : goal.returns
-returns c = place.row_set _ _ _ _ _ c.requires.1 (omega (arith, c.sized.ensures, square_le c.args.k c.requires.0)) (laws.row_end _ _ _ c.loop-j.invariant.1 c.loop-j.invariant.0 c.loop-j-test.false)
+returns c = place.row_set _ _ _ _ _ c.requires.1 (omega (arith, c.told-work, square_le c.args.k c.requires.0)) (laws.row_end _ _ _ c.loop-j.invariant.1 c.loop-j.invariant.0 c.loop-j-test.false)

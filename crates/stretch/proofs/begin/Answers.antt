@@ -7,6 +7,7 @@ use Rattle.stretch.proofs.begin.Goals as goal
 
 pub returns : goal.returns
 returns c =
-    let a = c.args in
-    let mean = ap (λ (i : ℕ). vec i c.load8-a.result) (sym c.requires.mean) ∙ c.load8-a.ensures in
-    entered.begun a.m a.a1.now a.p_star.now a.flags.now a.state.now c.requires _ _ _ _ c.start-live.ensures c.keep_cov.ensures mean c.keep_mean.ensures
+    let x = c.args.x.now in
+    let a1 = c.args.o.now.a1.now in
+    let mean = ap (λ (i : ℕ). vec i c.load-a.result) (sym c.requires.mean) ∙ c.load-a.ensures in
+    entered.begun x.m a1 x.p_star.now x.flags.now c.args.state.now c.requires _ _ _ _ c.start.ensures c.keep_cov.ensures mean c.keep_mean.ensures

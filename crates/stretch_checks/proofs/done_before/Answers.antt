@@ -9,5 +9,5 @@ returns-then-begins c = rw c.if-begins.true refl
 pub done-requires : goal.done-requires
 done-requires c = (c.requires.0, c.requires.1 c.if-begins.false ∙ need_is _)
 
-pub returns : goal.returns
-returns c = rw c.if-begins.false c.done.ensures
+pub returns-else-begins : goal.returns-else-begins
+returns-else-begins c = rw c.if-begins.false c.done.ensures

@@ -1,26 +1,19 @@
 -- By the marker and the tests.
-use mathlib.Core.Path.{refl, sym, ◌∙◌}
-use native.Mathlib.Omega.{arith}
+use mathlib.Core.Path.{refl}
 use borrow.Author.Tests.{eq-eqb, ne_eqb}
 use Rattle.definition.specs.Refusals.{first_of}
-use Rattle.model.proofs.Laws.{contrary}
 use Rattle.stretch_checks.proofs.of_saved.Goals as goal
-
-pub returns-then-saved-eq0 : goal.returns-then-saved-eq0
-unfolding first_of
-returns-then-saved-eq0 c = (rw (c.if-begins.true, eq-eqb _ _ c.if-saved-eq0.true) refl, λ e b. contrary c.if-begins.true b)
-
-pub returns-else-saved-eq0 : goal.returns-else-saved-eq0
-unfolding first_of
-returns-else-saved-eq0 c = (rw (c.if-begins.true, ne_eqb _ _ c.if-saved-eq0.false) refl, λ e b. contrary c.if-begins.true b)
 
 pub load-requires : goal.load-requires
 load-requires c = (c.requires.0.p8, c.requires.0.m8, c.requires.1)
 
-pub returns-then-load : goal.returns-then-load
-unfolding first_of
-returns-then-load c = (rw (c.if-begins.false, sym c.load.ensures.refused ∙ c.if-load.true) refl, λ e b. absurd (omega arith))
+pub returns-then-not-begins-clause-number : goal.returns-then-not-begins-clause-number
+returns-then-not-begins-clause-number c = rw c.if-not-begins.true c.load.ensures.number
 
-pub returns-else-load : goal.returns-else-load
+pub returns-then-saved-ne0-clause-number : goal.returns-then-saved-ne0-clause-number
 unfolding first_of
-returns-else-load c = (rw (c.if-begins.false, sym c.load.ensures.refused ∙ c.if-load.false) refl, λ e b. c.load.ensures.state c.if-load.false)
+returns-then-saved-ne0-clause-number c = rw (c.if-not-begins.false, ne_eqb _ _ c.if-saved-ne0.true) refl
+
+pub returns-clause-number : goal.returns-clause-number
+unfolding first_of
+returns-clause-number c = rw (c.if-not-begins.false, eq-eqb _ _ c.if-saved-ne0.false) refl

@@ -4,23 +4,8 @@ use mathlib.Core.Bool.{true, false}
 use Rattle.decimal.specs.declared.answers.Units.TheVariants as units
 use Rattle.decimal.specs.Printed.{sign_of}
 use Rattle.cells.specs.Cells.{said_of, no_number, infinite, too_large}
-use Rattle.cells.proofs.Laws.{says, turned}
+use Rattle.cells.proofs.Laws.{says}
 use Rattle.cells.proofs.numbers.said.Goals as goal
-
-pub returns-then-minus : goal.returns-then-minus
-unfolding said_of infinite sign_of
-returns-then-minus c =
-    let w = c.word_right-then-minus in
-    let a = c.args in
-    let h = says a.at a.width a.decimals a.u (units.Infinite true) _ a.out.now w.result w.new.out (c.in-Infinite.is ∙ ap units.Infinite c.if-minus.true) refl (w.ensures.value, w.ensures.out_after) in
-    record { value = h.0; out_after = h.1 }
-
-pub returns-in-Whole : goal.returns-in-Whole
-returns-in-Whole c =
-    let w = c.whole in
-    let a = c.args in
-    let h = turned a.at a.width a.decimals a.u _ a.out.now w.result w.new.out c.in-Whole.is (w.ensures.value, w.ensures.out_after) in
-    record { value = h.0; out_after = h.1 }
 
 pub returns-in-NotANumber : goal.returns-in-NotANumber
 unfolding said_of no_number
@@ -30,12 +15,20 @@ returns-in-NotANumber c =
     let h = says a.at a.width a.decimals a.u units.NotANumber _ a.out.now w.result w.new.out c.in-NotANumber.is refl (w.ensures.value, w.ensures.out_after) in
     record { value = h.0; out_after = h.1 }
 
-pub returns-else-minus : goal.returns-else-minus
+pub returns-in-Infinite-true : goal.returns-in-Infinite-true
 unfolding said_of infinite sign_of
-returns-else-minus c =
-    let w = c.word_right-in-Infinite in
+returns-in-Infinite-true c =
+    let w = c.word_right-in-Infinite-true in
     let a = c.args in
-    let h = says a.at a.width a.decimals a.u (units.Infinite false) _ a.out.now w.result w.new.out (c.in-Infinite.is ∙ ap units.Infinite c.if-minus.false) refl (w.ensures.value, w.ensures.out_after) in
+    let h = says a.at a.width a.decimals a.u (units.Infinite true) _ a.out.now w.result w.new.out (c.in-Infinite-true.is ∙ ap units.Infinite c.in-Infinite-true.field-0-test) refl (w.ensures.value, w.ensures.out_after) in
+    record { value = h.0; out_after = h.1 }
+
+pub returns-in-Infinite-false : goal.returns-in-Infinite-false
+unfolding said_of infinite sign_of
+returns-in-Infinite-false c =
+    let w = c.word_right-in-Infinite-false in
+    let a = c.args in
+    let h = says a.at a.width a.decimals a.u (units.Infinite false) _ a.out.now w.result w.new.out (c.in-Infinite-false.is ∙ ap units.Infinite c.in-Infinite-false.field-0-test) refl (w.ensures.value, w.ensures.out_after) in
     record { value = h.0; out_after = h.1 }
 
 pub returns-in-TooLarge : goal.returns-in-TooLarge

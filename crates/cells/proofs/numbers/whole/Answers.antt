@@ -8,7 +8,7 @@ pub returns-then-put : goal.returns-then-put
 returns-then-put c =
     let p = c.put in
     let a = c.args in
-    let h = put_yes a.at a.width a.decimals a.minus a.size a.out.now p.new.out (sym c.if-put.true ∙ p.ensures.value) p.ensures.out_after in
+    let h = put_yes a.at a.width a.decimals a.n a.out.now p.new.out (sym c.if-put.true ∙ p.ensures.value) p.ensures.out_after in
     record { value = h.0; out_after = h.1 }
 
 pub returns : goal.returns
@@ -17,5 +17,5 @@ returns c =
     let w = c.word_right in
     let p = c.put in
     let a = c.args in
-    let h = put_no a.at a.width a.decimals a.minus a.size a.out.now p.new.out w.result w.new.out (sym c.if-put.false ∙ p.ensures.value) p.ensures.out_after (w.ensures.value, w.ensures.out_after) in
+    let h = put_no a.at a.width a.decimals a.n a.out.now p.new.out w.result w.new.out (sym c.if-put.false ∙ p.ensures.value) p.ensures.out_after (w.ensures.value, w.ensures.out_after) in
     record { value = h.0; out_after = h.1 }

@@ -1,13 +1,13 @@
--- By the test.
-use mathlib.Core.Path.{sym, ap}
-use native.Mathlib.Omega.{arith}
+-- One for a minus.
+use Rattle.std.proofs.Common.{◌≡◌, ◌≤◌, Bool, true, false, refl, ◌∙◌, arith}
+use mir.Val.{bool_byte}
 use Rattle.decimal.specs.Printed.{sign_width}
 use Rattle.decimal.proofs.printed.sign_width.Goals as goal
 
-pub returns-then-minus : goal.returns-then-minus
+one : (minus : Bool) → (bool_byte minus ≡ sign_width minus) × (sign_width minus ≤ 1)
 unfolding sign_width
-returns-then-minus c = (sym (ap sign_width c.if-minus.true), omega arith)
+one true = (refl, omega arith)
+one false = (refl, omega arith)
 
-pub returns-else-minus : goal.returns-else-minus
-unfolding sign_width
-returns-else-minus c = (sym (ap sign_width c.if-minus.false), omega arith)
+pub returns : goal.returns
+returns c = let h = one c.args.minus in (c.from.ensures ∙ h.0, omega (arith, c.from.ensures))

@@ -1,14 +1,8 @@
 -- A turn writes one digit before those that stand.
-use mathlib.Core.Path.{refl, ap, ◌∙◌}
-use Prim.Native.Nat.{◌-◌, ◌/◌}
-use native.Mathlib.Omega.{arith}
-use lib.ListN.{length-set}
+use Rattle.std.proofs.Common.{◌-◌, ◌/◌, ap, ◌∙◌, arith, length-set}
 use Rattle.decimal.specs.Printed.{digits_onto}
 use Rattle.decimal.proofs.Printing.{digit_on, byte_on, at_last}
 use Rattle.decimal.proofs.printed.spell.Goals as goal
-
-pub bounds-out-from : goal.bounds-out-from
-bounds-out-from c = let w = c.loop-i in omega (arith, w.invariant.1, c.requires)
 
 pub loop-i-preserved : goal.loop-i-preserved
 loop-i-preserved c =
@@ -25,6 +19,3 @@ returns c =
     let w = c.loop-i in
     let a = c.args in
     at_last a.out.now w.out a.from a.k w.i a.n w.rest (omega arith) w.invariant.1 w.invariant.2 w.invariant.3
-
-pub loop-i-init : goal.loop-i-init
-loop-i-init c = (omega arith, refl, refl, refl)

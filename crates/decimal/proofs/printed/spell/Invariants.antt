@@ -7,6 +7,3 @@ use Rattle.decimal.proofs.printed.spell.Given as goal
 
 abbrev pub invariant-loop-i : goal.invariant-loop-i
 invariant-loop-i l = (l.i ≤ l.k) × (length l.out ≡ length l.initial.out) × (take (l.from + l.i) l.out ≡ take (l.from + l.i) l.initial.out) × (digits_onto l.i l.rest (drop (l.from + l.i) l.out) ≡ digits_onto l.k l.n (drop (l.from + l.k) l.initial.out))
-
-abbrev pub decreases-loop-i : goal.decreases-loop-i
-decreases-loop-i l = l.i

@@ -1,26 +1,11 @@
--- A turn looks at one byte.
-use mathlib.Core.Path.{refl, sym, ap, ◌∙◌}
-use mathlib.Core.Bool.{true, false}
-use native.Mathlib.Omega.{arith}
-use Rattle.decimal.specs.Reading.{all_digits}
-use Rattle.decimal.proofs.Numbers.{digits_step, at_end}
+-- By what `all` says.
+use Rattle.std.proofs.Common.{rules}
+use Rattle.std.proofs.lemmas.Iterator.{YieldsList-from_slice}
+use Rattle.std.proofs.lemmas.Iterator.Search.{all_from_yields_List}
+use Rattle.decimal.specs.Reading.{is_digit, all_digits}
+use Rattle.decimal.proofs.Numbers.{digit_is}
 use Rattle.decimal.proofs.reading.all_digits.Goals as goal
-
-pub loop-i-preserved : goal.loop-i-preserved
-loop-i-preserved c =
-    let w = c.loop-i in
-    let s = c.args.s.now in
-    (omega arith, w.invariant.1 ∙ digits_step s w.i true c.loop-i-test.true (sym c.is_digit.ensures ∙ c.if-is_digit.true))
-
-pub returns-else-is_digit : goal.returns-else-is_digit
-returns-else-is_digit c =
-    let w = c.loop-i in
-    let s = c.args.s.now in
-    sym (w.invariant.1 ∙ digits_step s w.i false c.loop-i-test.true (sym c.is_digit.ensures ∙ c.if-is_digit.false))
 
 pub returns : goal.returns
 unfolding all_digits
-returns c = let w = c.loop-i in sym (w.invariant.1 ∙ ap all_digits (at_end c.args.s.now w.i c.loop-i-test.false))
-
-pub loop-i-init : goal.loop-i-init
-loop-i-init c = (omega arith, refl)
+returns c = all_from_yields_List is_digit _ _ _ c.all.ensures.ran (YieldsList-from_slice c.args.s.now cc) (λ x r q k. search (rules, digit_is))

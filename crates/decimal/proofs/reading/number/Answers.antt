@@ -1,26 +1,27 @@
 -- By the length and the tests.
-use mathlib.Core.Path.{refl, sym, ap, ◌∙◌}
-use mathlib.Core.Bool.{true, false}
-use borrow.Author.Tests.{le-leb, lt-leb}
-use Rattle.decimal.specs.declared.answers.Read.TheVariants.{Whole}
+use Rattle.std.proofs.Common.{ℕ, true, false, Ok, refl, sym, ap, ◌∙◌}
+use borrow.Author.Tests.{eqb-true, eqb-false, le-leb, lt-leb}
+use Rattle.decimal.specs.Reading.{whole}
 use Rattle.decimal.proofs.Numbers.{number_none, number_by}
+use Rattle.decimal.proofs.reading.number.Goals.{then-is_empty-via-then-is_empty, then-is_empty-via-else-is_empty+then-not-all_digits}
 use Rattle.decimal.proofs.reading.number.Goals as goal
 
-pub returns-then-s-eq0 : goal.returns-then-s-eq0
-returns-then-s-eq0 c = let a = c.args in sym (number_none a.minus a.s.now c.if-s-eq0.true)
-
-pub returns-then-s-le15 : goal.returns-then-s-le15
-returns-then-s-le15 c =
+pub returns-then-is_empty : goal.returns-then-is_empty
+returns-then-is_empty c =
     let a = c.args in
-    ap (Whole a.minus) c.value.ensures
-    ∙ sym (number_by a.minus a.s.now true true c.if-s-eq0.false (sym c.all_digits.ensures ∙ c.if-all_digits.true) (le-leb _ _ c.if-s-le15.true))
+    elim c.then-is_empty.branch [
+      | then-is_empty-via-then-is_empty w ↦ sym (number_none a.minus a.s.now (eqb-true _ _ (sym c.is_empty.ensures ∙ w.if-is_empty.true)))
+      | then-is_empty-via-else-is_empty+then-not-all_digits w ↦
+          sym (number_by a.minus a.s.now false _ (eqb-false _ _ (sym c.is_empty.ensures ∙ w.if-is_empty.false)) (sym w.all_digits.ensures ∙ w.if-not-all_digits.true) refl)
+    ]
 
-pub returns-then-all_digits : goal.returns-then-all_digits
-returns-then-all_digits c =
+pub returns-then-s-gt15 : goal.returns-then-s-gt15
+returns-then-s-gt15 c =
     let a = c.args in
-    sym (number_by a.minus a.s.now true false c.if-s-eq0.false (sym c.all_digits.ensures ∙ c.if-all_digits.true) (lt-leb _ _ c.if-s-le15.false))
+    sym (number_by a.minus a.s.now true false (eqb-false _ _ (sym c.is_empty.ensures ∙ c.if-is_empty.false)) (sym c.all_digits.ensures ∙ c.if-not-all_digits.false) (lt-leb _ _ c.if-s-gt15.true))
 
 pub returns : goal.returns
 returns c =
     let a = c.args in
-    sym (number_by a.minus a.s.now false _ c.if-s-eq0.false (sym c.all_digits.ensures ∙ c.if-all_digits.false) refl)
+    ap (λ (n : ℕ). Ok (whole a.minus n)) c.value.ensures
+    ∙ sym (number_by a.minus a.s.now true true (eqb-false _ _ (sym c.is_empty.ensures ∙ c.if-is_empty.false)) (sym c.all_digits.ensures ∙ c.if-not-all_digits.false) (le-leb _ _ c.if-s-gt15.false))

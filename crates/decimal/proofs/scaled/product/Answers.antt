@@ -4,18 +4,6 @@ use Rattle.decimal.proofs.Scaling.{small_product, product_is}
 use Prim.Native.Nat.{◌/◌, ◌%◌, ◌^◌}
 use Rattle.decimal.proofs.scaled.product.Goals as goal
 
-pub overflow_mul-c : goal.overflow_mul-c
-overflow_mul-c c = let h = small_product (c.args.m % 2 ^ 26) (2 ^ 26) c.args.p (omega arith) c.requires.1 in omega arith
-
-pub overflow_mul-result : goal.overflow_mul-result
-overflow_mul-result c = let h = small_product (c.args.m / 2 ^ 26) (2 ^ 27) c.args.p (omega (arith, c.requires.0)) c.requires.1 in omega arith
-
-pub overflow_add-result : goal.overflow_add-result
-overflow_add-result c =
-    let h = small_product (c.args.m / 2 ^ 26) (2 ^ 27) c.args.p (omega (arith, c.requires.0)) c.requires.1 in
-    let g = small_product (c.args.m % 2 ^ 26) (2 ^ 26) c.args.p (omega arith) c.requires.1 in
-    omega arith
-
 pub returns : goal.returns
 returns c =
     let h = small_product (c.args.m / 2 ^ 26) (2 ^ 27) c.args.p (omega (arith, c.requires.0)) c.requires.1 in

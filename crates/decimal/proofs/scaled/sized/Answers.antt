@@ -1,15 +1,24 @@
 -- By the tests.
-use borrow.Author.Tests.{lt-ltb, le-ltb, ne_eqb}
+use Rattle.std.proofs.Common.{◌≡◌, Bool, true, false, not, cond, refl}
+use borrow.Author.Tests.{lt-ltb, le-ltb}
 use Rattle.decimal.specs.Scaled.{sized_of}
 use Rattle.decimal.proofs.scaled.sized.Goals as goal
 
-pub returns-then-q-eq0 : goal.returns-then-q-eq0
-unfolding sized_of
-returns-then-q-eq0 c = rw c.if-q-eq0.true
+at_true : (b : Bool) → cond b false true ≡ not b
+at_true true = refl
+at_true false = refl
 
-pub returns-then-q-lt-TEN_18 : goal.returns-then-q-lt-TEN_18
+at_false : (b : Bool) → cond b false false ≡ false
+at_false true = refl
+at_false false = refl
+
+pub returns-then-minus : goal.returns-then-minus
 unfolding sized_of
-returns-then-q-lt-TEN_18 c = simp (lt-ltb _ _ c.if-q-lt-TEN_18.true, ne_eqb _ _ c.if-q-eq0.false)
+returns-then-minus c = simp (lt-ltb _ _ c.if-q-lt-TEN_18.true, c.if-minus.true, at_true)
+
+pub returns-else-minus : goal.returns-else-minus
+unfolding sized_of
+returns-else-minus c = simp (lt-ltb _ _ c.if-q-lt-TEN_18.true, c.if-minus.false, at_false)
 
 pub returns : goal.returns
 unfolding sized_of

@@ -7,6 +7,6 @@ pub returns-then-b-eq32 : goal.returns-then-b-eq32
 unfolding is_blank
 returns-then-b-eq32 c = simp (eq-eqb _ _ c.if-b-eq32.true)
 
-pub returns : goal.returns
+pub returns-else-b-eq32 : goal.returns-else-b-eq32
 unfolding is_blank
-returns c = simp (ne_eqb _ _ c.if-b-eq32.false)
+returns-else-b-eq32 c = simp (ne_eqb _ _ c.if-b-eq32.false)

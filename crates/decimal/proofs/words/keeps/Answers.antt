@@ -1,13 +1,10 @@
 -- By what `is_blank` says.
-use mathlib.Core.Path.{sym, ap, ◌∙◌}
-use mathlib.Core.Bool.{Bool, not, cond}
+use Rattle.std.proofs.Common.{Bool, ap, ◌∙◌}
+use mathlib.Core.Bool.{beq}
 use Rattle.decimal.specs.Words.{keeps}
+use Rattle.decimal.proofs.Runs.{same_is}
 use Rattle.decimal.proofs.words.keeps.Goals as goal
-
-pub returns-then-is_blank : goal.returns-then-is_blank
-unfolding keeps
-returns-then-is_blank c = sym (ap (λ (t : Bool). cond t c.args.blanks (not c.args.blanks)) (sym c.is_blank.ensures ∙ c.if-is_blank.true))
 
 pub returns : goal.returns
 unfolding keeps
-returns c = sym (ap (λ (t : Bool). cond t c.args.blanks (not c.args.blanks)) (sym c.is_blank.ensures ∙ c.if-is_blank.false))
+returns c = ap (λ (x : Bool). beq x c.args.blanks) c.is_blank.ensures ∙ same_is _ c.args.blanks

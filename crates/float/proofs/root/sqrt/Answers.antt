@@ -1,14 +1,9 @@
 -- By what the tests say of x; above zero by its digits and its place.
-use Prim.Native.Nat.{◌*◌, ◌^◌}
 use native.Mathlib.Omega.{arith}
-use lib.Dec.{lit≤}
 use Rattle.float.proofs.Units.{no_nan_bits}
 use Rattle.float.proofs.Roots.{m_range, r_range, root_bits, at_top, at_zero, at_outside}
 use Rattle.float.proofs.Tests.{positive_of, top_of, zero_of, outside_of}
 use Rattle.float.proofs.root.sqrt.Goals as goal
-
-pub float_from_bits-t-6 : goal.float_from_bits-t-6
-float_from_bits-t-6 c = no_nan_bits (2047 * 2 ^ 52) (lit≤ tt)
 
 pub returns-then-x-2 : goal.returns-then-x-2
 returns-then-x-2 c = at_top c.args.x (top_of c.args.x c.if-x-2.true)

@@ -19,7 +19,7 @@ loop-j-preserved c =
     (omega arith, c.put.ensures ∙ laws.row_next _ _ _ _ _ _ _ refl c.loop-j.invariant.1 v)
 
 pub loop-i-preserved : goal.loop-i-preserved
-loop-i-preserved c = (omega arith, c.loop-i.invariant.1, laws.grid_next (start_root_at _) _ _ _ _ _ _ c.loop-j.invariant.1 c.loop-i.invariant.2 c.loop-j.invariant.0 c.loop-j-test.false, before.one_further _ _ _ _ _ (omega arith) c.loop-i.invariant.3 c.is_flagged-flagged.ensures c.one_more_if-column.ensures, omega (arith, before.one_at_most c.is_flagged-flagged.result c.loop-i.column c.one_more_if-column.result c.one_more_if-column.ensures))
+loop-i-preserved c = (omega arith, c.loop-i.invariant.1, laws.grid_next (start_root_at _) _ _ _ _ _ _ c.loop-j.invariant.1 c.loop-i.invariant.2 c.loop-j.invariant.0 c.loop-j-test.false, before.one_further _ _ _ _ (omega arith) c.loop-i.invariant.3 c.is_flagged-flagged.ensures, omega (arith, before.one_at_most c.is_flagged-flagged.result c.loop-i.column))
 
 pub returns : goal.returns
 unfolding start_root

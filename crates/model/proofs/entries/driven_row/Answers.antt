@@ -1,15 +1,8 @@
--- Whether the test holds at a place passed; after the last, at any.
-use native.Mathlib.Omega.{arith}
-use Rattle.definition.specs.Refusals.{driven_row}
-use Rattle.laws.specs.Any as any
+-- By the test at each place.
+use Rattle.std.proofs.Common.{rules}
+use Rattle.definition.specs.Refusals.{driven_at, driven_row}
 use Rattle.model.proofs.entries.driven_row.Goals as goal
-
-pub loop-j-init : goal.loop-j-init
-loop-j-init c = (omega arith, any.any_none _)
-
-pub loop-j-preserved : goal.loop-j-preserved
-loop-j-preserved c = let w = c.loop-j in (omega arith, any.any_next _ _ _ _ w.invariant.1 c.driven_at-found.ensures)
 
 pub returns : goal.returns
 unfolding driven_row
-returns c = let w = c.loop-j in any.any_end _ w.invariant.1 w.invariant.0 c.loop-j-test.false
+returns c = let a = c.args in c.any.ensures (driven_at a.m a.t.now a.flags.now a.i) (λ j b h p. search rules)

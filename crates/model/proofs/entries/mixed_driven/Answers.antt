@@ -1,15 +1,8 @@
--- Whether the test holds at a place passed; after the last, at any.
-use native.Mathlib.Omega.{arith}
-use Rattle.definition.specs.Refusals.{mixed_driven}
-use Rattle.laws.specs.Any as any
+-- By the test at each place.
+use Rattle.std.proofs.Common.{rules}
+use Rattle.definition.specs.Refusals.{driven_row, mixed_driven}
 use Rattle.model.proofs.entries.mixed_driven.Goals as goal
-
-pub loop-i-init : goal.loop-i-init
-loop-i-init c = (omega arith, any.any_none _)
-
-pub loop-i-preserved : goal.loop-i-preserved
-loop-i-preserved c = let w = c.loop-i in (omega arith, any.any_next _ _ _ _ w.invariant.1 c.driven_row-found.ensures)
 
 pub returns : goal.returns
 unfolding mixed_driven
-returns c = let w = c.loop-i in any.any_end _ w.invariant.1 w.invariant.0 c.loop-i-test.false
+returns c = let a = c.args in c.any.ensures (driven_row a.m a.t.now a.flags.now) (λ i b h p. search rules)

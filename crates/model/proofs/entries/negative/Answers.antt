@@ -1,16 +1,8 @@
--- Whether the test holds at a place passed; after the last, at any.
-use native.Mathlib.Omega.{arith}
-use Rattle.definition.specs.Refusals.{negative, negative_at}
-use Rattle.laws.specs.Any as any
+-- By the test at each place.
+use Rattle.std.proofs.Common.{rules}
+use Rattle.definition.specs.Refusals.{negative_at, negative}
 use Rattle.model.proofs.entries.negative.Goals as goal
 
-pub loop-i-init : goal.loop-i-init
-loop-i-init c = (omega arith, any.any_none _)
-
-pub loop-i-preserved : goal.loop-i-preserved
-unfolding negative_at
-loop-i-preserved c = let w = c.loop-i in (omega arith, any.any_next _ _ _ _ w.invariant.1 (cc))
-
 pub returns : goal.returns
-unfolding negative
-returns c = let w = c.loop-i in any.any_end _ w.invariant.1 w.invariant.0 c.loop-i-test.false
+unfolding negative negative_at
+returns c = c.any.ensures (negative_at c.args.k c.args.a.now) (λ i b h p. search rules)

@@ -22,8 +22,8 @@ returns-then-list-eq0 c = c.requires.2 c.if-list-eq0.true ∙ sym (part_once _ _
 pub part-requires : goal.part-requires
 part-requires c = (c.requires.0, c.requires.1)
 
-pub fill64-requires : goal.fill64-requires
-fill64-requires c = omega (arith, whole _ _ _ c.requires.0 c.part.ensures, area c.requires.0.m8 c.requires.0.m8)
+pub fill-requires : goal.fill-requires
+fill-requires c = omega (arith, whole _ _ _ c.requires.0 c.part.ensures, area c.requires.0.m8 c.requires.0.m8)
 
 pub returns : goal.returns
-returns c = loaded_rect _ _ _ _ (whole _ _ _ c.requires.0 c.part.ensures) c.fill64.ensures ∙ c.part.ensures
+returns c = loaded_rect _ _ _ _ (whole _ _ _ c.requires.0 c.part.ensures) c.fill.ensures ∙ c.part.ensures

@@ -1,10 +1,17 @@
--- Four bytes, each a digit.
+-- The bytes from the place on.
+use mathlib.Core.Path.{◌≡◌, ap, ◌∙◌}
+use Prim.Native.Nat.{ℕ, ◌+◌, ◌-◌}
 use native.Mathlib.Omega.{arith}
-use Rattle.saved.proofs.Digits.{four_at}
+use lib.ListN.{length, take, drop}
+use Rattle.definition.specs.Saved.{from_bytes}
+use Rattle.saved.proofs.Digits.{from_four}
 use Rattle.saved.proofs.numbers.four.Goals as goal
 
 pub returns : goal.returns
-returns c = (
-  omega (arith, c.byte.ensures.0, c.byte-2.ensures.0, c.byte-3.ensures.0, c.byte-4.ensures.0, four_at c.args.at c.args.s.now c.requires),
-  omega (arith, c.byte.ensures.1, c.byte-2.ensures.1, c.byte-3.ensures.1, c.byte-4.ensures.1),
-)
+returns c =
+    let at = c.args.at in
+    let bytes = rw c.unwrap.ensures at c.try_into.ensures.1 in
+    let width : at + 4 - at ≡ 4 = omega arith in
+    c.from_be_bytes.ensures
+    ∙ from_four c.unwrap.result (ap length bytes.same ∙ bytes.long)
+    ∙ ap from_bytes (bytes.same ∙ ap (λ (k : ℕ). take k (drop at c.args.s.now)) width)

@@ -1,8 +1,10 @@
--- Turned, and as four and four, the least first.
-use Rattle.saved.proofs.Put.{eight_put}
+-- The number's bytes are put at the place.
+use mathlib.Core.Path.{refl, ◌∙◌}
+use native.Mathlib.Omega.{arith}
+use Rattle.saved.proofs.Digits.{turned_eight}
+use Rattle.saved.proofs.Put.{bytes_put}
 use Rattle.saved.proofs.numbers.put_eight.Goals as goal
 
 pub returns : goal.returns
 returns c =
-    let w = c.turned_eight-w in
-    eight_put c.args.at c.args.v w.result _ _ _ c.requires w.ensures c.put_least.ensures c.put_least-2.ensures
+    bytes_put c.args.at 8 _ c.args.v c.args.out.now _ _ (omega arith) refl (c.to_le_bytes.ensures ∙ turned_eight c.args.v _ c.swap_bytes.ensures) c.copy_from_slice.ensures.after

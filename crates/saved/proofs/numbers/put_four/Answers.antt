@@ -1,10 +1,10 @@
--- Turned, and the least first.
-use mathlib.Core.Path.{ap, ◌∙◌}
-use Prim.Native.Nat.{ℕ}
-use mathlib.Core.List.{List}
-use Rattle.saved.specs.Places.{put_at}
+-- The number's bytes are put at the place.
+use mathlib.Core.Path.{refl, ◌∙◌}
+use native.Mathlib.Omega.{arith}
+use Rattle.saved.proofs.Digits.{turned_four}
+use Rattle.saved.proofs.Put.{bytes_put}
 use Rattle.saved.proofs.numbers.put_four.Goals as goal
 
 pub returns : goal.returns
 returns c =
-    c.put_least.ensures ∙ ap (λ (l : List ℕ). put_at c.args.at l c.args.out.now) c.turned.ensures.0
+    bytes_put c.args.at 4 _ c.args.v c.args.out.now _ _ (omega arith) refl (c.to_le_bytes.ensures ∙ turned_four c.args.v _ c.swap_bytes.ensures) c.copy_from_slice.ensures.after

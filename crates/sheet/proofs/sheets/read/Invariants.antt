@@ -4,8 +4,12 @@ use Rattle.sheet.specs.Lines.{lines_of}
 use Rattle.sheet.proofs.Walking.{Going}
 use Rattle.sheet.proofs.sheets.read.Given as goal
 
-abbrev pub invariant-loop-settings : goal.invariant-loop-settings
-invariant-loop-settings l = (l.at ≤ length l.text) × (l.lines ≤ l.at) × Going l.table l.text l.initial.y (lines_of (drop l.at l.text)) l.settings l.periods l.lines l.at l.y
+abbrev pub invariant-lines : goal.invariant-lines
+invariant-lines l = record {
+  within : l.at ≤ length l.text;
+  few_lines : l.lines ≤ l.at;
+  going : Going l.table l.text l.initial.y (lines_of (drop l.at l.text)) l.given l.periods l.lines l.at l.y;
+}
 
-abbrev pub decreases-loop-settings : goal.decreases-loop-settings
-decreases-loop-settings l = length l.text - l.at
+abbrev pub decreases-lines : goal.decreases-lines
+decreases-lines l = length l.text - l.at

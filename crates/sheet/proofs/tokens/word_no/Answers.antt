@@ -1,19 +1,15 @@
+-- Word by word, each from where the one before ends.
 use Rattle.std.proofs.Common.{refl, arith}
 use Rattle.sheet.specs.Tokens.{start_no}
 use Rattle.sheet.proofs.Laws.{start_next, word_at_lem}
 use Rattle.sheet.proofs.tokens.word_no.Goals as goal
 
-pub loop-i-init : goal.loop-i-init
+pub loop-init : goal.loop-init
 unfolding start_no
-loop-i-init c = (omega arith, refl)
+loop-init c = refl
 
-pub loop-i-preserved : goal.loop-i-preserved
-loop-i-preserved c =
-    let w = c.loop-i in
-    (omega arith, start_next c.args.line.now w.at w.i c.word-w.result w.invariant.1 c.word-w.ensures)
+pub loop-preserved : goal.loop-preserved
+loop-preserved c = start_next c.args.line.now c.loop.at c.loop.counter c.word-at.result c.loop.invariant c.word-at.ensures
 
 pub returns : goal.returns
-returns c =
-    let w = c.loop-i in
-    let a = c.args in
-    word_at_lem a.line.now a.k w.at w.i c.word.result (omega arith) w.invariant.1 c.word.ensures
+returns c = word_at_lem c.args.line.now c.args.k c.loop.at c.loop.counter c.word.result (omega arith) c.loop.invariant c.word.ensures

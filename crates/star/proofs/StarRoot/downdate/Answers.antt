@@ -3,7 +3,7 @@ use Rattle.star.proofs.Laws as laws
 use Rattle.star.proofs.StarRoot.downdate.Goals as goal
 
 pub returns-then-f : goal.returns-then-f
-returns-then-f c = laws.downdated_yes c.args.self _ _ c.on_support-zs.ensures c.all_u-u.ensures c.dot.ensures c.if-f.true c.all_w-w.ensures c.sqrt.ensures c.shrink.ensures
+returns-then-f c = laws.downdated_yes c.args.self.now _ _ c.vector-zs.ensures c.u-u.ensures c.dot.ensures c.if-f.true c.w-w.ensures c.sqrt.ensures c.shrink.ensures
 
 pub returns-else-f : goal.returns-else-f
-returns-else-f c = laws.downdated_no _ _ _ c.on_support-zs.ensures c.all_u-u.ensures c.dot.ensures c.if-f.false
+returns-else-f c = laws.downdated_no _ _ _ c.vector-zs.ensures c.u-u.ensures c.dot.ensures c.if-f.false

@@ -1,7 +1,6 @@
--- The root is handed back, and F is that by the root.
-use mathlib.Core.Path.{refl}
+-- F by the root.
 use Rattle.star.proofs.Laws as laws
 use Rattle.star.proofs.StarRoot.project.Goals as goal
 
 pub returns : goal.returns
-returns c = (refl, laws.projected_at_lem _ _ _ c.on_support-zs.ensures c.all_u-u.ensures c.dot.ensures)
+returns c = laws.projected_at_lem _ _ _ c.vector-zs.ensures c.u-u.ensures c.dot.ensures

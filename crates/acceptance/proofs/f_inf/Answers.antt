@@ -1,7 +1,0 @@
--- The product, or 0.
-use Rattle.definition.specs.Cov.{f_inf_by}
-use Rattle.acceptance.proofs.f_inf.Goals as goal
-
-pub returns : goal.returns
-unfolding f_inf_by
-returns c = cc

@@ -1,8 +1,0 @@
--- The entries that are read lie within their matrix; the test is the definition's.
-use lib.Ieee.{ne}
-use Rattle.definition.specs.Refusals.{driven_at}
-use Rattle.model.proofs.entries.driven_at.Goals as goal
-
-pub returns : goal.returns
-unfolding driven_at ne
-returns c = cc
