@@ -5,7 +5,7 @@
 // check before the first would pass for a rate that is known. In thousandths it takes ten years (docs/PANEL.md).
 #![tactic(auto)]
 
-ghost use Rattle.std.specs.Prelude.{◌≡◌, ◌<◌, length, if◌then◌else◌};
+ghost use Rattle.std.specs.Prelude.{◌≡◌, ◌<◌, [], length, is_some, if◌then◌else◌};
 ghost use Rattle.clock.specs.Transition.{double_of, kept_of, keeping_of, transition_of, own_of, in_season, Seasons};
 
 use promise::{Model, Offsets};
@@ -174,11 +174,15 @@ pub fn first<'a>(s: &'a [f64], k: usize) -> &'a [f64] {
 }
 
 // What the library is handed of the one T, and of the list: it takes the one or the other, and wants the other one empty.
-pub fn once<'a>(s: Settings, t: &'a [f64]) -> &'a [f64] {
+pub fn once<'a>(s: Settings, t: &'a [f64]) -> &'a [f64]
+    ensures { result.now ≡ (if is_some s.season then [] else t.now) }
+{
     if s.season.is_none() { t } else { &[] }
 }
 
-pub fn listed<'a>(s: Settings, list: &'a [f64]) -> &'a [f64] {
+pub fn listed<'a>(s: Settings, list: &'a [f64]) -> &'a [f64]
+    ensures { result.now ≡ (if is_some s.season then list.now else []) }
+{
     if s.season.is_none() { &[] } else { list }
 }
 
@@ -202,7 +206,7 @@ pub struct Clock<'a> {
 impl<'a> Clock<'a> {
     // `list`: what `transitions` made of the same settings.
     pub fn of(s: Settings, list: &'a [f64]) -> Clock<'a>
-        ensures { (result.t ≡ transition_of s) × (result.list.now ≡ list.now) }
+        ensures { (result.settings ≡ s) × (result.t ≡ transition_of s) × (result.list.now ≡ list.now) }
     {
         Clock {
             settings: s,
@@ -221,7 +225,10 @@ impl<'a> Clock<'a> {
     }
 
     pub fn model(&self, n: usize) -> Model<'_>
-        ensures { (result.p ≡ 2) × (result.m ≡ 3) × (result.r ≡ 3) × (result.n ≡ n) }
+        ensures sizes { (result.p ≡ 2) × (result.m ≡ 3) × (result.r ≡ 3) × (result.n ≡ n) }
+        ensures lent { (result.z.now ≡ self.now.z) × (result.h.now ≡ self.now.h) × (result.rr.now ≡ self.now.rr) × (result.q.now ≡ self.now.q) }
+        ensures transitions { (result.t.now ≡ (if is_some self.now.settings.season then [] else self.now.t)) × (result.ts.now ≡ (if is_some self.now.settings.season then self.now.list.now else [])) }
+        ensures start { (result.p_star.now ≡ self.now.p_star) × (result.flags.now ≡ self.now.flags) }
     {
         Model {
             p: 2,
@@ -242,7 +249,8 @@ impl<'a> Clock<'a> {
     }
 
     pub fn offsets(&self) -> Offsets<'_>
-        ensures { (3 ≡ length result.c.now) × (2 ≡ length result.d.now) × (3 ≡ length result.a1.now) }
+        ensures sizes { (3 ≡ length result.c.now) × (2 ≡ length result.d.now) × (3 ≡ length result.a1.now) }
+        ensures lent { (result.c.now ≡ self.now.c) × (result.d.now ≡ self.now.d) × (result.a1.now ≡ self.now.a1) }
     {
         Offsets {
             c: &self.c,
