@@ -1,6 +1,8 @@
 // The arguments of the panel's two programs: which there are, and the files that they name.
 #![tactic(auto)]
 
+ghost use Rattle.std.specs.Prelude.{◌≤◌, length, IfSome, IfOk};
+
 use std::env::{Env, FillError};
 use std::fs;
 use std::fs::Files;
@@ -86,7 +88,9 @@ impl Said {
 }
 
 // Argument i, in the space. None: there is no such argument. One that is longer than the space reads as an empty one.
-pub fn argument<'a, E: Env>(env: &E, i: usize, space: &'a mut [u8]) -> Option<&'a [u8]> {
+pub fn argument<'a, E: Env>(env: &E, i: usize, space: &'a mut [u8]) -> Option<&'a [u8]>
+    ensures { IfSome result (λ w. length w.now ≤ length space.old) }
+{
     match env.arg(i, space) {
         Ok(k) => Some(&space[..k]),
         Err(FillError::TooLong) => Some(b""),
@@ -155,7 +159,9 @@ pub fn rename<R: Files>(files: &R, from: &[u8], to: &[u8]) -> std::io::Result<()
 
 // Reads until the space is full, the file ends or a read fails: by hand, since std's read_exact does not answer how much there was, and its read_to_end
 // allocates.
-pub fn read_full<'a, F: Read>(file: &mut F, space: &'a mut [u8]) -> &'a [u8] {
+pub fn read_full<'a, F: Read>(file: &mut F, space: &'a mut [u8]) -> &'a [u8]
+    ensures { length result.now ≤ length space.old }
+{
     let mut done = 0;
     while done < space.len() {
         match file.read(&mut space[done..]) {
@@ -167,7 +173,9 @@ pub fn read_full<'a, F: Read>(file: &mut F, space: &'a mut [u8]) -> &'a [u8] {
 }
 
 // The same of standard input: by io, which does say how much there was, and needs no handle.
-fn read_input(space: &mut [u8]) -> &[u8] {
+fn read_input(space: &mut [u8]) -> &[u8]
+    ensures { length result.now ≤ length space.old }
+{
     let n = io::read_full(0, space);
     &space[..n]
 }
@@ -178,7 +186,9 @@ fn read_input(space: &mut [u8]) -> &[u8] {
 pub const SPACE: usize = 262144;
 
 // `-` in the place of the sheet's file is standard input.
-fn read_named<'a, R: Files>(files: &R, name: &[u8], space: &'a mut [u8]) -> Result<&'a [u8], Told> {
+fn read_named<'a, R: Files>(files: &R, name: &[u8], space: &'a mut [u8]) -> Result<&'a [u8], Told>
+    ensures { IfOk result (λ w. length w.now ≤ length space.old) }
+{
     if matches!(name, b"-") {
         return Ok(read_input(space));
     }
@@ -190,7 +200,9 @@ pub fn read_sheet<'a, R: Env + Files>(
     rt: &R,
     sheet: Option<usize>,
     space: &'a mut [u8],
-) -> Result<&'a [u8], Told> {
+) -> Result<&'a [u8], Told>
+    ensures { IfOk result (λ w. length w.now ≤ length space.old) }
+{
     let Some(i) = sheet else {
         return Ok(read_input(space));
     };

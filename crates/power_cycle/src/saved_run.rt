@@ -1,4 +1,6 @@
 // The file of a saved run: it is read, and it is replaced whole, so that whenever the power goes it is the old one or the new one.
+ghost use Rattle.std.specs.Prelude.{◌≤◌, length, IfSome, IfOk};
+
 use std::env::Env;
 use std::fs::{Files, OpenFile};
 use std::io::{Error, Write};
@@ -16,7 +18,9 @@ pub fn read<'a, R: Env + Files>(
     rt: &R,
     from: Option<usize>,
     space: &'a mut [u8],
-) -> Result<Option<&'a [u8]>, Told> {
+) -> Result<Option<&'a [u8]>, Told>
+    ensures { IfOk result (λ b. IfSome b (λ w. length w.now ≤ length space.old)) }
+{
     let Some(from) = from else {
         return Ok(None);
     };

@@ -24,7 +24,7 @@ fn say(text: &[u8]) {
     io::write_all(ERRORS, text);
 }
 
-fn usage(fd: i32) -> Told {
+pub fn usage(fd: i32) -> Told {
     io::write_all(
         fd,
         b"usage: panel [--smooth] [--svg PICTURE] [SHEET]   the estimates, and a picture of them
